@@ -196,9 +196,9 @@ uint32_t usbdisk_stop(struct usbdisk *disk);
  * usbdisk_done: the library writes it in this call alone, and never keeps its address.
  *
  * Where nothing else is to be done, and no status is still to be told, it also tells the WRITEs
- * and the FLUSH that make a full batch durable, of a disk or a store, while the next one is filled;
- * and where none is full, of a disk, WRITEs that bring blocks home, 241 sectors at a time at most,
- * so that the next forced WRITE finds that done. None of these is a FLUSH.
+ * and the FLUSH that make a full batch of a disk or a store durable, while the next one is filled;
+ * and where none is full, WRITEs that bring blocks home, 241 sectors at a time at most, so that the
+ * next forced WRITE, or the next sync, finds that done. None of these is a FLUSH.
  *
  * size: 512 for each sector that there is room for; 122,880 is enough for each run and each READ.
  *

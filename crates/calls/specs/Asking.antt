@@ -24,8 +24,8 @@ use Rattle.calls.specs.declared.held.Stage.TheVariants as stage
 
 -- What the device is asked for: the next call of the recovery, the next of the first sectors, or
 -- what the disk, the store or the work asks for. The bytes of a write lie at the front of the room.
--- Where there is nothing, it is asked for nothing. Before a disk or a store is asked it works ahead,
--- where its device has nothing to do.
+-- Where there is nothing, it is asked for nothing. A disk and a store work ahead before they are
+-- asked, where their device has nothing to do.
 abbrev pub Asks : Stage → List ℕ → DeviceAsk → Held → Held → List ℕ → Type 0
 Asks (stage.Recovering b sectors) room what old new filled = (s' : Recovering)
     × (new ≡ record old { stage = new.stage }) × IsRecoveryOf s' sectors new.stage
@@ -37,7 +37,7 @@ Asks (stage.Disk s) room what old new filled = (mid : Machine) × (s' : Machine)
     × (new ≡ record old { stage = stage.Disk s' }) × WorksAhead s mid
     × AsksFor mid room what s' filled × StaysSafe mid s'
 Asks (stage.Store s) room what old new filled = (mid : store.Machine) × (s' : store.Machine)
-    × (new ≡ record old { stage = stage.Store s' }) × transfers.WorksAhead s mid
+    × (new ≡ record old { stage = stage.Store s' }) × transfers.WorksStoreAhead s mid
     × stores.TellsNext mid room what s' filled
 Asks (stage.Image s) room what old new filled = (s' : images.Machine)
     × (new ≡ record old { stage = stage.Image s' }) × images.Asks s room what s' filled

@@ -1,5 +1,5 @@
 -- What is done to a store whose device has carried out all.
-use Rattle.std.proofs.Common.{◌≡◌, ◌++◌, ◌-◌, ℕ, true, false, List, [], ◌∷◌, length, inl, inr, refl, sym, ◌∙◌, ap, subst}
+use Rattle.std.proofs.Common.{◌≡◌, ◌++◌, ◌-◌, ℕ, Bool, true, false, List, [], ◌∷◌, length, inl, inr, refl, sym, ◌∙◌, ap, subst}
 use Rattle.std.proofs.Common.{arith, length-append}
 use Rattle.std.proofs.lemmas.List.{take-append-le, append-nil}
 use Rattle.medium.specs.Medium.{Image}
@@ -38,7 +38,8 @@ use Rattle.store_calls.proofs.Standing.{IsSentStill, stays_safe, left_on, keeps_
 not_starting : (calls : List DeviceCall) (a : Asked) → a ≡ asked.Nothing → calls ≡ [] → is_behind a calls ≡ true → ⊥
 not_starting calls a none empty is = cc (sym ((λ i. is_behind (none i) (empty i))) ∙ is)
 
-module _ {Room : Type 0} (old new : Machine) (free : IsCaughtUp old) (others : new ≡ record old { store = new.store })
+module _ {Room : Type 0} (old new : Machine) (free : IsCaughtUp old)
+    (others : new ≡ record old { store = new.store; put_off = new.put_off })
     (appends : Appends Room old.store new.store) where
   since : LeavesSince old.store.medium new
   since image left = appends.parts left.count left.done image (omega (
@@ -89,7 +90,7 @@ more_found size book write image found = record {
 abbrev LeavesBy : Window → Asked → Image → Type 0
 LeavesBy w a image = LeavesOf w.seen.told.opening (sent (mirror_of w)) (length w.seen.told.taken - under_way a) image
 
-module _ (write : Write) (old new : Machine) (others : new ≡ record old { store = new.store })
+module _ (write : Write) (old new : Machine) (others : new ≡ record old { store = new.store; put_off = false })
     (written : IsWritten write old.store new.store) (same : new.store.medium ≡ old.store.medium) where
   asked_stays : new.asked ≡ old.asked
   asked_stays = ap (λ (s : Machine). s.asked) others
@@ -165,29 +166,34 @@ wait_safe old new missing why (inr busy) = wishes old new (ap (λ (s : Machine).
 -- ---- a sync
 
 pub promises : (s : Machine) → IsCaughtUp s → is_dead s.store.cached ≡ false → unwritten s.store.cached ≡ 0
-    → Foresees s.store.medium → ServesAtRest s → Promises s s
+    → Foresees s.store.medium → ServesAtRest (record s { put_off = false }) → Promises s (record s { put_off = false })
 promises s free live none sees rest =
+    let caught : IsCaughtUp (record s { put_off = false }) = record { at_none = free.at_none; none_waits = free.none_waits } in
     let fits : (book : Book) → FitsBook (window.state_of s.store.medium) s.store.cached book
     → FitsBook (window.state_of s.store.medium) s.store.cached (promised book) = λ book fits. settles
     (none_of s.store.cached.frozen.numbers (omega (arith, none)))
     (none_of s.store.cached.active.numbers (omega (arith, none))) fits in record {
-      done = done_free s s free refl (appends_none s.store s.store sees refl) refl;
+      done = done_free s _ free refl (appends_none s.store s.store sees refl) refl;
       live = live;
       written = none;
       same = refl;
-      free = free;
+      free = caught;
       fits = fits;
-      serves = λ book serves. rest free (promised book) (fits book serves.fits);
+      serves = λ book serves. rest caught (promised book) (fits book serves.fits);
     }
 
 -- ---- where either is put off
 
-pub puts_off : (aim : Aim) (old new : Machine) → IsCaughtUp old → new ≡ record old { store = new.store } → IsLeft aim old.store
-    → WritesBack aim old.store new.store → PutsOff aim old new
-puts_off aim old new free others left writes =
+pub puts_off : (aim : Aim) (old new : Machine) → IsCaughtUp old → new ≡ record old { store = new.store; put_off = true }
+    → IsLeft aim old.store → WritesBack aim old.store new.store → PutsOff aim old new
+puts_off aim old new free noted left writes =
     let turn = writes.made.passes.turn in
+    let note : new.put_off ≡ true = ap (λ (s : Machine). s.put_off) noted in
+    let others : new ≡ record old { store = new.store; put_off = new.put_off } =
+    noted ∙ ap (λ (b : Bool). record old { store = new.store; put_off = b }) (sym note) in
     let short : IsShort old.store = omega (arith, ap (λ (l : List DeviceCall). length l) free.none_waits) in record {
       left = left;
+      noted = note;
       done = done_free old new free others writes.appends turn.goes_on.layout_stays;
       writes = writes;
       some = some_made aim old.store new.store writes (record { left = left; short = short });

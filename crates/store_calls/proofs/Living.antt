@@ -1,5 +1,5 @@
 -- A life is served on through all calls.
-use Rattle.std.proofs.Common.{◌≡◌, inl, inr, [], ◌∷◌, List, ℕ, sym, subst}
+use Rattle.std.proofs.Common.{◌≡◌, inl, inr, [], ◌∷◌, List, ℕ, sym, subst, true}
 use Rattle.std.specs.Prelude.{Result, Ok, Err}
 use Rattle.spec.specs.Book.{Book}
 use Rattle.store_calls.specs.StoreLives.{Call, next, done, read, write, sync, idle, work_ahead, IsMade, book_after, LivesThrough}
@@ -10,6 +10,10 @@ use Rattle.store_calls.specs.declared.store_fault.StoreFault.{StoreFault}
 
 same : (old new : Machine) → new ≡ old → ServesOn old new
 same old new is = subst (λ (s : Machine). ServesOn old s) (sym is) (λ book serves. serves)
+
+noted : (old new : Machine) → new ≡ record old { put_off = true } → ServesOn old new
+noted old new is = subst (λ (s : Machine). ServesOn old s) (sym is)
+    (λ book serves. record { fits = serves.fits; keeps = serves.keeps })
 
 read_on : (address : ℕ) (old : Machine) (room : List ℕ) (new : Machine) (filled : List ℕ) (result : Result (Unit {0}) StoreFault)
     → Reads address old room new filled result → ServesOn old new
@@ -25,22 +29,20 @@ write_on : (address : ℕ) (bytes : List ℕ) (result : Result (Unit {0}) StoreF
 write_on address bytes (Ok tells) old new writes = writes.1.serves
 write_on address bytes (Err why) old new (inl not) = same old new not.1
 write_on address bytes (Err why) old new (inr (may, busy, inl starts)) = same old new starts.1
-write_on address bytes (Err why) old new (inr (may, busy, inr (started, wants, inl behind))) = same old new behind.1
+write_on address bytes (Err why) old new (inr (may, busy, inr (started, wants, inl behind))) = noted old new behind.1
 write_on address bytes (Err why) old new (inr (may, busy, inr (started, wants, inr off))) = off.serves
 
 sync_on : (result : Result (Unit {0}) StoreFault) (old new : Machine) → Syncs old new result
     → (book : Book) → Serves old book → Serves new (book_after (sync result) book)
 sync_on (Ok tells) old new syncs = syncs.serves
 sync_on (Err why) old new (inl dead) = same old new dead.2
-sync_on (Err why) old new (inr live) = elim live.1 [
-  | inl busy ↦ same old new busy.2
-  | inr off ↦ off.1.serves
-]
+sync_on (Err why) old new (inr (live, busy, inl behind)) = noted old new behind.1
+sync_on (Err why) old new (inr (live, busy, inr off)) = off.serves
 
 idle_on : (old new : Machine) → IsMade idle old new → ServesOn old new
 idle_on old new made = elim made.1 [
   | inl busy ↦ same old new busy.2
-  | inr made ↦ made.3
+  | inr made ↦ made.4
 ]
 
 one : (call : Call) (old new : Machine) → IsMade call old new → (book : Book) → Serves old book → Serves new (book_after call book)
@@ -51,7 +53,7 @@ one (write address bytes result) old new made = write_on address bytes result ol
 one (sync result) old new made = sync_on result old new made
 one idle old new made = idle_on old new made
 one work_ahead old new (inl busy) = same old new busy.1
-one work_ahead old new (inr (rests, free, writes, serves)) = serves
+one work_ahead old new (inr (rests, note, free, works, serves)) = serves
 
 pub serves_throughout : LivesThrough
 serves_throughout [] old new is = same old new is

@@ -6,7 +6,7 @@ use Rattle.blocks.specs.Settled.{IsSettled}
 use Rattle.blocks.specs.StoreValue.{is_dead, steps_left}
 use Rattle.blocks.specs.Turns.{IsTurn}
 use Rattle.blocks.specs.declared.work.Work.{Work}
-use Rattle.blocks.specs.declared.work.Work.TheVariants.{Settle}
+use Rattle.blocks.specs.declared.work.Work.TheVariants.{Settle, Ahead}
 use Rattle.store_calls.specs.Calls.{IsStep}
 use Rattle.store_calls.specs.Rooms.{Appends, RefusesNothing, IsRoomy, HoldsLog, most_waiting}
 use Rattle.store_calls.specs.Stores.{Store}
@@ -47,3 +47,21 @@ pub record TellsLeft (old new : Store) (left : Bool) : Type 0 where
   pub makes : MakesSteps old new
   pub none_left : (left ≡ false) ↔ IsAllDone new
   pub at_home : left ≡ false → IsSettled (state_of new.medium) new.cached
+
+-- no more steps ahead are made, since many calls wait; or one more was made, and asked the device
+-- for nothing: none was to be made
+abbrev pub EndsAhead : ℕ → Store → Store → Type 0
+EndsAhead count mid new = (((count ≡ 64) ⊎ (¬ IsShort mid)) × (new ≡ mid))
+    ⊎ (IsShort mid × IsStep Ahead mid new
+    × (length new.medium.outbox ≡ length mid.medium.outbox))
+
+-- At most 64 steps ahead of the next record, each made while few calls wait, and fewer only where
+-- many calls wait or none is to be made: the head goes past a record, and blocks go home.
+pub record GoesAhead (old new : Store) : Type 0 where
+  pub count : ℕ
+  pub few : count ≤ 64
+  pub mid : Store
+  pub made : AreSteps IsShort Ahead count old mid
+  pub ends : EndsAhead count mid new
+  pub appends : Appends (IsRoomy old) old new
+  pub turn : IsTurn (state_of old.medium) (state_of new.medium) old.cached new.cached

@@ -5,7 +5,7 @@ use Rattle.window.specs.declared.ask.DeviceAsk.{DeviceAsk}
 use Rattle.window.specs.declared.done_fault.DoneFault.{DoneFault}
 use Rattle.store_calls.specs.Asking.{TellsNext, Ends, IsHonest}
 use Rattle.store_calls.specs.StoreMachine.{Machine, Serves}
-use Rattle.store_calls.specs.Transfers.{Reads, Writes, Syncs, IdlesStore, WorksAhead}
+use Rattle.store_calls.specs.Transfers.{Reads, Writes, Syncs, IdlesStore, WorksStoreAhead}
 use Rattle.store_calls.specs.declared.store_fault.StoreFault.{StoreFault}
 
 -- a call, with what it is given, and how a write and a sync are answered
@@ -29,7 +29,7 @@ IsMade (read address room) old new = (filled : List ℕ)
 IsMade (write address bytes result) old new = Writes address bytes old new result
 IsMade (sync result) old new = Syncs old new result
 IsMade idle old new = (left : Bool) × IdlesStore old new left
-IsMade work_ahead old new = WorksAhead old new
+IsMade work_ahead old new = WorksStoreAhead old new
 
 abbrev pub AreMade : List Call → Machine → Machine → Type 0
 AreMade [] old new = new ≡ old

@@ -21,7 +21,8 @@ use Rattle.store_calls.specs.declared.lack.Lack.TheVariants as lack
 use Rattle.store_calls.specs.declared.machine.StoreMachine.{StoreMachine}
 
 -- a store, what the device was asked for last and has not told done, the sectors that a read lacks,
--- and whether the device has not carried out all that the start made
+-- whether the device has not carried out all that the start made, and whether a write or a sync was
+-- told to come again, and none was taken since
 abbrev pub Machine : Type 0
 Machine = StoreMachine
 
@@ -37,6 +38,7 @@ begun store = record {
   asked = asked.Nothing;
   lack = lack.Nothing;
   starting = is_some store.medium.outbox;
+  put_off = false;
 }
 
 -- ---- the device

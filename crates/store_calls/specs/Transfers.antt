@@ -8,13 +8,15 @@ use Rattle.blocks.specs.Book.{IsTransfer}
 use Rattle.blocks.specs.StoreValue.{Cached, blocks_of, transfer_limit, is_dead}
 use Rattle.blocks.specs.StoreValue.{unwritten, FitsBook}
 use Rattle.blocks.specs.Prepared.{IsTakenAtOnce}
+use Rattle.blocks.specs.Turns.{IsTurn}
 use Rattle.window.specs.declared.ask.DeviceRead.{DeviceRead}
 use Rattle.store_calls.specs.Calls.{MayMove, IsNoSize, home_of, IsRead, IsUnread}
 use Rattle.store_calls.specs.Calls.{IsWritten, CostsWrite}
 use Rattle.store_calls.specs.Asking.{to_read}
-use Rattle.store_calls.specs.Idling.{TellsLeft}
+use Rattle.store_calls.specs.Idling.{GoesAhead, TellsLeft}
 use Rattle.store_calls.specs.WritingBack.{IsLeft, WritesBack}
-use Rattle.store_calls.specs.Rooms.{AreInSight, AreMissing}
+use Rattle.store_calls.specs.Rooms.{Appends, AreInSight, AreMissing, IsRoomy}
+use Rattle.store_calls.specs.Stores.{Store}
 use Rattle.store_calls.specs.Serving.{LeavesNoMore, LeavesSince, ServesOn, KeepsGoing}
 use Rattle.store_calls.specs.Serving.{StaysSafe}
 use Rattle.store_calls.specs.StoreMachine.{Machine, IsCaughtUp, Serves}
@@ -85,23 +87,24 @@ Reads address old room new filled (Err why) =
 
 -- ---- a call that the device may have calls to carry out of
 
--- Nothing changes: the device has not carried out all that it was told.
-abbrev pub IsBusy : Machine → Machine → StoreFault → Type 0
-IsBusy old new why = (¬ IsCaughtUp old) × (why ≡ fault.Busy) × (new ≡ old)
+-- The device has not carried out all that it was told: nothing changes, but that it is noted.
+abbrev pub IsBehind : Machine → Machine → Type 0
+IsBehind old new = (¬ IsCaughtUp old) × (new ≡ record old { put_off = true })
 
 -- The device had carried out all, and this is done to the store. What a loss of power leaves of it,
 -- wherever in its calls the device is, a cut at some moment of them could leave.
 pub record IsDoneFree (old new : Machine) : Type 0 where
   pub free : IsCaughtUp old
-  pub others : new ≡ record old { store = new.store }
+  pub others : new ≡ record old { store = new.store; put_off = new.put_off }
   pub since : LeavesSince old.store.medium new
   pub goes_on : KeepsGoing old new
 
 -- What is before a write or a sync is written first: steps are made, one at least, and the same
--- call is to come again once the device has carried out their calls. Each step leaves fewer, and no
--- call but an accepted write adds any: so the call comes to be taken.
+-- call is to come again once the device has carried out their calls, which is noted. Each step
+-- leaves fewer, and no call but an accepted write adds any: so the call comes to be taken.
 pub record PutsOff (aim : Aim) (old new : Machine) : Type 0 where
   pub left : IsLeft aim old.store
+  pub noted : new.put_off ≡ true
   pub done : IsDoneFree old new
   pub writes : WritesBack aim old.store new.store
   pub some : 0 < writes.count
@@ -113,7 +116,7 @@ pub record PutsOff (aim : Aim) (old new : Machine) : Type 0 where
 -- leaves no more than before. The device has carried out what the start made.
 pub record Accepts (write : Write) (old new : Machine) : Type 0 where
   pub started : old.starting ≡ false
-  pub others : new ≡ record old { store = new.store }
+  pub others : new ≡ record old { store = new.store; put_off = false }
   pub written : IsWritten write old.store new.store
   pub leaves : LeavesNoMore old new
   pub since : (first : Window) → LeavesSince first old → LeavesSince first new
@@ -123,7 +126,7 @@ pub record Accepts (write : Write) (old new : Machine) : Type 0 where
 -- A write that the store does not take at once waits for a device that is behind; else steps are
 -- made that write the batch before it.
 abbrev pub WaitsForBatch : Machine → Machine → Type 0
-WaitsForBatch old new = ((¬ IsCaughtUp old) × (new ≡ old)) ⊎ PutsOff aim.Batch old new
+WaitsForBatch old new = IsBehind old new ⊎ PutsOff aim.Batch old new
 
 -- One write was accepted, by no call of the device. Or nothing has changed: it may not be moved, or
 -- the device has not carried out what the start made. Or the store does not take it at once.
@@ -142,12 +145,12 @@ Writes address bytes old new (Err why) =
 -- ---- a sync
 
 -- Every accepted write is durable, and promised: no record was left to write, and the device has
--- carried out all. So no call is made, and nothing changes.
+-- carried out all. So no call is made, and nothing changes but the note.
 pub record Promises (old new : Machine) : Type 0 where
   pub done : IsDoneFree old new
   pub live : is_dead old.store.cached ≡ false
   pub written : unwritten old.store.cached ≡ 0
-  pub same : new ≡ old
+  pub same : new ≡ record old { put_off = false }
   pub free : IsCaughtUp new
   pub fits : (book : Book) → FitsBook (state_of old.store.medium) old.store.cached book
       → FitsBook (state_of new.store.medium) new.store.cached (promised book)
@@ -159,7 +162,7 @@ abbrev pub Syncs : Machine → Machine → Result (Unit {0}) StoreFault → Type
 Syncs old new (Ok done) = Promises old new
 Syncs old new (Err why) = ((why ≡ fault.Dead) × (is_dead old.store.cached ≡ true) × (new ≡ old))
     ⊎ ((is_dead old.store.cached ≡ false)
-    × (IsBusy old new why ⊎ ((why ≡ fault.Busy) × PutsOff aim.Records old new)))
+    × (why ≡ fault.Busy) × (IsBehind old new ⊎ PutsOff aim.Records old new))
 
 -- ---- the work in the background
 
@@ -168,15 +171,28 @@ pub record IsIdle (s : Machine) : Type 0 where
   pub caught_up : IsCaughtUp s
   pub none_wanted : to_read s.lack ≡ None
 
+-- that a write or a sync is to come again stays noted
+abbrev pub KeepsNote : Machine → Machine → Type 0
+KeepsNote old new = new.put_off ≡ old.put_off
+
 -- Steps are made where the device rests, and whether some are left is told; else nothing changes,
 -- and some may be left.
 abbrev pub IdlesStore : Machine → Machine → Bool → Type 0
 IdlesStore old new left = ((¬ IsIdle old) × (left ≡ true) × (new ≡ old))
-    ⊎ (IsIdle old × IsDoneFree old new × TellsLeft old.store new.store left × ServesOn old new)
-
--- Where the device rests the record of the frozen batch is written, so that it is at work while the
--- next writes come; else nothing changes.
-abbrev pub WorksAhead : Machine → Machine → Type 0
-WorksAhead old new = ((¬ IsIdle old) × (new ≡ old))
-    ⊎ (IsIdle old × IsDoneFree old new × WritesBack aim.Batch old.store new.store
+    ⊎ (IsIdle old × KeepsNote old new × IsDoneFree old new × TellsLeft old.store new.store left
     × ServesOn old new)
+
+-- What a store does while its device rests. The record of a frozen batch is written. Where none is
+-- frozen, steps are made ahead of the next record, unless a write or a sync is to come again.
+pub record WorksAtRest (put_off : Bool) (old new : Store) : Type 0 where
+  pub batch : IsLeft aim.Batch old → WritesBack aim.Batch old new
+  pub ahead : ¬ IsLeft aim.Batch old → put_off ≡ false → GoesAhead old new
+  pub rests : ¬ IsLeft aim.Batch old → put_off ≡ true → new ≡ old
+  pub appends : Appends (IsRoomy old) old new
+  pub turn : IsTurn (state_of old.medium) (state_of new.medium) old.cached new.cached
+
+-- so it does where the device rests; else nothing changes
+abbrev pub WorksStoreAhead : Machine → Machine → Type 0
+WorksStoreAhead old new = ((¬ IsIdle old) × (new ≡ old))
+    ⊎ (IsIdle old × KeepsNote old new × IsDoneFree old new
+    × WorksAtRest old.put_off old.store new.store × ServesOn old new)

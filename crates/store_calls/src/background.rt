@@ -1,7 +1,7 @@
 //! The work in the background.
 ghost use Rattle.std.specs.Prelude.{◌↔◌, IsTrue};
 ghost use Rattle.store_calls.specs.Calls.{IsStep};
-ghost use Rattle.store_calls.specs.Idling.{IsShort, MakesSteps, TellsLeft};
+ghost use Rattle.store_calls.specs.Idling.{GoesAhead, IsShort, MakesSteps, TellsLeft};
 
 use crate::reading::foresee;
 use crate::room::MOST_WAITING;
@@ -11,6 +11,9 @@ use window::WindowMedium;
 
 // How many steps are made at most, so that their writes come in long runs.
 const MOST_STEPS: u32 = 32;
+
+// How many steps ahead are made at most: each asks the device for one call, and so many may wait.
+const MOST_AHEAD: u32 = 64;
 
 /// Makes steps towards rest, and answers whether some are left.
 pub(crate) fn make_steps(store: &mut Store<WindowMedium>) -> bool
@@ -30,6 +33,24 @@ fn settle(store: &mut Store<WindowMedium>)
             return;
         }
         step(store, Work::Settle);
+    }
+}
+
+/// Makes steps ahead of the next record, as long as each asks the device for something and few
+/// calls wait.
+pub(crate) fn go_ahead(store: &mut Store<WindowMedium>)
+    ensures { GoesAhead store.old store.new }
+{
+    foresee(store);
+    for _made in 0..MOST_AHEAD {
+        let before = store.medium().waiting();
+        if !is_short(store) {
+            return;
+        }
+        step(store, Work::Ahead);
+        if store.medium().waiting() == before {
+            return;
+        }
     }
 }
 

@@ -21,6 +21,8 @@ pub struct StoreMachine {
     pub(crate) lack: Lack,
     // Whether the device has not carried out all that the start made.
     pub(crate) starting: bool,
+    // Whether a write or a sync was told to come again, and none was taken since.
+    pub(crate) put_off: bool,
 }
 
 impl StoreMachine {
@@ -34,6 +36,7 @@ impl StoreMachine {
             asked: Asked::Nothing,
             lack: Lack::Nothing,
             starting,
+            put_off: false,
         };
         machine.rest();
         machine

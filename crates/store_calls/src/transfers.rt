@@ -42,8 +42,8 @@ impl StoreMachine {
         }
     }
 
-    /// Writes 1 to `limit` blocks from a block on, as one write, by no call of the device, which may
-    /// be behind. The next good sync promises it.
+    /// Writes 1 to `limit` blocks from a block on, as one write, by no call of the device, which
+    /// may be behind. The next good sync promises it.
     ///
     /// # Errors
     /// `Length`, `Range` and `Dead` as `read`, and `Busy` where the device has not carried out all
@@ -59,8 +59,10 @@ impl StoreMachine {
         }
         if self.store.takes_at_once(block, bytes.len() / BLOCK) {
             put_blocks(&mut self.store, block, bytes);
+            self.put_off = false;
             return Ok(());
         }
+        self.put_off = true;
         if self.is_caught_up() {
             write_records(&mut self.store, Aim::Batch);
         }
@@ -81,6 +83,7 @@ impl StoreMachine {
         if self.store.is_dead() {
             return Err(StoreFault::Dead);
         }
+        self.put_off = true;
         if !self.is_caught_up() {
             return Err(StoreFault::Busy);
         }
@@ -88,6 +91,7 @@ impl StoreMachine {
             write_records(&mut self.store, Aim::Records);
             return Err(StoreFault::Busy);
         }
+        self.put_off = false;
         foresee(&self.store);
         self.rest();
         Ok(())

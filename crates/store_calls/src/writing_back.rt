@@ -39,8 +39,8 @@ fn may_write_back(store: &Store<WindowMedium>, aim: Aim) -> bool
     is_left(store, aim) && is_short(store)
 }
 
-// Whether something is left to write.
-fn is_left(store: &Store<WindowMedium>, aim: Aim) -> bool
+/// Whether something is left to write.
+pub(crate) fn is_left(store: &Store<WindowMedium>, aim: Aim) -> bool
     ensures { IsTrue result ↔ IsLeft aim store.now }
 {
     match aim {

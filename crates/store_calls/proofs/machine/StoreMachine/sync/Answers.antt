@@ -11,7 +11,7 @@ returns-then-not-is_written c =
     let live : is_dead c.args.self.now.store.cached ≡ false = search rules in
     let free : IsCaughtUp c.args.self.now = search rules in
     let left : IsLeft Records c.args.self.now.store = search rules in
-    inr (live, inr (refl, puts_off Records c.args.self.now _ free refl left c.write_records.ensures))
+    inr (live, refl, inr (puts_off Records c.args.self.now _ free refl left c.write_records.ensures))
 
 pub returns : goal.returns
 returns c =

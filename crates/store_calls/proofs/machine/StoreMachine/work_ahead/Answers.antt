@@ -7,11 +7,11 @@ use Rattle.store_calls.proofs.machine.StoreMachine.work_ahead.Goals as goal
 pub returns-then-is_idle : goal.returns-then-is_idle
 returns-then-is_idle c =
     let rests : IsIdle c.args.self.now = search rules in
-    let writes = c.write_records.ensures in
-    let turn = writes.made.passes.turn in
-    let new : Machine = record c.args.self.now { store = c.write_records.new.store } in inr (
+    let works = c.work_at_rest.ensures in
+    let new : Machine = record c.args.self.now { store = c.work_at_rest.new.store } in inr (
       rests,
-      done_free c.args.self.now new rests.caught_up refl writes.appends turn.goes_on.layout_stays,
-      writes,
-      turn_serves c.args.self.now new rests.caught_up refl writes.appends turn,
+      refl,
+      done_free c.args.self.now new rests.caught_up refl works.appends works.turn.goes_on.layout_stays,
+      works,
+      turn_serves c.args.self.now new rests.caught_up refl works.appends works.turn,
     )
