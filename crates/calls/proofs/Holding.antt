@@ -9,9 +9,9 @@ use Rattle.bot_machine.specs.Device.{Device}
 use Rattle.disk_machine.specs.Refusals.{HoldsImageLog, HoldsLog}
 use Rattle.disk_machine.specs.Machine.{Machine}
 use Rattle.store_calls.specs.Starts.{IsNoLength}
-use Rattle.opening.specs.Reading.{Reading, IsSound, IsWhole, IsUntil}
-use Rattle.opening.specs.declared.reach.Reach.{Reach}
-use Rattle.opening.specs.declared.reach.Reach.TheVariants as reach
+use Rattle.image_calls.specs.Reading.{Reading, IsSound, IsWhole, IsUntil}
+use Rattle.image_calls.specs.declared.reach.Reach.{Reach}
+use Rattle.image_calls.specs.declared.reach.Reach.TheVariants as reach
 use Rattle.recovery.specs.declared.start_fault.StartFault.{StartFault}
 use Rattle.calls.specs.Starting.{StartsOn, IsRefusedOn}
 

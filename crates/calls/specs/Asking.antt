@@ -3,9 +3,9 @@ use Rattle.std.specs.Prelude.{◌≡◌, ◌⊎◌, ℕ, ◌/◌, List, length}
 use Rattle.store_calls.specs.Outbox.{IsNoRoom}
 use Rattle.window.specs.declared.ask.DeviceAsk.{DeviceAsk}
 use Rattle.window.specs.declared.ask.DeviceAsk.TheVariants as ask
-use Rattle.opening.specs.Reading.{Reading, AsksToRead}
-use Rattle.opening.specs.Recovering.{AsksToRecover, GoesOnAsked}
-use Rattle.opening.specs.declared.recovering.Recovering.{Recovering}
+use Rattle.image_calls.specs.Reading.{Reading, AsksToRead}
+use Rattle.image_calls.specs.Recovering.{AsksToRecover, GoesOnAsked}
+use Rattle.image_calls.specs.declared.recovering.Recovering.{Recovering}
 use Rattle.disk_machine.specs.Codes.{BAD_LENGTH}
 use Rattle.disk_machine.specs.Machine.{Machine}
 use Rattle.disk_machine.specs.Asking.{AsksFor}

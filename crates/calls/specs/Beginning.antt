@@ -16,7 +16,7 @@ use Rattle.image_calls.specs.declared.image_fault.ImageFault.TheVariants as faul
 use Rattle.image_calls.specs.declared.image_plan.ImagePlan.{ImagePlan}
 use Rattle.journal.specs.Places.{Shape}
 use Rattle.window.specs.Window.{Window}
-use Rattle.opening.specs.Reading.{Reading}
+use Rattle.image_calls.specs.Reading.{Reading}
 use Rattle.calls.specs.declared.held.Stage.{Stage}
 use Rattle.calls.specs.declared.held.Stage.TheVariants as stage
 

@@ -5,7 +5,7 @@ use Rattle.journal.specs.Sectors.{version_of}
 use Rattle.recovery.specs.Calls.{AreSizes}
 use Rattle.image_calls.specs.Plans.{shape_by}
 use Rattle.image_calls.specs.declared.image_plan.ImagePlan.{ImagePlan}
-use Rattle.opening.specs.declared.reach.Reach.TheVariants as reach
+use Rattle.image_calls.specs.declared.reach.Reach.TheVariants as reach
 use Rattle.disk_machine.specs.Codes.{STARTED, BAD_SIZES}
 use Rattle.calls.specs.Handles.{Held}
 use Rattle.calls.specs.Starting.{Opens}

@@ -3,10 +3,10 @@ use Rattle.std.specs.Prelude.{◌≡◌, ◌≢◌, ◌⊎◌, ℕ, Result, Ok, 
 use Rattle.recovery.specs.declared.recovered.Recovered.{Recovered}
 use Rattle.recovery.specs.declared.start_fault.StartFault.{StartFault}
 use Rattle.recovery.specs.declared.start_fault.StartFault.TheVariants as start
-use Rattle.opening.specs.Reading.{unread}
-use Rattle.opening.specs.Recovering.{BeginsRecovery, IsUnderWayAt, IsOver, Ends}
-use Rattle.opening.specs.declared.reach.Reach.TheVariants as reach
-use Rattle.opening.specs.declared.recovering.Recovering.{Recovering}
+use Rattle.image_calls.specs.Reading.{unread}
+use Rattle.image_calls.specs.Recovering.{BeginsRecovery, IsUnderWayAt, IsOver, Ends}
+use Rattle.image_calls.specs.declared.reach.Reach.TheVariants as reach
+use Rattle.image_calls.specs.declared.recovering.Recovering.{Recovering}
 use Rattle.calls.specs.Handles.{Held}
 use Rattle.calls.specs.declared.held.Stage.{Stage}
 use Rattle.calls.specs.declared.held.Stage.TheVariants as stage

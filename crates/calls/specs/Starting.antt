@@ -14,9 +14,9 @@ use Rattle.disk_machine.specs.Refusals.{HoldsLog}
 use Rattle.disk_machine.specs.Starting.{identity_of}
 use Rattle.disk_machine.specs.Machine.{Machine}
 use Rattle.disk_machine.specs.Moves.{begun, ServesAtRest, LeavesOfStart, HasRoomBeside}
-use Rattle.opening.specs.Reading.{Reading, unread, IsWhole}
-use Rattle.opening.specs.declared.reach.Reach.{Reach}
-use Rattle.opening.specs.declared.reach.Reach.TheVariants as reach
+use Rattle.image_calls.specs.Reading.{Reading, unread, IsWhole}
+use Rattle.image_calls.specs.declared.reach.Reach.{Reach}
+use Rattle.image_calls.specs.declared.reach.Reach.TheVariants as reach
 use Rattle.calls.specs.Beginning.{BeginsStore, BeginsFormat, BeginsLog, BeginsMigration}
 use Rattle.calls.specs.Handles.{Held}
 use Rattle.calls.specs.Recovers.{IsFirst}

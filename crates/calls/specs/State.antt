@@ -6,7 +6,7 @@ use Rattle.disk_machine.specs.Codes.{number_of}
 use Rattle.disk_machine.specs.Moves.{state_of}
 use Rattle.store_calls.specs.StoreMachine as store
 use Rattle.image_calls.specs.Machines as images
-use Rattle.image_calls.specs.declared.asked.ImageCall.TheVariants as kind
+use Rattle.image_calls.specs.declared.image_asked.ImageCall.TheVariants as kind
 use Rattle.image_calls.specs.declared.state.ImageState.{ImageState}
 use Rattle.image_calls.specs.declared.state.ImageState.TheVariants as image
 use Rattle.recovery.specs.declared.start_fault.StartFault.TheVariants as start

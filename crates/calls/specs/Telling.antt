@@ -2,11 +2,11 @@
 use Rattle.std.specs.Prelude.{◌≡◌, ℕ, Bool, List, Result, Ok, Err}
 use Rattle.window.specs.declared.done_fault.DoneFault.{DoneFault}
 use Rattle.window.specs.declared.done_fault.DoneFault.TheVariants as fault
-use Rattle.opening.specs.Reading.{Reading, HasRead}
-use Rattle.opening.specs.Recovering.{HearsOfRecovery, GoesOnHeard}
-use Rattle.opening.specs.declared.recovering.Recovering.{Recovering}
-use Rattle.opening.specs.declared.read_end.ReadEnd.{ReadEnd}
-use Rattle.opening.specs.declared.read_end.ReadEnd.TheVariants as end
+use Rattle.image_calls.specs.Reading.{Reading, HasRead}
+use Rattle.image_calls.specs.Recovering.{HearsOfRecovery, GoesOnHeard}
+use Rattle.image_calls.specs.declared.recovering.Recovering.{Recovering}
+use Rattle.image_calls.specs.declared.read_end.ReadEnd.{ReadEnd}
+use Rattle.image_calls.specs.declared.read_end.ReadEnd.TheVariants as end
 use Rattle.recovery.specs.declared.start_fault.StartFault.TheVariants as start
 use Rattle.disk_machine.specs.Codes.{BAD_LENGTH}
 use Rattle.disk_machine.specs.Machine.{Machine}

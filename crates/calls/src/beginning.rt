@@ -2,7 +2,7 @@
 ghost use Rattle.std.specs.Prelude.{◌≡◌, ◌⊎◌, ℕ, List, IfOk, IfErr, OnOk, MatchResult};
 ghost use Rattle.bot_machine.specs.Device.{device_by, Ahead};
 ghost use Rattle.store_calls.specs.Starts.{IsNoLength};
-ghost use Rattle.opening.specs.Reading.{IsWhole, IsSound};
+ghost use Rattle.image_calls.specs.Reading.{IsWhole, IsSound};
 ghost use Rattle.calls.specs.Starting.{GoesOn, BeginsAs, BeginsDisk, StartsOn, IsRefusedOn};
 ghost use Rattle.calls.specs.Starting.{medium_on};
 ghost use Rattle.recovery.specs.declared.start_fault.StartFault.TheVariants.{NoMemory, BadSuper};
@@ -13,7 +13,7 @@ use crate::reserve::{Reserve, reserve_for};
 use crate::work::{begin_format, begin_log, begin_migration, begin_store};
 use bot_machine::{Disk, Identity, PacketSize, Retiring, StartFault};
 use disk_machine::DiskMachine;
-use opening::Opening;
+use image_calls::Opening;
 use std::alloc::Global;
 use window::{WindowError, WindowMedium, device_laws};
 

@@ -1,8 +1,7 @@
 //! What a handle holds.
 use bot_machine::{Identity, PacketSize, StartFault};
 use disk_machine::DiskMachine;
-use image_calls::{ImageMachine, ImagePlan};
-use opening::{Opening, Recovering};
+use image_calls::{ImageMachine, ImagePlan, Opening, Recovering};
 use store_calls::StoreMachine;
 
 /// What a handle holds, and what it was started for.

@@ -8,9 +8,8 @@ use crate::moves::holds_any;
 use crate::options::UsbDiskPlan;
 use crate::starting::open;
 use disk_machine::{BAD_SIZES, STARTED};
-use image_calls::ImagePlan;
+use image_calls::{ImagePlan, Reach};
 use journal::LogFormat;
-use opening::Reach;
 use std::alloc::Global;
 
 /// An image of zeros is made.

@@ -4,7 +4,7 @@ ghost use Rattle.calls.specs.Recovers.{IsFirst, RecoversOn, ComesBehind, behind}
 
 use crate::held::{Held, Stage};
 use bot_machine::StartFault;
-use opening::{Opening, Reach, Recovering, Run};
+use image_calls::{Opening, Reach, Recovering, Run};
 use recovery::Recovered;
 use std::alloc::Global;
 use std::mem;

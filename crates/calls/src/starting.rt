@@ -16,7 +16,7 @@ use bot_machine::{Identity, PacketSize, StartFault};
 use disk_machine::{
     ACK, BAD_IDENTITY, BAD_PACKET_SIZE, EMPTY, STARTED, UsbDiskIdentity, number_of,
 };
-use opening::{Opening, Reach};
+use image_calls::{Opening, Reach};
 use std::alloc::Global;
 
 /// A disk starts behind a handle that holds nothing.

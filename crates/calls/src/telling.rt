@@ -10,7 +10,7 @@ use crate::held::{Held, Stage};
 use crate::lending::held_in;
 use bot_machine::StartFault;
 use disk_machine::{ACK, BAD_LENGTH, EMPTY};
-use opening::ReadEnd;
+use image_calls::ReadEnd;
 use std::alloc::Global;
 use std::mem;
 use window::DoneFault;

@@ -6,8 +6,7 @@ ghost use Rattle.calls.specs.Beginning.{IsStore, IsImage, fault_of_call, fault_o
 use crate::device::device_holding;
 use crate::held::Stage;
 use bot_machine::StartFault;
-use image_calls::{ImageFault, ImageMachine, ImagePlan};
-use opening::Opening;
+use image_calls::{ImageFault, ImageMachine, ImagePlan, Opening};
 use std::alloc::Global;
 use store_calls::{CallFault, StoreMachine, begin_machine};
 

@@ -10,7 +10,7 @@ use Rattle.window.specs.WindowLaws.{is_sound, comes_after_itself}
 use Rattle.image_calls.specs.Images.{WaitFor}
 use Rattle.image_calls.specs.Machines.{Machine, begun, under_way, LeavesSince, LeavesAtRest, Begins}
 use Rattle.image_calls.specs.declared.work.Work.{Work}
-use Rattle.image_calls.specs.declared.asked.ImageAsked.{ImageAsked}
+use Rattle.image_calls.specs.declared.image_asked.ImageAsked.{ImageAsked}
 
 -- it was sent no more than it has carried out
 pub rests : (s : Machine) → PartsFollow

@@ -18,10 +18,10 @@ use Rattle.image_calls.specs.Formats.{IsFormatting, MakesParts}
 use Rattle.image_calls.specs.Machines.{Machine, begun, carried, under_way, MayLeave, LeavesSince, LeavesAtRest, CarriesOut, GoesOn}
 use Rattle.image_calls.specs.Machines.{Asks, AsksBy, AsksForNext, IsDone}
 use Rattle.image_calls.specs.declared.work.Work.{Work}
-use Rattle.image_calls.specs.declared.asked.ImageAsked.{ImageAsked}
-use Rattle.image_calls.specs.declared.asked.ImageAsked.TheVariants as asked
-use Rattle.image_calls.specs.declared.asked.ImageCall.{ImageCall}
-use Rattle.image_calls.specs.declared.asked.ImageCall.TheVariants as kind
+use Rattle.image_calls.specs.declared.image_asked.ImageAsked.{ImageAsked}
+use Rattle.image_calls.specs.declared.image_asked.ImageAsked.TheVariants as asked
+use Rattle.image_calls.specs.declared.image_asked.ImageCall.{ImageCall}
+use Rattle.image_calls.specs.declared.image_asked.ImageCall.TheVariants as kind
 use Rattle.image_calls.proofs.NextCall.{on_way_on, has_room_on}
 use Rattle.image_calls.proofs.Taken.{IsSentStill, some_go, taken_by, without_more, some_first, run_waits}
 

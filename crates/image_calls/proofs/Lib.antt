@@ -1,3 +1,10 @@
+pub mod Performing
+pub mod Carrying
+pub mod Handing
+pub mod Stepped
+pub mod Until
+pub mod Kept
+pub mod Recoveries
 pub mod Laid
 pub mod OnWay
 pub mod NextCall

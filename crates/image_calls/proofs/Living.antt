@@ -23,8 +23,8 @@ use Rattle.image_calls.specs.Machines.{AsksBy, carried, under_way}
 use Rattle.window.specs.declared.ask.DeviceAsk.TheVariants as ask
 use Rattle.image_calls.specs.Parts.{IsMadeAnew, IsOnWay}
 use Rattle.image_calls.specs.declared.work.Work.{Work}
-use Rattle.image_calls.specs.declared.asked.ImageAsked.{ImageAsked}
-use Rattle.image_calls.specs.declared.asked.ImageAsked.TheVariants as asked
+use Rattle.image_calls.specs.declared.image_asked.ImageAsked.{ImageAsked}
+use Rattle.image_calls.specs.declared.image_asked.ImageAsked.TheVariants as asked
 use Rattle.image_calls.specs.declared.plan.Plan.{Plan}
 use Rattle.image_calls.specs.declared.state.ImageState.TheVariants as state
 use Rattle.image_calls.proofs.OnWay.{BLANK}

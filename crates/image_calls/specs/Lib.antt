@@ -1,3 +1,12 @@
+pub mod Carried
+pub mod Runs
+pub mod Stepping
+pub mod Running
+pub mod Near
+pub mod Reading
+pub mod Room
+pub mod Inside
+pub mod Recovering
 pub mod Images
 pub mod Formats
 pub mod Parts

@@ -20,7 +20,7 @@ use Rattle.image_calls.specs.Images.{IsLaidOn, IsMigratedOn, IsWhole}
 use Rattle.image_calls.specs.Machines.{Machine, Asks, Hears, MayLeave, Begins, GoesOn}
 use Rattle.image_calls.specs.Machines.{carried, state_of}
 use Rattle.image_calls.specs.Parts.{IsMadeAnew}
-use Rattle.image_calls.specs.declared.asked.ImageAsked.TheVariants as asked
+use Rattle.image_calls.specs.declared.image_asked.ImageAsked.TheVariants as asked
 use Rattle.image_calls.specs.declared.state.ImageState.TheVariants as state
 
 -- a call, with what it is given

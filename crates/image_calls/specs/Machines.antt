@@ -18,10 +18,10 @@ use Rattle.window.specs.declared.done_fault.DoneFault.{DoneFault}
 use Rattle.window.specs.declared.done_fault.DoneFault.TheVariants as fault
 use Rattle.image_calls.specs.Formats.{IsFormatting, MakesParts}
 use Rattle.image_calls.specs.declared.work.Work.{Work}
-use Rattle.image_calls.specs.declared.asked.ImageAsked.{ImageAsked}
-use Rattle.image_calls.specs.declared.asked.ImageAsked.TheVariants as asked
-use Rattle.image_calls.specs.declared.asked.ImageCall.{ImageCall}
-use Rattle.image_calls.specs.declared.asked.ImageCall.TheVariants as kind
+use Rattle.image_calls.specs.declared.image_asked.ImageAsked.{ImageAsked}
+use Rattle.image_calls.specs.declared.image_asked.ImageAsked.TheVariants as asked
+use Rattle.image_calls.specs.declared.image_asked.ImageCall.{ImageCall}
+use Rattle.image_calls.specs.declared.image_asked.ImageCall.TheVariants as kind
 use Rattle.image_calls.specs.declared.machine.ImageMachine.{ImageMachine}
 use Rattle.image_calls.specs.declared.plan.Plan.{Plan}
 use Rattle.image_calls.specs.declared.state.ImageState.{ImageState}

@@ -1,18 +1,12 @@
-//! What the device was asked for last.
-
-/// A call that the work on an image makes: it reads nothing.
-#[derive(Clone, Copy, Debug, PartialEq, Eq)]
-pub enum ImageCall {
-    Write,
-    Flush,
-}
+//! What the device of a machine was asked for last.
+use medium::{Call, MediumFault};
 
 /// What the device was asked for last, and has not told done.
 #[derive(Clone, Copy, Debug, PartialEq, Eq)]
-pub enum ImageAsked {
+pub enum Asked {
     Nothing,
-    /// So many calls of this kind: one flush, or writes to neighbouring sectors.
-    Calls(ImageCall, usize),
-    /// It refused them. It is asked for nothing more.
-    Refused(ImageCall, usize),
+    /// This call.
+    At(Call),
+    /// It refused a call of this kind. It is asked for nothing more.
+    Refused(MediumFault),
 }

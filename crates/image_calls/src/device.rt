@@ -2,9 +2,9 @@
 ghost use Rattle.std.specs.Prelude.{◌≡◌, length};
 ghost use Rattle.store_calls.specs.Outbox.{IsNoRoom, IsLongestRun};
 ghost use Rattle.image_calls.specs.Machines.{Asks, AsksBy, AsksForNext, GoesOn};
-ghost use Rattle.image_calls.specs.declared.asked.ImageAsked.TheVariants as asked;
+ghost use Rattle.image_calls.specs.declared.image_asked.ImageAsked.TheVariants as asked;
 
-use crate::asked::{ImageAsked, ImageCall};
+use crate::image_asked::{ImageAsked, ImageCall};
 use crate::going::go_on;
 use crate::machine::ImageMachine;
 use medium::Outlet;

@@ -9,7 +9,7 @@ ghost use Rattle.image_calls.specs.Machines.{begun, state_by, state_at_rest};
 ghost use Rattle.image_calls.specs.Plans.{Migrates, IsPlanFault, shape_by, medium_by};
 
 use crate::ImageFault;
-use crate::asked::ImageAsked;
+use crate::image_asked::ImageAsked;
 use crate::image_plan::ImagePlan;
 use crate::making::{begin_on, lay_on, migrate_on, window_of};
 use crate::room::room_to_migrate;

@@ -1,5 +1,5 @@
 //! What the work on an image is at.
-use crate::asked::ImageCall;
+use crate::image_asked::ImageCall;
 
 /// What the work on an image is at.
 #[derive(Clone, Copy, Debug, PartialEq, Eq)]

@@ -1,7 +1,7 @@
 //! What the device tells of what it was asked for.
 ghost use Rattle.image_calls.specs.Machines.{IsDone, Hears, GoesOn};
 
-use crate::asked::ImageAsked;
+use crate::image_asked::ImageAsked;
 use crate::machine::ImageMachine;
 use window::DoneFault;
 

@@ -1,9 +1,0 @@
-pub mod Carried
-pub mod Runs
-pub mod Stepping
-pub mod Running
-pub mod Near
-pub mod Reading
-pub mod Room
-pub mod Inside
-pub mod Recovering
