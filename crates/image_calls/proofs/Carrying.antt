@@ -27,6 +27,10 @@ use Rattle.image_calls.specs.declared.carried.Carried.{Carried}
 use Rattle.image_calls.specs.Carried.{IsCarried, Tells, HearsRead, IsCarriedOn, Reaches, Runs, LeavesWhatItMay, HoldsOn, BeginsCarried}
 use Rattle.image_calls.proofs.Performing.{read_performed, read_refused, write_performed, flush_performed}
 
+-- no call
+abbrev pub none_came : (m : OutboxMedium) → ComesAfter m m
+none_came m = record { since = []; asked = sym (append-nil m.story.asked); outbox = sym (append-nil m.outbox); taken_stays = refl }
+
 -- a call more that gives the device nothing
 abbrev pub asked_more : (old now new : OutboxMedium) → ComesAfter old now → new.story.asked ≡ now.story.asked ++ None ∷ []
     → new.outbox ≡ now.outbox → new.story.taken ≡ now.story.taken → ComesAfter old new
@@ -185,12 +189,7 @@ module _ {S V : Type 0} (fits : S → ℕ → Type 0) (holds : S → List ℕ �
   begun s idle m fit whole = record {
     fit = fit;
     reaches = subst (λ (a : Asked). At s.machine s.sector m s a m) (sym idle) (not_driven leaves s.machine s.sector m (is_sound m));
-    follows = record {
-      since = [];
-      asked = sym (append-nil m.seen.told.asked);
-      outbox = sym (append-nil m.outbox);
-      taken_stays = refl;
-    };
+    follows = none_came (mirror_of m);
     opening_stays = refl;
     whole = whole;
   }

@@ -14,20 +14,16 @@ use Rattle.window.proofs.OutboxCalls as asked
 use Rattle.window.specs.Window.{Window, state_of, mirror_of, reads, gives}
 use Rattle.window.proofs.Shown.{front}
 use Rattle.image_calls.specs.Runs.{HoldsOf, HoldsRead, LetsGo}
-use Rattle.image_calls.specs.Running.{HandedOut, writes_of}
+use Rattle.store_calls.specs.Outbox.{writes_of}
+use Rattle.image_calls.specs.Running.{HandedOut}
 use Rattle.image_calls.specs.declared.run.Run.{Run}
-use Rattle.image_calls.proofs.Carrying.{asked_more, gave_more}
+use Rattle.image_calls.proofs.Carrying.{none_came, asked_more, gave_more}
 
 -- ---- what was handed out
 
 pub handed_none : (n : Window) → HandedOut [] n n
 handed_none n = record {
-  follows = record {
-    since = [];
-    asked = sym (append-nil n.seen.told.asked);
-    outbox = sym (append-nil n.outbox);
-    taken_stays = refl;
-  };
+  follows = none_came (mirror_of n);
   gave = refl;
   opening_stays = refl;
 }

@@ -1,6 +1,8 @@
 -- What is kept of the first sectors, as more of them are read.
 use Rattle.std.proofs.Common.{◌≡◌, ◌+◌, ◌*◌, ◌/◌, ◌≤◌, ◌<◌, ◌++◌, ◌∙◌, ℕ, true, List, length, take, inl, inr, refl, sym, ap, arith}
 use Rattle.std.proofs.Common.{length-take, length-append}
+use Rattle.std.specs.Vec.{with_items}
+use Rattle.std.proofs.lemmas.List.{with_items_is}
 use Rattle.image_calls.specs.Inside.{reading_of, Invariant}
 use Rattle.image_calls.specs.Reading.{IsSound, IsUntil, appended}
 use Rattle.image_calls.specs.Room.{MakesRoom}
@@ -39,33 +41,44 @@ has_room read until old mid (inl made) all = made.1
 has_room read until old mid (inr stay) all =
     let some : 0 < read = grind (arith, stay.0) in ap (λ (l : List ℕ). length l) stay.1 ∙ all some
 
--- behind a good read
-module _ (a b : Inside) (kept : Invariant a) (bytes mid : List ℕ) (makes : MakesRoom a.read b.until a.bytes.items mid true)
-    (put : take (a.read * 512 + length bytes) b.bytes.items ≡ take (a.read * 512) mid ++ bytes)
-    (long : length b.bytes.items ≡ length mid) (sized : length bytes ≡ 512 * a.asked)
-    (is : IsUntil a.reach a.sectors (take (512 * a.read) a.bytes.items ++ bytes) b.until) (few : b.until ≤ 16384)
-    (within : length (take (512 * a.read) a.bytes.items ++ bytes) / 512 ≤ b.until)
-    (goes_on : 0 < length (take (512 * a.read) a.bytes.items) → b.until ≡ a.until) (read_is : b.read ≡ a.read + a.asked)
-    (at_none : b.asked ≡ 0) (reach_is : b.reach ≡ a.reach) (sectors_is : b.sectors ≡ a.sectors) where
-  pub front : take (512 * b.read) b.bytes.items ≡ take (512 * a.read) a.bytes.items ++ bytes
-  front = ap (λ (n : ℕ). take (512 * n) b.bytes.items) read_is
-      ∙ put_behind a.read b.until a.asked (length bytes) (a.read * 512) a.bytes.items mid b.bytes.items bytes makes put (omega arith) sized
+-- behind a good read: what was read lies behind what was read before
+module _ (a mid : Inside) (kept : Invariant a) (bytes filled : List ℕ) (until count : ℕ)
+    (makes : MakesRoom a.read until a.bytes.items mid.bytes.items true)
+    (put : take (a.read * 512 + length bytes) filled ≡ take (a.read * 512) mid.bytes.items ++ bytes)
+    (long : length filled ≡ length mid.bytes.items) (sized : length bytes ≡ 512 * a.asked)
+    (is : IsUntil a.reach a.sectors (take (512 * a.read) a.bytes.items ++ bytes) until) (few : until ≤ 16384)
+    (within : length (take (512 * a.read) a.bytes.items ++ bytes) / 512 ≤ until)
+    (goes_on : 0 < length (take (512 * a.read) a.bytes.items) → until ≡ a.until) (count_is : count ≡ a.asked) where
+  abbrev new : Inside
+  new = record a { bytes = with_items mid.bytes filled; read = a.read + count; until = until; asked = 0 }
 
-  enough : b.read ≤ b.until
+  items : new.bytes.items ≡ filled
+  items = with_items_is mid.bytes filled (long ∙ sym mid.bytes.ok.0)
+
+  read_is : new.read ≡ a.read + a.asked
+  read_is = omega (arith, count_is)
+
+  front : take (512 * new.read) new.bytes.items ≡ take (512 * a.read) a.bytes.items ++ bytes
+  front = ap (λ (n : ℕ). take (512 * n) new.bytes.items) read_is ∙ ap (λ (l : List ℕ). take (512 * (a.read + a.asked)) l) items
+      ∙ put_behind a.read until a.asked (length bytes) (a.read * 512) a.bytes.items mid.bytes.items filled bytes makes put (omega arith)
+      sized
+
+  enough : new.read ≤ until
   enough = omega (arith, within, length-append (take (512 * a.read) a.bytes.items) bytes, near_length a kept, sized, read_is)
 
-  room : length b.bytes.items ≡ 512 * b.until
-  room = long ∙ has_room a.read b.until a.bytes.items mid makes (λ some. kept.all some
+  room : length new.bytes.items ≡ 512 * until
+  room = ap (λ (l : List ℕ). length l) items ∙ long
+      ∙ has_room a.read until a.bytes.items mid.bytes.items makes (λ some. kept.all some
       ∙ ap (λ (n : ℕ). 512 * n) (sym (goes_on (omega (arith, some, near_length a kept)))))
 
-  pub taken : Invariant b
+  pub taken : Invariant new
   taken = record {
-    until_is = rw (reach_is, sectors_is, front) is;
+    until_is = rw front is;
     few = few;
-    within = omega (arith, enough, at_none);
+    within = omega (arith, enough);
     room = omega (arith, room, enough);
     all = λ some. room;
   }
 
-  pub seen : reading_of b ≡ appended (reading_of a) bytes b.until
-  seen = rw (front, reach_is, sectors_is, at_none) refl
+  pub seen : reading_of new ≡ appended (reading_of a) bytes until
+  seen = rw front refl

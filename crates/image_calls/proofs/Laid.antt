@@ -1,5 +1,5 @@
 -- What was made of an image on a device.
-use Rattle.std.proofs.Common.{◌≡◌, ◌⊎◌, inl, inr, ◌+◌, ◌*◌, ◌<◌, Some, ◌≤◌, length, ap, sym, subst, arith}
+use Rattle.std.proofs.Common.{◌≡◌, ◌⊎◌, inl, inr, ◌+◌, ◌<◌, Some, ◌≤◌, length, ap, sym, subst, arith}
 use Rattle.std.proofs.lemmas.Bool.{cases_lt}
 use Rattle.medium.specs.Sent.{sent}
 use Rattle.std.specs.Prelude.{Bool}

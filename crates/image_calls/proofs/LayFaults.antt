@@ -1,5 +1,5 @@
 -- A medium for a plan that fits refuses no call that the plan makes.
-use Rattle.std.proofs.Common.{◌≡◌, ◌-◌, ◌*◌, ◌+◌, ◌≤◌, ◌<◌, ◌++◌, ℕ, List, length, arith, length-append, ap, sym, subst}
+use Rattle.std.proofs.Common.{◌≡◌, ◌-◌, ◌*◌, ◌+◌, ◌≤◌, ◌++◌, ℕ, List, length, arith, length-append, ap, sym, subst}
 use Rattle.std.proofs.lemmas.List.{length-take, length-replicate}
 use Rattle.std.specs.Prelude.{replicate, take}
 use Rattle.window.specs.Window.{Window, state_of, ComesAfter}

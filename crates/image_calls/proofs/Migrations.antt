@@ -15,7 +15,8 @@ use Rattle.recovery.specs.declared.start_fault.StartFault.{StartFault}
 use Rattle.recovery.specs.declared.start_fault.StartFault.TheVariants as start
 use Rattle.window.specs.Window.{Window, state_of, fresh}
 use Rattle.window.proofs.Kept.{opened_front}
-use Rattle.image_calls.specs.Images.{IsNoLength, IsMigratedNot}
+use Rattle.store_calls.specs.Starts.{IsNoLength}
+use Rattle.image_calls.specs.Images.{IsMigratedNot}
 use Rattle.image_calls.specs.Plans.{IsRoomToMigrate, IsMigratedNever, IsMigrateRefusal}
 use Rattle.image_calls.specs.declared.image_fault.ImageFault.{ImageFault}
 use Rattle.image_calls.specs.declared.image_fault.ImageFault.TheVariants as fault

@@ -1,12 +1,11 @@
 -- From one call of the device to the next.
-use Rattle.std.proofs.Common.{◌≡◌, ◌⊎◌, inl, inr, ◌+◌, ◌*◌, ◌<◌, ◌≤◌, ℕ, List, [], ◌∷◌, Option, Some, None, length}
-use Rattle.std.proofs.Common.{refl, sym, ◌∙◌, ap, subst, arith}
+use Rattle.std.proofs.Common.{◌≡◌, ◌⊎◌, inl, inr, ◌+◌, ◌<◌, ◌≤◌, ℕ, List, Option, Some, None, length}
+use Rattle.std.proofs.Common.{sym, ◌∙◌, ap, subst, arith}
 use Rattle.medium.specs.Medium.{State, Image}
 use Rattle.medium.specs.Moments.{IsUnchanged}
 use Rattle.medium.proofs.Moments.{then_unchanged}
 use Rattle.medium.proofs.SparedSectors.{spared_joined, spared_unchanged}
-use Rattle.window.specs.declared.call.DeviceCall.{DeviceCall}
-use Rattle.window.specs.Window.{Window, state_of, take_first, ComesAfter, CoversDevice}
+use Rattle.window.specs.Window.{Window, state_of, ComesAfter, CoversDevice}
 use Rattle.window.specs.WindowLaws.{is_sound, comes_after_through}
 use Rattle.journal.specs.Places.{Shape, sectors_of}
 use Rattle.journal.specs.Sectors.{IsSuper, IsHead}
@@ -21,14 +20,6 @@ use Rattle.image_calls.proofs.Laid.{none_refused}
 use Rattle.image_calls.proofs.OnWay.{BLANK}
 
 -- ---- a call that leaves what waits is no call of a medium
-
-looked_on : (calls : List DeviceCall) (w : Window) → (state_of (take_first calls w)).looked ≡ (state_of w).looked
-looked_on [] w = refl
-looked_on (call ∷ calls) w = refl
-
-room_on : (calls : List DeviceCall) (w : Window) → (take_first calls w).room ≡ w.room
-room_on [] w = refl
-room_on (call ∷ calls) w = refl
 
 module _ (shape : Shape) (first now new : Window) (same : IsUnchanged (state_of now) (state_of new))
     (looked : (state_of new).looked ≡ (state_of now).looked) where

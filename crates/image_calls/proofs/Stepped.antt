@@ -25,7 +25,8 @@ use Rattle.image_calls.specs.Carried.{IsCarried, Tells, Reaches, Runs, StaysCarr
 use Rattle.image_calls.specs.Carried.{IsCarriedOn}
 use Rattle.image_calls.specs.Carried.{Hears, IsAsked}
 use Rattle.image_calls.specs.Runs.{HoldsOf, HoldsRead, LetsGo, IsHeld, held_at}
-use Rattle.image_calls.specs.Running.{IsRunning, IsAtRest, Hands, GathersOn, HasGiven, HandedOut, writes_of, HasGathered}
+use Rattle.store_calls.specs.Outbox.{writes_of}
+use Rattle.image_calls.specs.Running.{IsRunning, IsAtRest, Hands, GathersOn, HasGiven, HandedOut, HasGathered}
 use Rattle.image_calls.specs.Running.{RunAsks, Settles, AsksNext, IsRunOn}
 use Rattle.image_calls.specs.Stepping.{Answers, Puts, TellsNone, IsAnswered, WritesTo}
 use Rattle.image_calls.specs.declared.asked.Asked.{Asked}

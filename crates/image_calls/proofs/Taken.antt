@@ -54,28 +54,6 @@ some_go (suc count) w =
       room = last.room ∙ before.room;
     }
 
-one_fewer : (calls : List DeviceCall) (w : Window) → w.outbox ≡ calls → 1 ≤ length calls
-    → length (take_first calls w).outbox + 1 ≡ length w.outbox
-one_fewer [] w is some = absurd (omega (arith, some))
-one_fewer (call ∷ calls) w is some = omega (arith, ap (λ (l : List DeviceCall). length l) is)
-
-fewer_wait : (count : ℕ) (w : Window) → count ≤ length w.outbox → length (without count w).outbox + count ≡ length w.outbox
-fewer_wait zero w le = omega arith
-fewer_wait (suc count) w le =
-    let before = fewer_wait count w (omega (arith, le)) in
-    omega (arith, before, one_fewer (without count w).outbox (without count w) refl (omega (arith, before, le)))
-
--- so many have left
-pub taken_by : (count : ℕ) (w : Window) → count ≤ length w.outbox
-    → length (without count w).seen.told.taken ≡ length w.seen.told.taken + count
-taken_by count w le = omega (
-  arith,
-  fewer_wait count w le,
-  ap (λ (l : List DeviceCall). length l) (some_go count w).sent,
-  length-append (without count w).seen.told.taken (without count w).outbox,
-  length-append w.seen.told.taken w.outbox,
-)
-
 -- and then some more
 pub without_more : (count before : ℕ) (w : Window) → without count (without before w) ≡ without (count + before) w
 without_more zero before w = let same : before ≡ 0 + before = omega arith in ap (λ (n : ℕ). without n w) same

@@ -1,5 +1,5 @@
 -- A format on a device, a part at a time: the next waits where the one before it is handed out.
-use Rattle.std.specs.Prelude.{◌≡◌, ◌⊎◌, ◌+◌, ◌*◌, ◌<◌, ◌≤◌, length, Option, Some, None}
+use Rattle.std.specs.Prelude.{◌≡◌, ◌⊎◌, ◌+◌, ◌<◌, ◌≤◌, length, Option, Some, None}
 use Rattle.window.specs.Window.{Window, state_of}
 use Rattle.journal.specs.Places.{Shape}
 use Rattle.image_calls.specs.Images.{WaitFor}

@@ -1,10 +1,9 @@
 -- What is made of an image on a device, and what waits for the device then.
-use Rattle.std.specs.Prelude.{◌≡◌, ◌≢◌, ◌⊎◌, ℕ, ◌+◌, ◌*◌, ◌%◌, ◌<◌, ◌≤◌, List, length, Bool}
-use Rattle.std.specs.Prelude.{None}
+use Rattle.std.specs.Prelude.{◌≡◌, ◌⊎◌, ◌+◌, ◌<◌, ◌≤◌, Bool, None}
 use Rattle.window.specs.Window.{Window, state_of, kept_out, ComesAfter, CoversDevice}
 use Rattle.journal.specs.Places.{Shape, first_home}
 use Rattle.recovery.specs.Calls.{HoldsLog}
-use Rattle.recovery.specs.Calls.{IsLaid, LayingLeaves, AreSizes}
+use Rattle.recovery.specs.Calls.{IsLaid, LayingLeaves}
 use Rattle.journal.specs.Standing.{HasShape}
 use Rattle.recovery.specs.Recovered.{IsMigrationBy, IsMigrationRefusal, MigrationLeaves}
 use Rattle.recovery.specs.Recovered.{most_migration_sends}
@@ -14,13 +13,6 @@ use Rattle.recovery.specs.declared.start_fault.StartFault.TheVariants.{NoMemory}
 use Rattle.recovery.specs.declared.start_fault.StartFault.TheVariants as fault_of_start
 use Rattle.medium.specs.Sent.{sent}
 use Rattle.image_calls.specs.declared.work.Work.{Work}
-use Rattle.image_calls.specs.declared.image_fault.ImageFault.{ImageFault}
-use Rattle.image_calls.specs.declared.image_fault.ImageFault.TheVariants as fault
-
--- these bytes are no first sectors of a device of `sectors` sectors
-abbrev pub IsNoLength : List ℕ → ℕ → Type 0
-IsNoLength near sectors = (length near ≡ 0) ⊎ (length near % 512 ≢ 0)
-    ⊎ (512 * sectors < length near)
 
 -- Wherever among the calls that wait the device is, a cut of it leaves what a cut at some moment of
 -- those calls could; they are all that was given to it since.

@@ -1,5 +1,5 @@
 -- What an image is begun on: by a plan, or by the super of the image that is there.
-use Rattle.std.specs.Prelude.{◌≡◌, ◌≢◌, ◌⊎◌, ℕ, ◌+◌, ◌*◌, ◌≤◌, List, length, MatchResult}
+use Rattle.std.specs.Prelude.{◌≡◌, ◌≢◌, ◌⊎◌, ℕ, ◌+◌, ◌≤◌, List, length, MatchResult}
 use Rattle.std.specs.Prelude.{Result, Option, Some, None, zero, suc}
 use Rattle.medium.specs.Writes.{sector_of}
 use Rattle.journal.specs.Places.{Shape, shape_with, first_home}
@@ -9,7 +9,8 @@ use Rattle.recovery.specs.Recovered.{IsMigrationRefusal, most_migration_sends}
 use Rattle.recovery.specs.declared.start_fault.StartFault.{StartFault}
 use Rattle.recovery.specs.declared.start_fault.StartFault.TheVariants as start
 use Rattle.window.specs.Window.{Window, state_of, fresh}
-use Rattle.image_calls.specs.Images.{IsNoLength, IsMigratedOn, IsWhole}
+use Rattle.store_calls.specs.Starts.{IsNoLength}
+use Rattle.image_calls.specs.Images.{IsMigratedOn, IsWhole}
 use Rattle.image_calls.specs.Machines.{Machine, Begins}
 use Rattle.image_calls.specs.declared.image_fault.ImageFault.{ImageFault}
 use Rattle.image_calls.specs.declared.image_fault.ImageFault.TheVariants as fault

@@ -1,6 +1,6 @@
 -- A machine whose calls a device carries out, neighbouring sectors together.
-use Rattle.std.specs.Prelude.{◌≡◌, ◌≢◌, ◌⊎◌, ◌≤◌, ◌+◌, ◌-◌, ◌*◌, ◌/◌, ℕ, zero, suc, Bool, true}
-use Rattle.std.specs.Prelude.{false, List, [], ◌∷◌, ◌++◌, length, take, min, max, Result, Ok, Err}
+use Rattle.std.specs.Prelude.{◌≡◌, ◌≢◌, ◌⊎◌, ◌≤◌, ◌+◌, ◌-◌, ◌*◌, ◌/◌, ℕ, Bool, true}
+use Rattle.std.specs.Prelude.{false, List, [], ◌∷◌, length, take, min, max, Result, Ok, Err}
 use Rattle.medium.specs.Medium.{Image}
 use Rattle.medium.specs.Tally.{Tally, none}
 use Rattle.medium.specs.Writes.{sector_of}
@@ -16,6 +16,7 @@ use Rattle.window.specs.declared.ask.DeviceAsk.TheVariants as ask
 use Rattle.window.specs.declared.ask.DeviceRead.{DeviceRead}
 use Rattle.window.specs.declared.done_fault.DoneFault.{DoneFault}
 use Rattle.window.specs.declared.done_fault.DoneFault.TheVariants as fault
+use Rattle.store_calls.specs.Outbox.{writes_of}
 use Rattle.image_calls.specs.Carried.{IsCarried, AsksFor, Hears, EndsRead, ended_by}
 use Rattle.image_calls.specs.Runs.{HoldsOf, HoldsRead}
 use Rattle.image_calls.specs.Stepping.{TellsNone, IsAnswered, WritesTo}
@@ -25,12 +26,6 @@ use Rattle.image_calls.specs.declared.carried.Carried.{Carried}
 use Rattle.image_calls.specs.declared.running.Running.{Running}
 
 -- ---- what the device is handed
-
--- writes of this many sectors of these bytes, in order, to those from this one on
-abbrev pub writes_of : ℕ → ℕ → List ℕ → List DeviceCall
-writes_of zero sector bytes = []
-writes_of (suc count) sector bytes = writes_of count sector bytes
-    ++ device.Write (record { sector = sector + count; block = sector_of bytes count }) ∷ []
 
 -- it is to write or to flush this, where these bytes lie at the front of the buffer
 abbrev pub handed : DeviceAsk → List ℕ → List DeviceCall

@@ -7,9 +7,7 @@ ghost use Rattle.image_calls.specs.declared.asked.Asked.TheVariants as asked;
 
 use crate::asked::Asked;
 use medium::{Call, Machine, MediumFault};
-use window::{DeviceAsk, DeviceRead, DoneFault, WindowMedium, put_sector};
-
-const SECTOR: usize = 512;
+use window::{DeviceAsk, DeviceRead, DoneFault, SECTOR, WindowMedium, put_sector};
 
 /// A machine, and the device that carries out its calls: what its next call is, and how that ended.
 #[derive(Drop)]

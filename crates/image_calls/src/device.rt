@@ -4,13 +4,11 @@ ghost use Rattle.store_calls.specs.Outbox.{IsNoRoom, IsLongestRun};
 ghost use Rattle.image_calls.specs.Machines.{Asks, AsksBy, AsksForNext, GoesOn};
 ghost use Rattle.image_calls.specs.declared.image_asked.ImageAsked.TheVariants as asked;
 
-use crate::image_asked::{ImageAsked, ImageCall};
 use crate::going::go_on;
+use crate::image_asked::{ImageAsked, ImageCall};
 use crate::machine::ImageMachine;
 use medium::Outlet;
-use window::{DeviceAsk, DeviceCall, WindowMedium, device_laws};
-
-const SECTOR: usize = 512;
+use window::{DeviceAsk, DeviceCall, SECTOR, WindowMedium, device_laws};
 
 impl ImageMachine {
     /// What the device is to do next: nothing as long as it has not told the last call done, when

@@ -2,8 +2,8 @@
 ghost use Rattle.std.specs.Prelude.{◌≡◌, ◌⊎◌, ◌<◌, ◌+◌, ◌/◌, length};
 ghost use Rattle.std.specs.Prelude.{IfOk, IfErr, OnOk, MatchResult};
 ghost use Rattle.window.specs.Window.{Window, fresh};
-ghost use Rattle.image_calls.specs.Images.{IsNoLength, IsLaidOn};
-ghost use Rattle.image_calls.specs.Images.{IsMigratedOn, IsMigratedNot, IsWhole};
+ghost use Rattle.store_calls.specs.Starts.{IsNoLength};
+ghost use Rattle.image_calls.specs.Images.{IsLaidOn, IsMigratedOn, IsMigratedNot, IsWhole};
 ghost use Rattle.image_calls.specs.Formats.{BeginsFormat};
 ghost use Rattle.image_calls.specs.Plans.{shape_by, medium_by, IsPlanFault};
 ghost use Rattle.recovery.specs.declared.start_fault.StartFault.TheVariants.{NoMemory};

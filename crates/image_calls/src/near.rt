@@ -4,8 +4,7 @@ ghost use Rattle.medium.specs.Writes.{sector_of};
 ghost use Rattle.image_calls.specs.Near.{IsNear};
 
 use journal::Super;
-
-const SECTOR: usize = 512;
+use window::SECTOR;
 
 /// How many sectors lie before the first home sector of a device that begins with this sector: 2
 /// where it is no super.

@@ -10,9 +10,7 @@ use crate::reach::Reach;
 use crate::read_end::ReadEnd;
 use std::alloc::Global;
 use std::marker::Model;
-use window::{DeviceAsk, DeviceRead, DoneFault};
-
-const SECTOR: usize = 512;
+use window::{DeviceAsk, DeviceRead, DoneFault, SECTOR};
 
 // How many sectors are read at a time at most.
 const MOST: u64 = 240;

@@ -8,9 +8,7 @@ use crate::near::near_in;
 use crate::run::Run;
 use crate::running::Running;
 use recovery::{Recovered, StartFault, Starting};
-use window::{DeviceAsk, DoneFault, WindowMedium, device_laws};
-
-const SECTOR: usize = 512;
+use window::{DeviceAsk, DoneFault, SECTOR, WindowMedium, device_laws};
 
 /// The recovery of an image, which a device carries out in runs of neighbouring sectors. It holds
 /// no log: some 37 KB whatever the image, which it takes when it is made.

@@ -4,8 +4,7 @@ ghost use Rattle.recovery.specs.Recovered.{most_migration_sends};
 ghost use Rattle.image_calls.specs.Plans.{IsRoomToMigrate};
 
 use journal::Super;
-
-const SECTOR: usize = 512;
+use window::SECTOR;
 
 /// How many calls wait at most while the image is migrated that these first sectors begin. Sector 0
 /// lies on the stack here alone.

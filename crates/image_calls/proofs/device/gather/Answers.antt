@@ -1,4 +1,4 @@
-use Rattle.std.proofs.Common.{sym, ◌∙◌, refl}
+use Rattle.std.proofs.Common.{refl}
 use Rattle.store_calls.proofs.OutboxTaken.{more}
 use Rattle.image_calls.proofs.device.gather.Goals as goal
 

@@ -1,8 +1,8 @@
-use Rattle.std.proofs.Common.{ℕ, ◌+◌, refl, ap, sym, subst, ◌∙◌, arith}
-use Rattle.window.specs.Window.{Window, fresh}
+use Rattle.std.proofs.Common.{ℕ, ◌+◌, refl, ap, subst, ◌∙◌, arith}
+use Rattle.window.specs.Window.{fresh}
 use Rattle.journal.specs.Places.{Shape, first_home}
 use Rattle.journal.specs.Formats.{shape_of}
-use Rattle.image_calls.specs.Plans.{shape_by, medium_by}
+use Rattle.image_calls.specs.Plans.{medium_by}
 use Rattle.image_calls.specs.Images.{IsLaidOn}
 use Rattle.image_calls.proofs.Laid.{laid_on}
 use Rattle.image_calls.proofs.LayFaults.{never_fails}

@@ -1,5 +1,4 @@
-use Rattle.std.proofs.Common.{◌≤◌, refl, arith, ℕ}
-use Rattle.journal.specs.Places.{sectors_of}
+use Rattle.std.proofs.Common.{refl, arith}
 use Rattle.journal.specs.Formats.{shape_of}
 use Rattle.recovery.specs.Calls.{AreSizes}
 use Rattle.image_calls.proofs.OnWay.{begun}

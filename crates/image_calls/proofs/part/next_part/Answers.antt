@@ -1,6 +1,5 @@
-use Rattle.std.proofs.Common.{◌≡◌, sym, ap, subst, arith}
+use Rattle.std.proofs.Common.{sym, ap, subst, arith}
 use Rattle.journal.specs.Places.{Shape, first_home, sectors_of}
-use Rattle.journal.specs.Formats.{shape_of}
 use Rattle.recovery.specs.Calls.{IsLaid, LayingLeaves}
 use Rattle.image_calls.proofs.OnWay.{cleared, made}
 use Rattle.image_calls.proofs.part.next_part.Goals as goal
