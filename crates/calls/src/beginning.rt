@@ -3,7 +3,7 @@ ghost use Rattle.std.specs.Prelude.{◌≡◌, ◌⊎◌, ℕ, List, IfOk, IfErr
 ghost use Rattle.bot_machine.specs.Device.{device_by, Ahead};
 ghost use Rattle.store_calls.specs.Starts.{IsNoLength};
 ghost use Rattle.image_calls.specs.Reading.{IsWhole, IsSound};
-ghost use Rattle.calls.specs.Starting.{GoesOn, BeginsAs, BeginsDisk, StartsOn, IsRefusedOn};
+ghost use Rattle.calls.specs.Starting.{GoesOn, BeginsDisk, StartsOn, IsRefusedOn};
 ghost use Rattle.calls.specs.Starting.{medium_on};
 ghost use Rattle.recovery.specs.declared.start_fault.StartFault.TheVariants.{NoMemory, BadSuper};
 
@@ -28,20 +28,9 @@ impl Purpose {
         ghost content: { List ℕ }
         ensures { GoesOn content self.now opening result }
     {
-        if opening.is_whole() {
-            self.begin_on(alloc, opening)
-        } else {
-            Stage::Opening(opening)
+        if !opening.is_whole() {
+            return Stage::Opening(opening);
         }
-    }
-
-    // What was started begins, on these first sectors.
-    fn begin_on(&self, alloc: Global, opening: Opening) -> Stage
-        ghost content: { List ℕ }
-        requires whole { IsWhole opening }
-        requires sound { IsSound opening }
-        ensures { BeginsAs content self.now opening result }
-    {
         match self {
             Purpose::Disk(identity, size) => begin_disk(alloc, opening, *identity, *size),
             Purpose::Store => begin_store(alloc, opening),
