@@ -31,7 +31,7 @@ use Rattle.std.specs.contracts.impls.GlobalAllocator.TheImpl.{ghosts}
 use Rattle.calls.specs.Owned.{chunk, owned}
 use Rattle.calls.specs.contracts.handle.UsbDisk as handle
 use Rattle.calls.specs.HeldRow.{held_row}
-use Rattle.store_calls.specs.contracts.parts.Parts as parts
+use Rattle.calls.specs.contracts.parts.Parts as parts
 
 -- the disk, the allocator, the handle and the parts as rows
 abbrev pub R : RattleType

@@ -16,6 +16,7 @@ mod lending;
 mod memory;
 mod moves;
 mod options;
+mod parts;
 mod recover;
 mod reserve;
 mod starting;

@@ -4,10 +4,10 @@ ghost use Rattle.std.specs.Prelude.{◌≡◌, true, false, Some, None, IsSome, 
 use crate::handle::UsbDisk;
 use crate::held::Held;
 use crate::lending::held_in;
+use crate::parts::Parts;
 use crate::turns::{empty, handle_of, parts_of};
 use std::alloc::Global;
 use std::mem;
-use store_calls::Parts;
 
 /// What the handle holds, which leaves the handle empty.
 pub(crate) fn reclaim(h: &mut UsbDisk, alloc: Global) -> Option<Box<Held>>

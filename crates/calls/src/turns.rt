@@ -3,9 +3,9 @@ ghost use Rattle.std.specs.Prelude.{◌≡◌, Some, None, MatchOption};
 
 use crate::handle::{Opaque, UsbDisk};
 use crate::held::Held;
+use crate::parts::Parts;
 use std::alloc::Global;
 use std::ptr;
-use store_calls::Parts;
 
 /// The handle that holds nothing.
 pub(crate) fn empty() -> UsbDisk

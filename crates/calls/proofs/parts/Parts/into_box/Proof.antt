@@ -36,14 +36,14 @@ use Rattle.std.proofs.alloc.Calls.{token, Goes-blank}
 use Rattle.std.specs.Box.Ownership.{box_owns}
 use Rattle.std.proofs.BoxSteps.Form.{Bx, D, R, P, B, args, box_ty, word, box_typed}
 use Rattle.std.proofs.BoxSteps.Steps.{box_out, box_in}
-use Rattle.store_calls.specs.contracts.parts.Parts as parts
+use Rattle.calls.specs.contracts.parts.Parts as parts
 use Rattle.std.specs.contracts.boxed.Box.from_raw as Fr
 use Rattle.std.proofs.boxed.Box.from_raw.Symbol as raw_sym
 use Rattle.std.proofs.boxed.Box.from_raw.Met as raw_met
-use Rattle.store_calls.specs.contracts.parts.Parts.into_box as F
-use Rattle.store_calls.specs.contracts.parts.Parts.into_box.Key.{name as #self}
-use Rattle.store_calls.proofs.parts.Parts.into_box.Statement as stated
-use Rattle.store_calls.proofs.parts.Parts.into_box.Code as code
+use Rattle.calls.specs.contracts.parts.Parts.into_box as F
+use Rattle.calls.specs.contracts.parts.Parts.into_box.Key.{name as #self}
+use Rattle.calls.proofs.parts.Parts.into_box.Statement as stated
+use Rattle.calls.proofs.parts.Parts.into_box.Code as code
 
 abbrev rest : Body
 rest = seq (assign (place 0 []) (rv_opd (copy (place 4 [])))) return
