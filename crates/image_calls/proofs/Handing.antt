@@ -1,5 +1,5 @@
 -- What the device of a machine is handed, and which sectors stay held.
-use Rattle.std.proofs.Common.{◌≡◌, ◌≢◌, ◌+◌, ◌*◌, ◌<◌, ℕ, zero, suc, List, [], ◌∷◌, ◌++◌, length, inl, inr}
+use Rattle.std.proofs.Common.{◌≡◌, ◌≢◌, ◌+◌, ◌*◌, ◌<◌, ℕ, suc, List, [], ◌∷◌, ◌++◌, length, inl, inr}
 use Rattle.std.proofs.Common.{refl, sym, ◌∙◌, ap, subst, arith, append_assoc, Option}
 use Rattle.std.proofs.lemmas.List.{append-nil}
 use Rattle.medium.specs.Medium.{Image, Stays, Holds}
@@ -15,6 +15,7 @@ use Rattle.window.specs.Window.{Window, state_of, mirror_of, reads, gives}
 use Rattle.window.proofs.Shown.{front}
 use Rattle.image_calls.specs.Runs.{HoldsOf, HoldsRead, LetsGo}
 use Rattle.store_calls.specs.Outbox.{writes_of}
+use Rattle.store_calls.proofs.OutboxTaken.{same_writes}
 use Rattle.image_calls.specs.Running.{HandedOut}
 use Rattle.image_calls.specs.declared.run.Run.{Run}
 use Rattle.image_calls.proofs.Carrying.{none_came, asked_more, gave_more}
@@ -65,14 +66,6 @@ handed_on calls n k j f g =
     subst (λ (l : List DeviceCall). HandedOut l n j) (append-nil calls) (handed_through calls [] n k j f g)
 
 -- ---- runs of writes
-
--- sectors that hold the same give the same writes
-same_writes : (count sector : ℕ) (was filled : List ℕ) → ((i : ℕ) → i < count → sector_of filled i ≡ sector_of was i)
-    → writes_of count sector was ≡ writes_of count sector filled
-same_writes zero sector was filled same = refl
-same_writes (suc count) sector was filled same =
-    (λ i. same_writes count sector was filled (λ k lt. same k (omega (arith, lt))) i
-    ++ device.Write (record { sector = sector + count; block = sym (same count (omega arith)) i }) ∷ [])
 
 -- one write more
 pub writes_more : (count sector : ℕ) (was filled block : List ℕ) → Holds count block (sector_of was) (sector_of filled)

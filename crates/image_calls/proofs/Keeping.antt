@@ -23,8 +23,8 @@ use Rattle.image_calls.specs.declared.image_asked.ImageAsked.TheVariants as aske
 use Rattle.image_calls.specs.declared.image_asked.ImageCall.{ImageCall}
 use Rattle.image_calls.specs.declared.image_asked.ImageCall.TheVariants as kind
 use Rattle.image_calls.proofs.NextCall.{on_way_on, has_room_on}
-use Rattle.store_calls.proofs.Handing.{taken_by}
-use Rattle.image_calls.proofs.Taken.{IsSentStill, some_go, without_more, some_first, run_waits}
+use Rattle.store_calls.proofs.Handing.{taken_by, some_first, run_waits}
+use Rattle.image_calls.proofs.Taken.{IsSentStill, some_go, without_more}
 
 -- all but what is left at rest
 pub record Keeps (old new : Machine) : Type 0 where

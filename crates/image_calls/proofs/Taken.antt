@@ -1,14 +1,11 @@
 -- Calls that leave what waits are no calls of the medium.
-use Rattle.std.proofs.Common.{◌≡◌, ◌≤◌, ◌+◌, ◌++◌, ◌∷◌, [], ℕ, zero, suc, length, List, Some, refl, sym, ◌∙◌, ap, arith}
-use Rattle.std.proofs.Common.{append_assoc, length-append}
+use Rattle.std.proofs.Common.{◌≡◌, ◌+◌, ◌++◌, ◌∷◌, [], ℕ, zero, suc, List, refl, sym, ◌∙◌, ap, arith, append_assoc}
 use Rattle.medium.specs.Moments.{IsUnchanged}
-use Rattle.medium.specs.Writes.{sector_of}
 use Rattle.medium.proofs.Moments.{unchanged, unchanged_through}
-use Rattle.window.specs.OutboxMedium.{sent, first_of}
+use Rattle.window.specs.OutboxMedium.{sent}
 use Rattle.window.specs.declared.call.DeviceCall.{DeviceCall}
-use Rattle.window.specs.declared.call.DeviceCall.TheVariants.{Write}
 use Rattle.window.specs.Window.{Window, state_of, mirror_of, take_first}
-use Rattle.store_calls.specs.Outbox.{without, writes_of, IsRun}
+use Rattle.store_calls.specs.Outbox.{without}
 
 -- what was sent stays, however much of it has left
 pub record IsSentStill (old new : Window) : Type 0 where
@@ -60,26 +57,3 @@ without_more zero before w = let same : before ≡ 0 + before = omega arith in a
 without_more (suc count) before w =
     let same : suc (count + before) ≡ suc count + before = omega arith in
     ap (λ (v : Window). take_first v.outbox v) (without_more count before w) ∙ ap (λ (n : ℕ). without n w) same
-
--- ---- how many wait
-
-pub some_first : (calls : List DeviceCall) (call : DeviceCall) → first_of calls ≡ Some call → 1 ≤ length calls
-some_first [] call is = cc
-some_first (first ∷ calls) call is = omega arith
-
-length_of_writes : (count sector : ℕ) (bytes : List ℕ) → length (writes_of count sector bytes) ≡ count
-length_of_writes zero sector bytes = refl
-length_of_writes (suc count) sector bytes = omega (
-  arith,
-  length_of_writes count sector bytes,
-  length-append (writes_of count sector bytes) (Write (record { sector = sector + count; block = sector_of bytes count }) ∷ []),
-)
-
-pub run_waits : (old new : Window) (sector count : ℕ) (room filled : List ℕ) → IsRun old new sector count room filled
-    → count ≤ length old.outbox
-run_waits old new sector count room filled run = omega (
-  arith,
-  ap (λ (l : List DeviceCall). length l) run.writes,
-  length-append (writes_of count sector filled) new.outbox,
-  length_of_writes count sector filled,
-)

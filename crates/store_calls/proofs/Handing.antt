@@ -102,7 +102,7 @@ handed_stands old new count hands le = record {
   waits = λ waits is. ap (λ (s : Machine). is_behind s.asked s.store.medium.outbox) hands.others;
 }
 
-some_first : (calls : List DeviceCall) (call : DeviceCall) → first_of calls ≡ Some call → 1 ≤ length calls
+pub some_first : (calls : List DeviceCall) (call : DeviceCall) → first_of calls ≡ Some call → 1 ≤ length calls
 some_first [] call is = cc
 some_first (first ∷ calls) call is = omega arith
 
@@ -118,7 +118,7 @@ length_of_writes (suc count) sector bytes = omega (
   length-append (writes_of count sector bytes) (Write (record { sector = sector + count; block = sector_of bytes count }) ∷ []),
 )
 
-run_waits : (old new : Window) (sector count : ℕ) (room filled : List ℕ) → IsRun old new sector count room filled
+pub run_waits : (old new : Window) (sector count : ℕ) (room filled : List ℕ) → IsRun old new sector count room filled
     → count ≤ length old.outbox
 run_waits old new sector count room filled run = omega (
   arith,

@@ -19,7 +19,7 @@ taken_out [] w call is = cc
 taken_out (first ∷ rest) w call is = let same : first ≡ call = cc in ap (λ (x : DeviceCall). x ∷ rest) same
 
 -- sectors that hold the same give the same writes
-same_writes : (count sector : ℕ) (was filled : List ℕ) → ((i : ℕ) → i < count → sector_of filled i ≡ sector_of was i)
+pub same_writes : (count sector : ℕ) (was filled : List ℕ) → ((i : ℕ) → i < count → sector_of filled i ≡ sector_of was i)
     → writes_of count sector was ≡ writes_of count sector filled
 same_writes zero sector was filled same = refl
 same_writes (suc count) sector was filled same =
