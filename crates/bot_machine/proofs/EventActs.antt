@@ -16,7 +16,7 @@ use Rattle.spec.specs.Exchange.{Script, finished, taking, sending, at_once, mome
 use Rattle.spec.specs.Conversation.{Conversation, OpensExchange, Takes, OutStep}
 use Rattle.spec.specs.UnitConversation.{Intends, way_of, UnitStep, write_of_packet, write_of_event}
 use Rattle.bot_machine.specs.Acts.{CarriesOutAtOnce, CarriesOutLast, PacketCarriesOut, EventCarriesOut}
-use Rattle.bot_machine.proofs.Cases.{at_once-takes_none}
+use Rattle.bot_machine.proofs.Wrappers.{at_once-takes_none}
 use Rattle.bot_machine.proofs.UnitLaws.{writes_none}
 
 -- something that holds with no write where the unit makes a step in the background at most

@@ -12,7 +12,7 @@ use Rattle.bot_machine.specs.Acts.{CarriesOutAtOnce}
 use Rattle.bot_machine.specs.declared.exchange.Exchange.{Exchange}
 use Rattle.bot_machine.specs.Serving.{IsBegun}
 use Rattle.bot_machine.proofs.UnitLaws.{intends_by_book, writes_none}
-use Rattle.bot_machine.proofs.Cases.{at_once-takes_none}
+use Rattle.bot_machine.proofs.Wrappers.{at_once-takes_none}
 
 -- a unit and a book of its size, and the exchange that a packet begins
 module _ {M : Type 0} (unit : UnitValue M) (book : Book) (size : IsOfSize unit book)

@@ -5,7 +5,7 @@ pub mod FrontBytes
 pub mod UnitLaws
 pub mod FaultedDisk
 pub mod UnitMoments
-pub mod Cases
+pub mod Wrappers
 pub mod ReadAtOnce
 pub mod ExchangeStarts
 pub mod ToldPromises

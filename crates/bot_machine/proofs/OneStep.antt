@@ -6,8 +6,8 @@ use Rattle.spec.specs.declared.way.Way.{Way}
 use Rattle.spec.specs.declared.case.Case.{Case}
 use Rattle.spec.specs.Cases.{IsCase}
 use Rattle.spec.specs.CommandWrapper.{SpellsCommand}
-use Rattle.wrappers.proofs.CommandWrappers.{one_wrapper}
-use Rattle.wrappers.proofs.ThirteenCases.{one_case}
+use Rattle.bot_machine.proofs.Wrappers.{one_wrapper}
+use Rattle.bot_machine.proofs.Wrappers.{one_case}
 use Rattle.spec.specs.Book.{StampsOut}
 use Rattle.spec.specs.Rules.{UnitState, CarriesOut, Ticks, write_in_progress, with_progress}
 use Rattle.spec.specs.declared.event.Event.{Event}
@@ -18,7 +18,7 @@ use Rattle.spec.specs.Exchange.{Line, Script, finished, taking, sending, Moment,
 use Rattle.spec.specs.Conversation.{Conversation, IsCarriedOut, Begins, OpensExchange, Takes, OutStep, SetupStep}
 use Rattle.spec.specs.UnitConversation.{Intends, way_of, write_of_packet, UnitStep}
 use Rattle.bot_machine.specs.Striking.{HasStamps}
-use Rattle.bot_machine.proofs.Cases.{at_once-takes_none}
+use Rattle.bot_machine.proofs.Wrappers.{at_once-takes_none}
 use Rattle.bot_machine.proofs.UnitLaws.{writes_none, one_answer, no_tick}
 
 -- conversations are the same where line and unit are

@@ -20,7 +20,7 @@ use Rattle.spec.specs.Exchange.{finished, at_once, after_data, moment_of}
 use Rattle.bot_machine.specs.Reading.{sectors_in, sectors_for, WrapperReads, WrapperReadsNone, ReadsHome, ReadsNoHome, LooksBesides}
 use Rattle.bot_machine.specs.Reading.{WrapperReadsAt}
 use Rattle.bot_machine.specs.Serving.{IsBegun}
-use Rattle.bot_machine.proofs.Cases.{after_data-sends_none}
+use Rattle.bot_machine.proofs.Wrappers.{after_data-sends_none}
 
 -- a command that is not about to send anything reads nothing at home
 pub none_for : {M : Type 0} (unit : UnitValue M) (block : List ℕ) → ((n : ℕ) → intention_of unit block ≢ intent.In n)

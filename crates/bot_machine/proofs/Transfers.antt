@@ -9,7 +9,7 @@ use Rattle.spec.specs.declared.case.Case.{Case}
 use Rattle.spec.specs.declared.status.Status.TheVariants.{PhaseError}
 use Rattle.spec.specs.Cases.{IsCase, size_of_way}
 use Rattle.spec.specs.CommandWrapper.{SpellsCommand}
-use Rattle.wrappers.proofs.CommandWrappers.{one_wrapper}
+use Rattle.bot_machine.proofs.Wrappers.{one_wrapper}
 use Rattle.spec.specs.Book.{StampsOut}
 use Rattle.spec.specs.Sense.{Sense}
 use Rattle.spec.specs.Rules.{UnitState, CarriesOut, Ticks, write_in_progress, with_progress}
@@ -24,7 +24,7 @@ use Rattle.bot_machine.specs.Transfers.{Transfer, packet_out, Asks, events_of, p
 use Rattle.bot_machine.specs.Transfers.{SizesAreAlike}
 use Rattle.bot_machine.specs.Striking.{HasStamps}
 use Rattle.bot_machine.proofs.Packets.{packets_of-more, packets_of-none}
-use Rattle.bot_machine.proofs.Cases.{at_once-takes_none}
+use Rattle.bot_machine.proofs.Wrappers.{at_once-takes_none}
 use Rattle.bot_machine.proofs.FrontBytes.{last_packet}
 use Rattle.bot_machine.proofs.UnitLaws.{writes_none, one_answer}
 use Rattle.bot_machine.proofs.OneStep.{opens_as}

@@ -7,6 +7,8 @@ pub use Rattle.scsi_unit.specs.Retiring
 pub use Rattle.scsi_unit.specs.StartFaults
 pub use Rattle.scsi_unit.specs.Starting
 pub use Rattle.scsi_unit.specs.UnitValue
+pub mod Command
+pub mod Cases
 pub mod Device
 pub mod Turns
 pub mod Acts

@@ -21,11 +21,14 @@ ghost use Rattle.scsi_unit.specs.Reading.{IsOneOf};
 ghost use Rattle.bot_machine.specs.Reading.{sectors_for, WrapperReadsAt};
 
 use crate::bulk_state::{BulkState, Phase, Taking};
+use crate::command::read_cbw;
 use crate::exchange::{Exchange, When, after_failure, size_sent, way_of_intent, when_carried_out};
+use crate::status::write_csw;
+use crate::table::case_of;
 use medium::Medium;
 use scsi_unit::{Intent, Unit};
+use spec::Status;
 use std::mem;
-use wrappers::{Status, case_of, read_cbw, write_csw};
 
 // Carries out the command of an exchange over the bytes taken, and lays out what is sent. One that
 // waited for its data sends none, so that the bytes taken may lie in the buffer itself.

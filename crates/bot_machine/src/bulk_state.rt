@@ -1,6 +1,6 @@
 //! The line to the host: halts, the lock, and what is left of the exchange.
 ghost use Rattle.std.specs.Prelude.{◌≡◌, ◌≢◌, ◌<◌, ℕ, List, Some, true};
-ghost use Rattle.wrappers.specs.Cases.{IsPossible};
+ghost use Rattle.bot_machine.specs.Cases.{IsPossible};
 ghost use Rattle.spec.specs.Rules.{Intention};
 ghost use Rattle.spec.specs.Exchange.{after_request, at_rest, set_halt, halted};
 ghost use Rattle.spec.specs.Exchange.{outcome_for, status_for};
@@ -10,8 +10,9 @@ ghost use Rattle.bot_machine.specs.Refinement.{halt_of, line_of, IsInPhase};
 ghost use Rattle.bot_machine.specs.LineChanges.{ChangesLine, LaysOut, MovesOn};
 
 use crate::exchange::Exchange;
-use spec::PacketSize;
-use wrappers::{Case, Endpoint, Status, outcome, write_csw};
+use crate::status::write_csw;
+use crate::table::outcome;
+use spec::{Case, Endpoint, PacketSize, Status};
 
 // The data of a command that is being taken: `filled` of the intended bytes came already, and `due`
 // bytes are still to come.

@@ -5,7 +5,7 @@ ghost use Rattle.spec.specs.UnitConversation.{way_of};
 ghost use Rattle.bot_machine.specs.Refinement.{moment_meant, sent_size};
 
 use scsi_unit::Intent;
-use wrappers::{Case, Cbw, Way};
+use spec::{Case, Cbw, Way};
 
 // A command, what the unit intended for it when its wrapper came, and the case that this makes.
 #[derive(Drop)]

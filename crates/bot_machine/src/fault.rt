@@ -10,7 +10,7 @@ ghost use Rattle.bot_machine.specs.LineChanges.{ChangesLine};
 use crate::bulk_state::{BulkState, Phase};
 use crate::disk::Disk;
 use medium::Medium;
-use wrappers::Status;
+use spec::Status;
 
 // The place of the status in a status wrapper.
 const STATUS_AT: usize = 12;

@@ -5,6 +5,7 @@
 mod answers;
 mod bulk_out;
 mod bulk_state;
+mod command;
 mod disk;
 mod event;
 mod exchange;
@@ -16,12 +17,17 @@ mod reading;
 mod request;
 mod run;
 mod start;
+mod status;
+mod table;
 
 pub use answers::Answers;
+pub use command::{CbwFault, read_cbw};
 pub use disk::Disk;
 pub use event::{InAnswer, OutAnswer, SetupAnswer};
 pub use laws::{book_laws, conversation_laws, packet_laws, policy_laws};
 pub use lives::{Life, Lives, run_lives, run_lives_by, run_lives_with};
 pub use run::{answer_to, run_events};
 pub use scsi_unit::{HomeSectors, Identity, Retiring, StartError, StartFault, Work};
-pub use spec::{Answer, Event, PacketSize};
+pub use spec::{Answer, Case, Cbw, Endpoint, Event, Outcome, PacketSize, Status, Way};
+pub use status::write_csw;
+pub use table::{case_of, outcome};

@@ -11,7 +11,7 @@ use crate::disk::Disk;
 use crate::exchange::Exchange;
 use medium::Medium;
 use scsi_unit::{HomeSectors, Unit};
-use wrappers::Case;
+use spec::Case;
 
 // What is read in the event of the wrapper: in the cases that send, what the command reads.
 fn sectors_in(case: Case, wanted: Option<HomeSectors>) -> Option<HomeSectors>

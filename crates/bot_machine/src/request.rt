@@ -3,7 +3,7 @@ ghost use Rattle.std.specs.Prelude.{◌≡◌, ◌≢◌, MatchOption};
 ghost use Rattle.bot_machine.specs.Refinement.{request_meant};
 ghost use Rattle.spec.specs.Requests.{Request, setup_packet};
 
-use wrappers::Endpoint;
+use spec::Endpoint;
 
 // A control request that the transport knows.
 #[derive(Clone, Copy)]

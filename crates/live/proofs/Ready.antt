@@ -10,7 +10,7 @@ use Rattle.window.specs.Story as story
 use Rattle.spec.specs.declared.case.Case.{Case}
 use Rattle.spec.specs.declared.case.Case.TheVariants.{C5, C6}
 use Rattle.spec.specs.declared.wrapper.Cbw.{Cbw}
-use Rattle.wrappers.proofs.CommandWrappers.{one_wrapper}
+use Rattle.bot_machine.proofs.Wrappers.{one_wrapper}
 use Rattle.window.specs.Window.{Window, state_of, is_in_sight, ComesAfter, IsServed}
 use Rattle.window.specs.Looks.{near_in_sight, shown_in_sight, none_refused, none_kept_out}
 use Rattle.scsi_unit.specs.Reading.{first_home_of}

@@ -3,7 +3,7 @@ ghost use Rattle.std.specs.Prelude.{◌≡◌, ◌↔◌, ◌<◌, ◌≤◌, �
 ghost use Rattle.std.specs.Prelude.{length, take};
 ghost use Rattle.spec.specs.CommandWrapper.{command_signature, Announces, IsMeaningful};
 ghost use Rattle.spec.specs.CommandWrapper.{SpellsCommand, SpellsNone};
-ghost use Rattle.wrappers.specs.Command.{HasFault};
+ghost use Rattle.bot_machine.specs.Command.{HasFault};
 
 use arrayvec::ArrayVec;
 use byteorder::{ByteOrder, LittleEndian};

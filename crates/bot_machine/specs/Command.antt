@@ -1,7 +1,8 @@
 -- Command block wrappers, as bytes.
 use Rattle.std.specs.Prelude.{◌≡◌, ◌≢◌, ℕ, List, length, take}
-use Rattle.wrappers.specs.declared.command.CbwFault.{CbwFault}
-use Rattle.wrappers.specs.declared.command.CbwFault.TheVariants.{Length, Signature, NotMeaningful}
+use Rattle.bot_machine.specs.declared.command.CbwFault.{CbwFault}
+use Rattle.bot_machine.specs.declared.command.CbwFault.TheVariants.{Length, Signature}
+use Rattle.bot_machine.specs.declared.command.CbwFault.TheVariants.{NotMeaningful}
 use Rattle.spec.specs.CommandWrapper.{IsMeaningful, IsValid, command_signature}
 
 -- the one fault of a packet that spells no command block wrapper

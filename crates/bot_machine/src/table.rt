@@ -1,7 +1,7 @@
 //! The thirteen cases, and what comes of each.
 ghost use Rattle.std.specs.Prelude.{◌≡◌};
 ghost use Rattle.spec.specs.Cases.{IsCase, outcome_of, size_of_way};
-ghost use Rattle.wrappers.specs.Cases.{IsPossible, IsWellFormed, IsFit, intention_in};
+ghost use Rattle.bot_machine.specs.Cases.{IsPossible, IsWellFormed, IsFit, intention_in};
 
 use spec::{Case, Endpoint, Outcome, Way};
 use std::cmp::Ordering;

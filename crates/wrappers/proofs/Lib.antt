@@ -1,2 +1,0 @@
-pub mod CommandWrappers
-pub mod ThirteenCases
