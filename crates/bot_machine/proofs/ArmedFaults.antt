@@ -10,9 +10,8 @@ use Rattle.bot_machine.specs.declared.lives.disk_state.DiskState.TheVariants.{St
 use Rattle.bot_machine.specs.Disk.{DiskValue}
 use Rattle.spec.specs.Lives.{Action, Standing, LivesStep, arms, fails, Place}
 use Rattle.bot_machine.specs.Moving.{Does}
-use Rattle.bot_machine.proofs.Moved.{one_move, none_refused}
+use Rattle.bot_machine.proofs.Moved.{one_move, none_refused, one_fuse_more}
 use Rattle.bot_machine.specs.LivesValue.{medium_in, state_in, HasLimit, IsAt, LimitAt, FoundAt, AreCaused, LivesGoOn}
-use Rattle.bot_machine.proofs.Caused.{one_fuse_more}
 use Rattle.bot_machine.proofs.LifeActions.{lives_at, one_run}
 
 module _ (device : Device) where

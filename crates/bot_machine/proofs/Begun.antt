@@ -21,13 +21,11 @@ use Rattle.bot_machine.specs.Disk.{DiskValue, over}
 use Rattle.spec.specs.UnitConversation.{on_line}
 use Rattle.bot_machine.specs.Opening.{IsOpened, IsNotOpened, StartLeaves}
 use Rattle.spec.specs.Lives.{starts, Place, runs, off, Standing, Opens, KeepsLimit, started, LifeBegins}
-use Rattle.bot_machine.specs.LivesValue.{medium_in, state_in, HasBegun, HasLimit, book_at, LeavesLimit, FitsLives}
-use Rattle.bot_machine.specs.LivesValue.{LivesGoTo, LivesGoOn, MayRefuse}
-use Rattle.bot_machine.specs.LivesValue.{LivesStop}
+use Rattle.bot_machine.specs.LivesValue.{medium_in, state_in, HasBegun, HasLimit, book_at, LeavesLimit, FitsLives, LivesGoTo, LivesGoOn}
+use Rattle.bot_machine.specs.LivesValue.{MayRefuse, LivesStop}
 use Rattle.scsi_unit.specs.Serving.{has_refused}
 use Rattle.bot_machine.specs.Moving.{StartsIn}
-use Rattle.bot_machine.proofs.Moved.{some_refused}
-use Rattle.bot_machine.proofs.Caused.{caused_once}
+use Rattle.bot_machine.proofs.Moved.{some_refused, caused_once}
 use Rattle.bot_machine.proofs.LifeActions.{lives_at, stays, called_once, one_run, one_counted, armed_then, on_or_off}
 use Rattle.bot_machine.proofs.LifeStarts.{WouldOpen, with_shape, flushed_at, starts_at, keeps_same, keeps_limit, would_open, has_opened}
 use Rattle.bot_machine.proofs.UnitLaws.{between_calls, limit_between_calls, start_keeps_limit, knows_images}

@@ -29,14 +29,12 @@ use Rattle.bot_machine.specs.Disk.{DiskValue, over, FitsDisk, IsStep}
 use Rattle.spec.specs.Rules.{UnitState}
 use Rattle.scsi_unit.specs.UnitValue.{unit_limit}
 use Rattle.bot_machine.proofs.UnitLaws.{limit_between_calls}
-use Rattle.spec.specs.Lives.{Action, plays, cuts, Remains, Place, before_first, runs, off, Standing, after_cut, LivesStep}
-use Rattle.spec.specs.Lives.{LivesRun}
+use Rattle.spec.specs.Lives.{Action, plays, cuts, Remains, Place, before_first, runs, off, Standing, after_cut, LivesStep, LivesRun}
 use Rattle.spec.specs.Blocks.{Array}
 use Rattle.bot_machine.specs.Moving.{Does, EventMovesIn, EventMoves}
-use Rattle.bot_machine.proofs.Moved.{one_move, none_refused, some_refused}
-use Rattle.bot_machine.proofs.Caused.{caused_once}
-use Rattle.bot_machine.specs.LivesValue.{LivesValue, medium_in, state_in, OpensOn, HasLimit, IsAt, LimitAt, book_at}
-use Rattle.bot_machine.specs.LivesValue.{FoundAt, FitsLives, LivesGoTo, LivesGoOn}
+use Rattle.bot_machine.proofs.Moved.{one_move, none_refused, some_refused, caused_once}
+use Rattle.bot_machine.specs.LivesValue.{LivesValue, medium_in, state_in, OpensOn, HasLimit, IsAt, LimitAt, book_at, FoundAt, FitsLives}
+use Rattle.bot_machine.specs.LivesValue.{LivesGoTo, LivesGoOn}
 use Rattle.scsi_unit.specs.Serving.{has_refused}
 
 -- one action is a run

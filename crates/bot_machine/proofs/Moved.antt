@@ -1,5 +1,6 @@
 -- What is done to a disk and to its medium, one action after another.
-use Rattle.std.proofs.Common.{◌≡◌, ◌<◌, Bool, true, false, List, [], ◌∷◌, ◌++◌, refl, sym, subst, ◌∙◌, ap, arith, append_assoc}
+use Rattle.std.proofs.Common.{◌≡◌, ◌<◌, Bool, true, false, List, [], ◌∷◌, ◌++◌, refl, sym, subst, ◌∙◌, ap, arith, append_assoc, ℕ, ◌+◌, ◌≤◌}
+use Rattle.std.proofs.Common.{if◌then◌else◌, Some}
 use Rattle.std.proofs.lemmas.Bool.{lt-ltb, le-ltb}
 use Rattle.std.proofs.lemmas.List.{append-nil}
 use Rattle.bot_machine.specs.Device.{Device}
@@ -9,6 +10,13 @@ use Rattle.spec.specs.declared.event.Answer.{Answer}
 use Rattle.bot_machine.specs.declared.lives.disk_state.DiskState.{DiskState}
 use Rattle.spec.specs.Lives.{Action}
 use Rattle.bot_machine.specs.Moving.{state_in, Does, MovesBy}
+use Rattle.std.proofs.lemmas.List.Sums.{sum_by-append}
+use Rattle.medium.specs.Power.{faults_in}
+use Rattle.medium.specs.Sim.{Sim, state_of, ComesAfter}
+use Rattle.medium.proofs.SimCalls.{keeps_power}
+use Rattle.spec.specs.Conversation.{refused_events}
+use Rattle.bot_machine.specs.LivesValue.{is_fault, faults_armed, AreCaused, HasPackets, LivesGoOn}
+use Rattle.bot_machine.specs.Lifetimes.{causes_in}
 
 -- where no more calls were refused, none was
 pub none_refused : (before after : State) → after.failures ≡ before.failures → false ≡ has_refused before after
@@ -42,3 +50,57 @@ MovesBy-append device (x ∷ xs) ys told more (refused ∷ refusals) others a b 
 )
 MovesBy-append device [] ys told more (refused ∷ refusals) others a b c r s = absurd r
 MovesBy-append device (x ∷ xs) ys told more [] others a b c r s = absurd r
+
+-- events with a refused call are counted one list after the other
+pub refused_events-append : (xs ys : List Bool) → refused_events (xs ++ ys) ≡ refused_events xs + refused_events ys
+refused_events-append [] ys = omega arith
+refused_events-append (true ∷ xs) ys = omega (arith, refused_events-append xs ys)
+refused_events-append (false ∷ xs) ys = refused_events-append xs ys
+
+-- and so are the faults that actions arm
+faults_armed-append : (xs ys : List Action) → faults_armed (xs ++ ys) ≡ faults_armed xs + faults_armed ys
+faults_armed-append xs ys = sum_by-append (λ (action : Action). if is_fault action then 1 else 0) xs ys
+
+one_refused : (refused : Bool) → refused_events (refused ∷ []) ≡ (if refused then 1 else 0)
+one_refused refused = grind arith
+
+-- calls of a medium whose power is on, whatever action makes them
+pub caused_once : (before after : Sim) (actions : List Action) → ComesAfter before after → before.power.off ≡ false
+    → AreCaused before actions (has_refused (state_of before) (state_of after) ∷ []) after
+caused_once before after actions follows on =
+    let h = (keeps_power before after follows).uses_up on in
+    omega (arith, one_refused (has_refused (state_of before) (state_of after)), h)
+
+-- one action after another
+pub caused_through : (a b c : Sim) (xs ys : List Action) (refusals others : List Bool) → AreCaused a xs refusals b
+    → AreCaused b ys others c → AreCaused a (xs ++ ys) (refusals ++ others) c
+caused_through a b c xs ys refusals others h k =
+    omega (arith, refused_events-append refusals others, faults_armed-append xs ys, h, k)
+
+-- told by the causes that no action armed
+pub few_causes : (before after : Sim) (actions : List Action) (refusals : List Bool) → AreCaused before actions refusals after
+    → refused_events refusals ≤ causes_in before actions after
+few_causes before after actions refusals h = omega (arith, h)
+
+-- a medium on which a fuse was armed has one fault more at most
+pub one_fuse_more : (writes : ℕ) (m : Sim)
+    → faults_in (record m.power { fuse = Some writes }) ≤ faults_in m.power + 1
+one_fuse_more writes m = grind arith
+
+does_keep : (device : Device) (old : DiskState) (action : Action) (answers : List Answer) (new : DiskState)
+    → Does device old action answers new
+    → HasPackets device.packet_size old → HasPackets device.packet_size new
+does_keep device old action answers new does has = grind arith
+
+pub packets_stay : (device : Device) (old new : DiskState) (actions : List Action) (answers : List Answer) (refusals : List Bool)
+    → MovesBy device old actions answers refusals new → HasPackets device.packet_size old → HasPackets device.packet_size new
+packets_stay device old new [] answers [] moves has = subst (HasPackets device.packet_size) (sym moves.1) has
+packets_stay device old new (action ∷ actions) answers (refused ∷ refusals) moves has =
+    packets_stay device moves.0 new actions moves.2 refusals moves.5 (does_keep device old action moves.1 moves.0 moves.4.does has)
+packets_stay device old new actions answers refusals moves has = absurd moves
+
+-- where lives go on, the size of their packets stays
+pub keeps_packets : (device : Device) (old new : DiskState) (actions : List Action) (answers : List Answer)
+    → LivesGoOn (record { device = device; state = old }) actions answers (record { device = device; state = new })
+    → HasPackets device.packet_size old → HasPackets device.packet_size new
+keeps_packets device old new actions answers goes has = packets_stay device old new actions answers goes.refusals goes.moves has

@@ -1,39 +1,71 @@
 -- What a packet to Bulk-Out does, by whether it is halted and by what is left of the exchange.
-use Rattle.std.proofs.Common.{◌≡◌, ◌⊎◌, ◌<◌, ℕ, Bool, true, false, inl, List, [], slice_range, refl, sym, subst}
-use Rattle.std.proofs.Common.{ap, ◌∙◌, arith}
-use Rattle.std.specs.Prelude.{None, Option, Result}
+use Rattle.std.proofs.Common.{◌≡◌, ap, ℕ, List, [], ◌∷◌, refl, subst, sym, ◌⊎◌, ◌<◌, Bool, true, false, inl, slice_range, ◌∙◌, arith}
+use Rattle.bot_machine.specs.declared.bulk_state.Taking.{Taking}
+use Rattle.bot_machine.specs.declared.bulk_state.Phase.{Phase}
+use Rattle.bot_machine.specs.declared.bulk_state.Phase.TheVariants.{Command, DataOut, DataIn, Status}
+use Rattle.std.specs.Prelude.{Option, Some, None, Result}
 use Rattle.spec.specs.declared.case.Endpoint.{Endpoint}
+use Rattle.spec.specs.declared.case.Endpoint.TheVariants as endpoint
+use Rattle.spec.specs.StatusWrapper.{status_wrapper}
+use Rattle.spec.specs.Sense.{Sense}
+use Rattle.spec.specs.Exchange.{Line, sending, laid_out, Script, finished, in_answer, after_in}
+use Rattle.bot_machine.specs.Disk.{status_of_answer, Tells, DiskValue, over, TicksIn, FitsDisk, Proceeds, IsStepBy, IsStep, Elapses}
+use Rattle.bot_machine.specs.Disk.{TakesFew}
 use Rattle.medium.specs.Medium.{State, IsSound}
 use Rattle.medium.proofs.SectorsRead.{no_looks, looks_wider}
 use Rattle.scsi_unit.specs.Background.{Work, Settle, is_dead}
 use Rattle.scsi_unit.specs.Reading.{first_home_of}
-use Rattle.spec.specs.Sense.{Sense}
 use Rattle.spec.specs.Book.{Book}
 use Rattle.spec.specs.Rules.{UnitState, CarriesOut, Ticks, Intention}
 use Rattle.scsi_unit.specs.Calls.{IsBounded, SendsOneBatch}
 use Rattle.scsi_unit.specs.Serving.{has_refused, IsSparing, TicksOver}
-use Rattle.scsi_unit.specs.UnitValue.{UnitValue, unit_limit, state_of, IsOfSize}
+use Rattle.scsi_unit.specs.UnitValue.{UnitValue, unit_limit, state_of, IsOfSize, intention_of}
 use Rattle.spec.specs.declared.event.Event.{Event}
 use Rattle.spec.specs.declared.event.Event.TheVariants as event
 use Rattle.spec.specs.declared.event.Answer.{Answer}
 use Rattle.spec.specs.declared.event.Answer.TheVariants as answer
-use Rattle.bot_machine.specs.declared.bulk_state.Taking.{Taking}
-use Rattle.bot_machine.specs.declared.bulk_state.Phase.{Phase}
-use Rattle.bot_machine.specs.declared.bulk_state.Phase.TheVariants.{Command, DataOut, DataIn, Status}
-use Rattle.spec.specs.Exchange.{Script, finished, sending, Line, in_answer, after_in}
 use Rattle.spec.specs.Conversation.{OutStep, SetupStep}
 use Rattle.spec.specs.UnitConversation.{Intends, UnitStep, write_of_packet, write_of_event, on_line}
 use Rattle.bot_machine.specs.Acts.{PacketCarriesOut, EventCarriesOut}
-use Rattle.bot_machine.specs.Disk.{DiskValue, over, TicksIn, FitsDisk, Proceeds, Tells, IsStepBy, IsStep, Elapses, TakesFew}
 use Rattle.spec.specs.declared.intent.Intent.TheVariants as intent
 use Rattle.bot_machine.specs.Promising.{SendsBy}
 use Rattle.bot_machine.specs.Refinement.{taking_of, left_of, halt_of, IsInPhase, Invariant}
 use Rattle.spec.specs.Packets.{packets_of}
 use Rattle.bot_machine.specs.Reading.{LooksBesides, LooksIn, ReadsAt, WrapperReadsAt}
-use Rattle.bot_machine.specs.Serving.{BeginsOn, TakesOn, RestsOn, SparesOn, SendsOn}
-use Rattle.bot_machine.proofs.UnitLaws.{few_ticks, none_made, step_made}
-use Rattle.bot_machine.proofs.ReadAtOnce.{besides}
-use Rattle.bot_machine.proofs.UnitMoments.{staying_so, proceeding, proceeding_so}
+use Rattle.bot_machine.specs.Serving.{BeginsOn, TakesOn, RestsOn, SparesOn, SendsOn, HandsOn}
+use Rattle.bot_machine.proofs.UnitLaws.{few_ticks, none_made, step_made, staying_so, proceeding, proceeding_so, promises_by_book}
+use Rattle.bot_machine.proofs.UnitLaws.{quiet_by_book}
+use Rattle.bot_machine.proofs.Wrappers.{besides, waits_to_send_none}
+use Rattle.bot_machine.specs.declared.bulk_state.BulkState.{BulkState}
+
+-- what is being taken in a phase, or else this
+abbrev taken_in : Taking → Phase → Taking
+taken_in other Command = other
+taken_in other (DataOut taking) = taking
+taken_in other (DataIn from to halt) = other
+taken_in other Status = other
+
+pub one_taking : (taking other : Taking) → DataOut taking ≡ DataOut other → taking ≡ other
+one_taking taking other same = ap (taken_in taking) same
+
+-- what is laid out ends in its status wrapper
+laid : (packets : List (List ℕ)) (halt : Option Endpoint) (status : List ℕ) (s : Line)
+    → (left : List (List ℕ)) × (later : Option Endpoint) × ((laid_out packets halt status s).left ≡ sending left later status)
+laid [] None status s = ([], None, refl)
+laid [] (Some endpoint.In) status s = ([], None, refl)
+laid [] (Some endpoint.Out) status s = ([], None, refl)
+laid (packet ∷ packets) halt status s = (packet ∷ packets, halt, refl)
+
+pub tells : (answer : Result (List ℕ) Sense) (packets : List (List ℕ)) (halt : Option Endpoint) (tag residue : ℕ) (line s : Line)
+    → line ≡ laid_out packets halt (status_wrapper tag residue (status_of_answer answer)) s → Tells answer line
+tells answer packets halt tag residue line s is =
+    let l = laid packets halt (status_wrapper tag residue (status_of_answer answer)) s in (
+      l.0,
+      l.1,
+      tag,
+      residue,
+      subst (λ (x : Line). x.left ≡ sending l.0 l.1 (status_wrapper tag residue (status_of_answer answer))) (sym is) l.2,
+    )
 
 -- no call, no time
 pub no_time : (m : State) → Elapses m m
@@ -266,3 +298,34 @@ pub kept_as : (old new : ℕ) (intention : List ℕ → Intention) (phase : Phas
     → Invariant old intention phase buffer → Invariant new intention phase buffer
 kept_as old new intention phase buffer same kept =
     subst (λ (n : ℕ). Invariant n intention phase buffer) (sym same) kept
+
+-- no read was made
+pub none_besides : {M : Type 0} (At : ℕ → Type 0) (m : State) (unit : UnitValue M) → LooksBesides At m m unit
+none_besides At m unit = no_looks (λ s. (s < first_home_of unit) ⊎ At s) m m refl
+
+-- nothing was done to the unit
+pub unit_stays : {M : Type 0} (state : M → State) (Follows : M → M → Type 0) (At : ℕ → Type 0) (unit : UnitValue M)
+    (from to : BulkState)
+    → ((m : M) → Follows m m) → IsInPhase (unit_limit unit) (intention_of unit) to.phase → to.size ≡ from.size
+    → HandsOn state Follows At unit unit from to
+unit_stays state Follows At unit from to itself phase size = record {
+  phase = phase;
+  limit = refl;
+  size = size;
+  few = no_calls (state unit.store.medium) unit;
+  looks = none_besides At (state unit.store.medium) unit;
+  elapses = no_time (state unit.store.medium);
+  follows = itself unit.store.medium;
+}
+
+-- a command that is carried out, over a book of the unit's size, has as few calls made that write as it promises
+pub sends_so : {M : Type 0} (before after : State) (unit : UnitValue M) (block taken bytes : List ℕ) (book : Book) → IsOfSize unit book
+    → IsBounded before after block taken unit → (CarriedOut : List ℕ → List ℕ → Type 0) → CarriedOut block bytes
+    → SendsBy before after unit (state_of unit book) CarriedOut
+sends_so before after unit block taken bytes book size bounded CarriedOut carried = record {
+  plain = λ none. bounded.one_batch.plain (promises_by_book unit book block size ∙ none block bytes carried);
+  quiet = λ all. bounded.quiet (quiet_by_book unit book block size (all block bytes carried));
+}
+
+-- a command that waits for its data sends none, no read was made, and no other call
+pub ruleset nothing_read = (waits_to_send_none, none_besides, sends_none)

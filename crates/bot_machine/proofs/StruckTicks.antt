@@ -1,13 +1,109 @@
--- Steps in the background may be struck from a run.
-use Rattle.std.proofs.Common.{◌≡◌, Bool, false, List, [], ◌∷◌, refl, sym, ap, subst, ◌∙◌, arith}
+-- What a host sees where the medium refuses nothing and stamps are left: neither steps in the background nor when records go home.
+use Rattle.std.proofs.Common.{◌≡◌, inl, inr, ℕ, Bool, true, false, List, [], sym, ap, ◌∙◌, arith, ◌∷◌, refl, subst}
+use Rattle.std.proofs.lemmas.Bool.Decides.{nat_tests}
+use Rattle.spec.specs.declared.wrapper.Cbw.{Cbw}
+use Rattle.spec.specs.declared.way.Way.{Way}
+use Rattle.spec.specs.declared.case.Case.{Case}
+use Rattle.spec.specs.Cases.{IsCase}
+use Rattle.spec.specs.CommandWrapper.{SpellsCommand}
+use Rattle.bot_machine.proofs.Wrappers.{one_wrapper, one_case, at_once-takes_none}
+use Rattle.spec.specs.Book.{StampsOut, Book}
+use Rattle.spec.specs.Rules.{UnitState, CarriesOut, Ticks, write_in_progress, with_progress, opened_unit}
 use Rattle.spec.specs.declared.event.Event.{Event}
 use Rattle.spec.specs.declared.event.Event.TheVariants as event
 use Rattle.spec.specs.declared.event.Answer.{Answer}
-use Rattle.spec.specs.Rules.{UnitState}
-use Rattle.spec.specs.Conversation.{Conversation}
-use Rattle.spec.specs.UnitConversation.{UnitStep, UnitRun}
-use Rattle.bot_machine.specs.Striking.{without_ticks, answers_without_ticks, HasStamps, IsUntroubled}
-use Rattle.bot_machine.proofs.OneStep.{still, one_step}
+use Rattle.spec.specs.Requests.{Request, setup_packet}
+use Rattle.spec.specs.Exchange.{Line, Script, finished, taking, sending, Moment, at_once, moment_of, at_rest}
+use Rattle.spec.specs.Conversation.{Conversation, IsCarriedOut, Begins, OpensExchange, Takes, OutStep, SetupStep}
+use Rattle.spec.specs.UnitConversation.{Intends, way_of, write_of_packet, UnitStep, UnitRun, on_line}
+use Rattle.bot_machine.specs.Striking.{HasStamps, without_ticks, answers_without_ticks, IsUntroubled}
+use Rattle.bot_machine.proofs.UnitLaws.{writes_none, one_answer, no_tick, knows_images}
+use Rattle.medium.specs.Medium.{State}
+use Rattle.scsi_unit.specs.UnitValue.{unit_limit, state_of as unit_state}
+use Rattle.bot_machine.specs.declared.lives.disk_state.DiskState.{DiskState}
+use Rattle.bot_machine.specs.Device.{Device}
+use Rattle.bot_machine.specs.Disk.{DiskValue, over}
+use Rattle.bot_machine.specs.Opening.{IsOpened}
+use Rattle.spec.specs.Lives.{Action}
+use Rattle.bot_machine.specs.Moving.{Does}
+use Rattle.bot_machine.specs.Policy.{DiskRetires, KeepsPolicy, PolicyIsUnseen}
+
+-- conversations are the same where line and unit are
+pub same_conversation : (one other : Conversation UnitState) → one.line ≡ other.line → one.unit ≡ other.unit → one ≡ other
+same_conversation one other line unit = grind arith
+
+carried_out_once : (case : Case) (command : Cbw) (intended : Way) (bytes : List ℕ) (old one other : Conversation UnitState)
+    → ¬ StampsOut (with_progress old.unit.book (write_in_progress old.unit command.block.items bytes))
+    → IsCarriedOut Intends CarriesOut Ticks false case command intended bytes old one
+    → IsCarriedOut Intends CarriesOut Ticks false case command intended bytes old other → one ≡ other
+carried_out_once case command intended bytes old one other stamps a b =
+    let same = one_answer command.block.items bytes old.unit one.unit other.unit a.answer b.answer stamps a.effect b.effect in grind arith
+
+begins_once : (moment : Moment) (case : Case) (command : Cbw) (intended : Way) (old one other : Conversation UnitState)
+    → (at_once ≡ moment → ¬ StampsOut (with_progress old.unit.book (write_in_progress old.unit command.block.items [])))
+    → Begins Intends CarriesOut Ticks false moment case command intended old one
+    → Begins Intends CarriesOut Ticks false moment case command intended old other → one ≡ other
+begins_once moment case command intended old one other stamps a b = grind (arith, carried_out_once)
+
+pub opens_as : (packet : List ℕ) (old other : Conversation UnitState) (command : Cbw) (intended : Way) (case : Case)
+    → SpellsCommand packet command → Intends old.unit command.block.items intended → IsCase case command.host intended
+    → OpensExchange Intends CarriesOut Ticks false packet old other
+    → Begins Intends CarriesOut Ticks false (moment_of case) case command intended old other
+opens_as packet old other command intended case spelled intends is_case b =
+    let same = one_wrapper packet b.command command b.spelled spelled in
+    let way : b.intended ≡ intended = cc in
+    let is = one_case b.case case command.host intended (rw (← way, ← same) b.is_case) is_case in
+    rw (← is, ← way, ← same) b.begins
+
+opens_once : (packet : List ℕ) (old one other : Conversation UnitState) → ¬ StampsOut old.unit.book
+    → OpensExchange Intends CarriesOut Ticks false packet old one
+    → OpensExchange Intends CarriesOut Ticks false packet old other → one ≡ other
+opens_once packet old one other stamps a b =
+    let none = λ (moment : at_once ≡ moment_of a.case). writes_none old.unit a.command.block.items [] (λ n out.
+    at_once-takes_none a.case a.command.host a.intended a.is_case (sym moment) n (a.intends ∙ ap way_of out)) in
+    begins_once (moment_of a.case) a.case a.command a.intended old one other (λ moment. (rw (none moment) stamps))
+    a.begins (opens_as packet old other a.command a.intended a.case a.spelled a.intends a.is_case b)
+
+takes_once : (case : Case) (command : Cbw) (intended : Way) (bytes : List ℕ) (due : ℕ) (packet : List ℕ)
+    (old one other : Conversation UnitState)
+    → ¬ StampsOut (with_progress old.unit.book
+    (write_of_packet old.line.packet_size false (taking case command intended bytes due) packet old.unit))
+    → Takes Intends CarriesOut Ticks false case command intended bytes due packet old one
+    → Takes Intends CarriesOut Ticks false case command intended bytes due packet old other → one ≡ other
+takes_once case command intended bytes due packet old one other stamps a b = grind (arith, nat_tests, carried_out_once)
+
+out_once : (halted : Bool) (left : Script) (packet : List ℕ) (old one other : Conversation UnitState) (answer again : Answer)
+    → ¬ StampsOut (with_progress old.unit.book (write_of_packet old.line.packet_size halted left packet old.unit))
+    → OutStep Intends CarriesOut Ticks false halted left packet old answer one
+    → OutStep Intends CarriesOut Ticks false halted left packet old again other → (answer ≡ again) × (one ≡ other)
+out_once true left packet old one other answer again stamps a b = grind arith
+out_once false finished packet old one other answer again stamps (a, inl opens) (b, inl opens') =
+    (a ∙ sym b, opens_once packet old one other stamps opens opens')
+out_once false finished packet old one other answer again stamps (a, inl opens) (b, inr locks) =
+    absurd (locks.unknown opens.command opens.spelled)
+out_once false finished packet old one other answer again stamps (a, inr locks) (b, inl opens) =
+    absurd (locks.unknown opens.command opens.spelled)
+out_once false finished packet old one other answer again stamps (a, inr locks) (b, inr locks') =
+    (a ∙ sym b, same_conversation one other (locks.after ∙ sym locks'.after) (locks.unit ∙ sym locks'.unit))
+out_once false (taking case command intended bytes due) packet old one other answer again stamps (a, takes) (b, takes') =
+    (a ∙ sym b, takes_once case command intended bytes due packet old one other stamps takes takes')
+out_once false (sending packets halt status) packet old one other answer again stamps a b = (a.0 ∙ sym b.0, a.1 ∙ sym b.1)
+
+pub one_request : (a b : Request) → setup_packet a ≡ setup_packet b → a ≡ b
+one_request a b e = grind arith
+
+setup_once : (packet : List ℕ) (old one other : Line) (answer again : Answer) → SetupStep packet old answer one
+    → SetupStep packet old again other → (answer ≡ again) × (one ≡ other)
+setup_once packet old one other answer again a b = grind (arith, one_request)
+
+-- a step in the background changes nothing
+pub still : (old new : Conversation UnitState) (answer : Answer) → HasStamps old event.Tick
+    → UnitStep false old event.Tick answer new → new ≡ old
+still old new answer stamps step = let same = no_tick old.unit new.unit stamps step.1 in grind arith
+
+pub one_step : (old one other : Conversation UnitState) (happens : Event) (answer again : Answer) → HasStamps old happens
+    → UnitStep false old happens answer one → UnitStep false old happens again other → (answer ≡ again) × (one ≡ other)
+one_step old one other happens answer again stamps a b = grind (arith, out_once, setup_once, still)
 
 -- a run that nothing troubles
 abbrev pub Untroubled : Conversation UnitState → List Event → List Answer → Conversation UnitState → Type 0
@@ -42,7 +138,7 @@ first_of old new happens events (a ∷ as_) (mid, step, stamps, rest) =
     record { mid = mid; answer = a; later = as_; told = refl; step = step; stamps = stamps; run = rest }
 
 -- the first event of a run that is no step in the background, and the run after it
-record Begins (old other : Conversation UnitState) (first : Event) (more : List Event) (answers : List Answer) : Type 0 where
+record FirstPacket (old other : Conversation UnitState) (first : Event) (more : List Event) (answers : List Answer) : Type 0 where
   mid : Conversation UnitState
   answer : Answer
   step : UnitStep false old first answer mid
@@ -55,11 +151,11 @@ record Begins (old other : Conversation UnitState) (first : Event) (more : List 
 
 begins : (fewer : List Event) (old other : Conversation UnitState) (told : List Answer) (first : Event) (more : List Event)
     → Untroubled old fewer told other → without_ticks fewer ≡ first ∷ more
-    → Begins old other first more (answers_without_ticks fewer told)
+    → FirstPacket old other first more (answers_without_ticks fewer told)
 begins [] old other told first more run e = grind arith
 begins (x ∷ xs) old other [] first more run e = absurd run
 begins (event.Tick ∷ xs) old other (a ∷ as_) first more (mid, step, stamps, rest) e =
-    subst (λ o. Begins o other first more (answers_without_ticks xs as_)) (still old mid a stamps step)
+    subst (λ o. FirstPacket o other first more (answers_without_ticks xs as_)) (still old mid a stamps step)
     (begins xs mid other as_ first more rest e)
 begins (x ∷ xs) old other (a ∷ as_) first more (mid, step, stamps, rest) e =
     let same : x ≡ first = grind arith in
@@ -111,3 +207,55 @@ pub ticks_struck : (old new other : Conversation UnitState) (events fewer : List
 ticks_struck old new other events fewer answers told refusals refused run again e u v =
     same_packets events old new other answers fewer told (untroubled old events answers refusals new run u)
     (untroubled old fewer told refused other again v) e
+
+-- ---- a disk keeps to it
+
+does_keep : (device : Device) (old : DiskState) (action : Action) (answers : List Answer) (new : DiskState)
+    → Does device old action answers new
+    → DiskRetires device.retiring old → DiskRetires device.retiring new
+does_keep device old action answers new does has = grind arith
+
+pub keeps_policy : KeepsPolicy
+keeps_policy device old new [] answers [] moves has = subst (DiskRetires device.retiring) (sym moves.1) has
+keeps_policy device old new (action ∷ actions) answers (refused ∷ refusals) moves has =
+    keeps_policy device moves.0 new actions moves.2 refusals moves.5 (does_keep device old action moves.1 moves.0 moves.4.does has)
+keeps_policy device old new actions answers refusals moves has = absurd moves
+
+-- ---- a host sees nothing of it
+
+-- with what a disk opens, whenever its records go home
+abbrev opened : (limit : ℕ) (device : Device) (book : Book) → Conversation UnitState
+opened limit device book = on_line (at_rest device.packet_size) (opened_unit limit device.identity book)
+
+module _ {M : Type 0} (state : M → State) where
+  opens : (medium : M) (device : Device) (disk : DiskValue M) (book : Book)
+      → IsOpened (state medium) (state disk.unit.store.medium) device disk → over disk book ≡ opened (unit_limit disk.unit) device book
+  opens medium device disk book h =
+      ap (λ (l : Line). on_line l (unit_state disk.unit book)) h.line
+      ∙ ap (λ (u : UnitState). on_line (at_rest device.packet_size) u) (h.unit book)
+
+  -- runs from the same conversation
+  alike : (old start new other : Conversation UnitState) (events others : List Event) (answers told : List Answer)
+      (refusals refused : List Bool) → start ≡ old
+      → (run : UnitRun old events answers refusals new) → IsUntroubled old events answers refusals new run
+      → (again : UnitRun start others told refused other) → IsUntroubled start others told refused other again
+      → without_ticks events ≡ without_ticks others
+      → answers_without_ticks events answers ≡ answers_without_ticks others told
+  alike old start new other events others answers told refusals refused same run u again v ticks =
+      subst (λ (c : Conversation UnitState). (again : UnitRun c others told refused other)
+      → IsUntroubled c others told refused other again → answers_without_ticks events answers ≡ answers_without_ticks others told)
+      (sym same)
+      (λ again v. (ticks_struck old new other events others answers told refusals refused run again ticks u v).0) again v
+
+  pub policy_is_unseen : PolicyIsUnseen state
+  policy_is_unseen medium device retiring book events others answers told one other ticks =
+      let first = one.opened in
+      let next = other.opened in
+      let limit = knows_images.one_limit (state medium).size (unit_limit other.first.unit) (unit_limit one.first.unit)
+      (state medium).content next.limit first.limit in
+      alike (over one.first book) (over other.first book) (over one.last one.on.later) (over other.last other.on.later) events others
+      answers
+      told one.run.refusals other.run.refusals
+      (opens medium (record device { retiring = retiring }) other.first book next
+      ∙ ap (λ (n : ℕ). opened n device book) limit ∙ sym (opens medium device one.first book first))
+      one.on.run one.untroubled other.on.run other.untroubled ticks

@@ -80,7 +80,7 @@ pub(crate) fn read_exchange<M: Medium>(unit: &Unit<M>, packet: &[u8]) -> Option<
 /// Takes a packet where a command wrapper is expected. It stands apart, so that the code that runs
 /// for a packet of data is short.
 #[inline(never)]
-#[tactic(auto, using(crate::proofs::EventParts::nothing_read))]
+#[tactic(auto, using(crate::proofs::OutPackets::nothing_read))]
 pub(crate) fn open<M: Medium>(
     unit: &mut Unit<M>,
     bulk: &mut BulkState,
@@ -122,7 +122,7 @@ pub(crate) fn open<M: Medium>(
 /// Takes a packet where data is expected. The intended bytes that came already are the first ones
 /// of `transfer`. Where more data is due behind the packet, what is pending changes in its place,
 /// since a long transfer is made of such packets.
-#[tactic(auto, using(crate::proofs::EventParts::none_besides))]
+#[tactic(auto, using(crate::proofs::OutPackets::none_besides))]
 pub(crate) fn take_data<M: Medium>(
     unit: &mut Unit<M>,
     bulk: &mut BulkState,

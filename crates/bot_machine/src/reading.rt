@@ -25,7 +25,7 @@ fn sectors_in(case: Case, wanted: Option<HomeSectors>) -> Option<HomeSectors>
 }
 
 // The home sectors of the blocks that the command of a wrapper in this packet reads at once.
-#[tactic(auto, using(crate::proofs::ReadAtOnce::exchange_reads))]
+#[tactic(auto, using(crate::proofs::Wrappers::exchange_reads))]
 fn wrapper_reads<M: Medium>(unit: &Unit<M>, packet: &[u8]) -> Option<HomeSectors>
     ensures exact { MatchOption result (WrapperReadsNone unit.now packet.now)
         (WrapperReads unit.now packet.now) }

@@ -4,15 +4,11 @@ use Rattle.spec.specs.Sense.{Sense}
 use Rattle.spec.specs.Rules.{Intention}
 use Rattle.spec.specs.declared.intent.Intent.TheVariants as intent
 use Rattle.scsi_unit.specs.Calls.{SendsAsMeant}
-use Rattle.bot_machine.proofs.UnitLaws.{ours_stay}
+use Rattle.bot_machine.proofs.UnitLaws.{ours_stay, faulted_rests, proceeding}
 use Rattle.spec.specs.Exchange.{finished}
 use Rattle.bot_machine.specs.Refinement.{line_with}
-use Rattle.bot_machine.proofs.DataPackets.{sent_in-size, lies_sent, lies_within}
-use Rattle.bot_machine.proofs.AnswerLines.{tells}
-use Rattle.bot_machine.proofs.FaultedDisk.{faulted_rests}
-use Rattle.bot_machine.proofs.Packets.{packets_of-none}
-use Rattle.bot_machine.proofs.Sizes.{some_bytes}
-use Rattle.bot_machine.proofs.UnitMoments.{proceeding}
+use Rattle.bot_machine.proofs.Packets.{sent_in-size, lies_sent, lies_within, packets_of-none, some_bytes}
+use Rattle.bot_machine.proofs.OutPackets.{tells}
 use Rattle.bot_machine.proofs.bulk_out.carry_out.Goals as goal
 
 -- there is room for what is sent

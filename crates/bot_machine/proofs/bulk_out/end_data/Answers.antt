@@ -1,18 +1,13 @@
 use Rattle.std.proofs.Common.{ℕ, ◌≡◌, ◌≢◌, ◌<◌, ◌≤◌, inl, inr, length, min, refl, sym, ap, subst, arith, ◌∙◌}
 use Rattle.scsi_unit.specs.UnitValue.{unit_limit, intention_of}
 use Rattle.bot_machine.specs.Refinement.{IsTaking}
-use Rattle.bot_machine.proofs.ReadAtOnce.{log_alone}
+use Rattle.bot_machine.proofs.Wrappers.{log_alone}
 use Rattle.std.proofs.lemmas.Bool.{cases_lt}
 use Rattle.bot_machine.specs.declared.bulk_state.Taking.{Taking}
 use Rattle.spec.specs.Packets.{bytes_of}
-use Rattle.bot_machine.proofs.FrontBytes.{last_packet, other_packet}
-use Rattle.bot_machine.proofs.Packets.{packets_of-none}
-use Rattle.bot_machine.proofs.Sizes.{some_bytes}
-use Rattle.bot_machine.proofs.UnitMoments.{staying_so, proceeding_so}
-use Rattle.bot_machine.proofs.EventParts.{unit_stays, sends_so}
-use Rattle.bot_machine.proofs.OutPackets.{sends_none}
-use Rattle.bot_machine.proofs.TakenData.{one_taking}
-use Rattle.bot_machine.proofs.DataPackets.{lies_after}
+use Rattle.bot_machine.proofs.Packets.{last_packet, other_packet, packets_of-none, some_bytes, lies_after}
+use Rattle.bot_machine.proofs.UnitLaws.{staying_so, proceeding_so}
+use Rattle.bot_machine.proofs.OutPackets.{unit_stays, sends_so, sends_none, one_taking}
 use Rattle.bot_machine.proofs.bulk_out.end_data.Goals as goal
 
 pub returns-then-packet-size_of_next : goal.returns-then-packet-size_of_next

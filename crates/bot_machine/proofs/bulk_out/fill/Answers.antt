@@ -1,5 +1,5 @@
 use Rattle.std.proofs.Common.{◌≡◌, length, take, arith, length-take}
-use Rattle.bot_machine.proofs.FrontBytes.{front_filled}
+use Rattle.bot_machine.proofs.Packets.{front_filled}
 use Rattle.bot_machine.proofs.bulk_out.fill.Goals as goal
 
 pub returns-clause-bytes : goal.returns-clause-bytes

@@ -1,14 +1,11 @@
 use Rattle.std.proofs.Common.{◌≡◌, ◌∙◌, inl, inr, [], refl, sym, arith}
 use Rattle.scsi_unit.specs.Reading.{IsOneOf}
 use Rattle.bot_machine.specs.Reading.{sectors_for, WrapperReadsAt}
-use Rattle.bot_machine.proofs.ReadAtOnce.{besides, at_home}
+use Rattle.bot_machine.proofs.Wrappers.{besides, at_home, opens, no_write, carries_out, carried_at_once}
 use Rattle.spec.specs.Packets.{bytes_of}
-use Rattle.bot_machine.proofs.Packets.{packets_of-none}
-use Rattle.bot_machine.proofs.Sizes.{some_bytes}
-use Rattle.bot_machine.proofs.UnitMoments.{staying, proceeding_so}
-use Rattle.bot_machine.proofs.EventParts.{unit_stays, sends_so}
-use Rattle.bot_machine.proofs.UnitLaws.{fits_size}
-use Rattle.bot_machine.proofs.ExchangeStarts.{opens, no_write, carries_out, carried_at_once}
+use Rattle.bot_machine.proofs.Packets.{packets_of-none, some_bytes}
+use Rattle.bot_machine.proofs.UnitLaws.{staying, proceeding_so, fits_size}
+use Rattle.bot_machine.proofs.OutPackets.{unit_stays, sends_so}
 use Rattle.spec.specs.Exchange.{finished, at_once, after_data, never}
 use Rattle.bot_machine.specs.Refinement.{left_of}
 use Rattle.bot_machine.proofs.bulk_out.open.Goals as goal

@@ -6,10 +6,9 @@ use Rattle.bot_machine.specs.declared.bulk_state.Phase.TheVariants.{DataOut}
 use Rattle.spec.specs.Exchange.{taking}
 use Rattle.bot_machine.specs.Refinement.{line_with}
 use Rattle.spec.specs.Packets.{bytes_of}
-use Rattle.bot_machine.proofs.FrontBytes.{other_packet}
-use Rattle.bot_machine.proofs.OutPackets.{sends_none}
-use Rattle.bot_machine.proofs.UnitMoments.{staying_so}
-use Rattle.bot_machine.proofs.TakenData.{one_taking}
+use Rattle.bot_machine.proofs.Packets.{other_packet}
+use Rattle.bot_machine.proofs.OutPackets.{sends_none, one_taking}
+use Rattle.bot_machine.proofs.UnitLaws.{staying_so}
 use Rattle.bot_machine.proofs.bulk_out.take_data.Goals as goal
 use Rattle.bot_machine.proofs.bulk_out.take_data.Goals.{else-pending-most-via-then-pending-most+else-packet-most}
 use Rattle.bot_machine.proofs.bulk_out.take_data.Goals.{else-pending-most-via-else-pending-most}

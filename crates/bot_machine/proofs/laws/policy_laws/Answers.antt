@@ -1,4 +1,4 @@
-use Rattle.bot_machine.proofs.Policy.{keeps_policy, policy_is_unseen}
+use Rattle.bot_machine.proofs.StruckTicks.{keeps_policy, policy_is_unseen}
 use Rattle.bot_machine.proofs.laws.policy_laws.Goals as goal
 
 pub returns-clause-kept : goal.returns-clause-kept

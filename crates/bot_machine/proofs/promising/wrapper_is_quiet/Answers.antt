@@ -3,7 +3,7 @@ use Rattle.scsi_unit.specs.UnitValue.{state_of}
 use Rattle.spec.specs.Exchange.{at_once, after_data, never}
 use Rattle.bot_machine.specs.Acts.{CarriesOutAtOnce}
 use Rattle.bot_machine.specs.Refinement.{moment_meant}
-use Rattle.bot_machine.proofs.ExchangeStarts.{carries_out, carried_at_once}
+use Rattle.bot_machine.proofs.Wrappers.{carries_out, carried_at_once}
 use Rattle.bot_machine.proofs.ToldPromises.{quiet_by, none_loud}
 use Rattle.bot_machine.proofs.promising.wrapper_is_quiet.Goals as goal
 

@@ -4,7 +4,7 @@ use Rattle.spec.specs.Exchange.{at_once, after_data, never}
 use Rattle.bot_machine.specs.Acts.{CarriesOutAtOnce}
 use Rattle.bot_machine.specs.Promising.{promises_by}
 use Rattle.bot_machine.specs.Refinement.{moment_meant}
-use Rattle.bot_machine.proofs.ExchangeStarts.{carries_out, carried_at_once}
+use Rattle.bot_machine.proofs.Wrappers.{carries_out, carried_at_once}
 use Rattle.bot_machine.proofs.ToldPromises.{told_by}
 use Rattle.bot_machine.proofs.promising.wrapper_promises.Goals as goal
 

@@ -1,7 +1,7 @@
 use Rattle.std.proofs.Common.{MatchOption, subst}
 use Rattle.spec.specs.CommandWrapper.{SpellsNone}
 use Rattle.bot_machine.specs.Serving.{IsBegun}
-use Rattle.bot_machine.proofs.ReadAtOnce.{nothing_spelled}
+use Rattle.bot_machine.proofs.Wrappers.{nothing_spelled}
 use Rattle.bot_machine.proofs.reading.wrapper_reads.Goals as goal
 
 -- src/reading.rt:27:1

@@ -1,7 +1,6 @@
 use Rattle.std.proofs.Common.{arith, refl}
 use Rattle.bot_machine.specs.Refinement.{line_with}
-use Rattle.bot_machine.proofs.DataPackets.{laid_out-front, laid_out-none}
-use Rattle.bot_machine.proofs.Sizes.{some_bytes}
+use Rattle.bot_machine.proofs.Packets.{laid_out-front, laid_out-none, some_bytes}
 use Rattle.bot_machine.proofs.bulk_state.BulkState.lay_out.Goals as goal
 
 pub returns-then-size-gt0 : goal.returns-then-size-gt0

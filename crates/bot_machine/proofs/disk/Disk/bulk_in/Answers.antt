@@ -3,8 +3,7 @@ use Rattle.std.proofs.lemmas.Bool.{cases_lt}
 use Rattle.spec.specs.Exchange.{Line}
 use Rattle.bot_machine.specs.Disk.{DiskValue}
 use Rattle.spec.specs.Packets.{bytes_of}
-use Rattle.bot_machine.proofs.Sizes.{some_bytes, few_bytes}
-use Rattle.bot_machine.proofs.DataPackets.{sent_more, sent_last, answer_sent}
+use Rattle.bot_machine.proofs.Packets.{some_bytes, few_bytes, sent_more, sent_last, answer_sent}
 use Rattle.bot_machine.proofs.disk.Disk.bulk_in.Goals as goal
 
 pub returns-in-DataIn : goal.returns-in-DataIn

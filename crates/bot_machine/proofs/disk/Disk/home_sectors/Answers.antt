@@ -1,7 +1,7 @@
 use Rattle.std.proofs.Common.{ap}
 use Rattle.spec.specs.Packets.{bytes_of}
 use Rattle.bot_machine.specs.Refinement.{left_of}
-use Rattle.bot_machine.proofs.ReadAtOnce.{at_rest_reads}
+use Rattle.bot_machine.proofs.Wrappers.{at_rest_reads}
 use Rattle.bot_machine.proofs.disk.Disk.home_sectors.Goals as goal
 
 pub returns-in-Command-clause-exact : goal.returns-in-Command-clause-exact

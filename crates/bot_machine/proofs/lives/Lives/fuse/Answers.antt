@@ -1,5 +1,5 @@
 use Rattle.bot_machine.specs.Device.{device_by}
-use Rattle.bot_machine.proofs.PacketSizes.{keeps_packets}
+use Rattle.bot_machine.proofs.Moved.{keeps_packets}
 use Rattle.bot_machine.proofs.lives.Lives.fuse.Goals as goal
 use Rattle.bot_machine.proofs.lives.Lives.fuse.Goals.{in-Some, in_default}
 

@@ -4,8 +4,7 @@ use Rattle.medium.specs.Writes.{keeps}
 use Rattle.spec.specs.Lives.{plays, cuts}
 use Rattle.bot_machine.specs.Lifetimes.{armed_by}
 use Rattle.bot_machine.specs.LivesValue.{state_in}
-use Rattle.bot_machine.proofs.LifeRuns.{whole_life, no_life}
-use Rattle.bot_machine.proofs.WholeLives.{not_for_a_fuse}
+use Rattle.bot_machine.proofs.LifeRuns.{whole_life, no_life, not_for_a_fuse}
 use Rattle.bot_machine.proofs.lives.lifetimes.live.Goals as goal
 
 pub returns-in_err-start-clause-err : goal.returns-in_err-start-clause-err

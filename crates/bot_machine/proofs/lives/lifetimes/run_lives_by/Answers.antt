@@ -8,8 +8,7 @@ use Rattle.spec.specs.Packets.{bytes_of}
 use Rattle.bot_machine.specs.Fitting.{AreWithin}
 use Rattle.bot_machine.specs.LivesValue.{LivesValue}
 use Rattle.bot_machine.specs.Lifetimes.{actions_of, actions_of_all, events_in, AppendsFor}
-use Rattle.bot_machine.proofs.LifeRuns.{appends_on}
-use Rattle.bot_machine.proofs.WholeLives.{none_yet, actions_more, events_more, room_left, apart, all_lived, lived_up_to}
+use Rattle.bot_machine.proofs.LifeRuns.{appends_on, none_yet, actions_more, events_more, room_left, apart, all_lived, lived_up_to}
 use Rattle.bot_machine.proofs.lives.lifetimes.run_lives_by.Goals as goal
 
 pub loop-life-init : goal.loop-life-init
