@@ -1,7 +1,6 @@
 pub mod Packets
 pub mod UnitLaws
 pub mod Wrappers
-pub mod ToldPromises
 pub mod OutPackets
 pub mod BookLaws
 pub mod Runs

@@ -53,6 +53,16 @@ EventCarriesOut s event.In block taken = ⊥
 EventCarriesOut s (event.Setup packet) block taken = ⊥
 EventCarriesOut s event.Tick block taken = ⊥
 
+-- no command block is carried out
+abbrev pub CarriesOutNone : (List ℕ → List ℕ → Type 0) → Type 0
+CarriesOutNone CarriedOut = (block taken : List ℕ) → CarriedOut block taken → ⊥
+
+-- this command block is carried out, and no other
+pub record CarriesOutOnly (CarriedOut : List ℕ → List ℕ → Type 0) (block : List ℕ) : Type 0 where
+  pub taken : List ℕ
+  pub carried_out : CarriedOut block taken
+  pub only : (other bytes : List ℕ) → CarriedOut other bytes → other ≡ block
+
 -- an event has the unit do something
 abbrev pub Acts : Conversation UnitState → Event → Type 0
 Acts s (event.Out packet) =

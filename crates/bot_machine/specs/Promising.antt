@@ -28,11 +28,6 @@ pub record OnePromises (unit : UnitState) (CarriedOut : List ℕ → List ℕ �
   pub carried_out : CarriedOut block taken
   pub promising : promises_by unit block ≡ true
 
--- one does, or none: as a truth value tells
-abbrev pub TellsPromise : Bool → UnitState → (List ℕ → List ℕ → Type 0) → Type 0
-TellsPromise true unit CarriedOut = OnePromises unit CarriedOut
-TellsPromise false unit CarriedOut = NonePromises unit CarriedOut
-
 -- an event has no command carried out that promises
 abbrev pub PromisesNone : Conversation UnitState → Event → Type 0
 PromisesNone s event = NonePromises s.unit (EventCarriesOut s event)

@@ -1,82 +1,76 @@
 //! Which packets have a command carried out that promises, and which ask the medium for no write
 //! and no flush.
 ghost use Rattle.std.specs.Prelude.{◌≡◌, ◌↔◌, ◌<◌, ℕ, List, true, false, length, IsTrue};
+ghost use Rattle.std.specs.Prelude.{IfSome, MatchOption};
 ghost use Rattle.spec.specs.Book.{Book};
 ghost use Rattle.spec.specs.declared.event.Event.TheVariants as event;
 ghost use Rattle.scsi_unit.specs.UnitValue.{state_of, IsOfSize};
-ghost use Rattle.bot_machine.specs.Acts.{CarriesOutAtOnce, CarriesOutLast};
+ghost use Rattle.bot_machine.specs.Acts.{CarriesOutAtOnce, CarriesOutLast, EventCarriesOut};
+ghost use Rattle.bot_machine.specs.Acts.{CarriesOutNone, CarriesOutOnly};
 ghost use Rattle.bot_machine.specs.Disk.{over};
-ghost use Rattle.bot_machine.specs.Promising.{PromisesIn, PromisesNone, TellsPromise};
-ghost use Rattle.bot_machine.specs.Promising.{AreQuiet, QuietIn};
+ghost use Rattle.bot_machine.specs.Promising.{PromisesIn, PromisesNone, QuietIn};
 
 use crate::bulk_out::read_exchange;
 use crate::bulk_state::{Phase, Taking};
 use crate::disk::Disk;
 use crate::exchange::{When, when_carried_out};
+use arrayvec::ArrayVec;
 use medium::Medium;
 use scsi_unit::Unit;
 
-// Whether the command of a wrapper in this packet is carried out at once, and promises.
-fn wrapper_promises<M: Medium>(unit: &Unit<M>, packet: &[u8]) -> bool
-    ensures { (book : Book) → IsOfSize unit.now book
-        → TellsPromise result (state_of unit.now book)
-        (CarriesOutAtOnce packet.now (state_of unit.now book)) }
+// The command block of a wrapper in this packet, if it is carried out at once.
+fn block_at_once<M: Medium>(unit: &Unit<M>, packet: &[u8]) -> Option<ArrayVec<u8, 16>>
+    ensures some { IfSome result (λ block. 0 < length block.items) }
+    ensures exact { (book : Book) → IsOfSize unit.now book → MatchOption result
+        (CarriesOutNone (CarriesOutAtOnce packet.now (state_of unit.now book)))
+        (λ block. CarriesOutOnly (CarriesOutAtOnce packet.now (state_of unit.now book))
+        block.items) }
 {
     let Some(exchange) = read_exchange(unit, packet) else {
-        return false;
+        return None;
     };
     match when_carried_out(exchange.case) {
-        When::AtOnce => unit.promises(exchange.command.block.as_slice()),
-        When::AfterData | When::Never => false,
+        When::AtOnce => Some(exchange.command.block),
+        When::AfterData | When::Never => None,
     }
 }
 
-// Whether this packet, of at most `most` bytes, ends the data of a command that promises.
-fn data_promises<M: Medium>(unit: &Unit<M>, pending: &Taking, packet: &[u8], most: u32) -> bool
+// The command block whose data this packet, of at most `most` bytes, ends.
+fn block_of_data(pending: &Taking, packet: &[u8], most: u32) -> Option<ArrayVec<u8, 16>>
     requires { 0 < length pending.now.exchange.command.block.items }
-    ensures { (bytes : List ℕ) (book : Book) → IsOfSize unit.now book
-        → TellsPromise result (state_of unit.now book)
-        (CarriesOutLast most pending.now.exchange.command pending.now.exchange.intended bytes
-        pending.now.due packet.now) }
+    ensures some { IfSome result (λ block. 0 < length block.items) }
+    ensures exact { (bytes : List ℕ) → MatchOption result
+        (CarriesOutNone (CarriesOutLast most pending.now.exchange.command
+        pending.now.exchange.intended bytes pending.now.due packet.now))
+        (λ block. CarriesOutOnly (CarriesOutLast most pending.now.exchange.command
+        pending.now.exchange.intended bytes pending.now.due packet.now) block.items) }
 {
     if pending.due > most || packet.len() != pending.due as usize {
-        return false;
+        return None;
     }
-    unit.promises(pending.exchange.command.block.as_slice())
-}
-
-// Whether the command of a wrapper in this packet is carried out at once by reads alone, or none
-// is.
-fn wrapper_is_quiet<M: Medium>(unit: &Unit<M>, packet: &[u8]) -> bool
-    ensures { (book : Book) → IsOfSize unit.now book
-        → IsTrue result ↔ AreQuiet (state_of unit.now book) unit.now.store.cached
-        (CarriesOutAtOnce packet.now (state_of unit.now book)) }
-{
-    let Some(exchange) = read_exchange(unit, packet) else {
-        return true;
-    };
-    match when_carried_out(exchange.case) {
-        When::AtOnce => unit.is_quiet(exchange.command.block.as_slice()),
-        When::AfterData | When::Never => true,
-    }
-}
-
-// Whether this packet, of at most `most` bytes, does not end the data of a command, or of one that
-// is carried out by reads alone.
-fn data_is_quiet<M: Medium>(unit: &Unit<M>, pending: &Taking, packet: &[u8], most: u32) -> bool
-    requires { 0 < length pending.now.exchange.command.block.items }
-    ensures { (bytes : List ℕ) (book : Book) → IsOfSize unit.now book
-        → IsTrue result ↔ AreQuiet (state_of unit.now book) unit.now.store.cached
-        (CarriesOutLast most pending.now.exchange.command pending.now.exchange.intended bytes
-        pending.now.due packet.now) }
-{
-    if pending.due > most || packet.len() != pending.due as usize {
-        return true;
-    }
-    unit.is_quiet(pending.exchange.command.block.as_slice())
+    Some(ArrayVec::try_from(pending.exchange.command.block.as_slice()).unwrap())
 }
 
 impl<M: Medium> Disk<M> {
+    // The command block that this packet to Bulk-Out has carried out, if there is one.
+    fn carried_block(&self, packet: &[u8]) -> Option<ArrayVec<u8, 16>>
+        ensures some { IfSome result (λ block. 0 < length block.items) }
+        ensures exact { (book : Book) → IsOfSize self.now.unit book → MatchOption result
+            (CarriesOutNone (EventCarriesOut (over self.now book)
+            (event.Out (record { items = packet.now }))))
+            (λ block. CarriesOutOnly (EventCarriesOut (over self.now book)
+            (event.Out (record { items = packet.now }))) block.items) }
+    {
+        if self.bulk.out_halted {
+            return None;
+        }
+        match &self.bulk.phase {
+            Phase::Command => block_at_once(&self.unit, packet),
+            Phase::DataOut(pending) => block_of_data(pending, packet, self.bulk.size.bytes()),
+            _ => None,
+        }
+    }
+
     /// Whether this packet to Bulk-Out would have a command carried out that is good only when all
     /// accepted writes are durable: the wrapper of such a command, which takes no data, or the last
     /// packet of its data. It is a READ or WRITE with FUA, a WRITE without the write cache,
@@ -88,15 +82,9 @@ impl<M: Medium> Disk<M> {
         ensures yes { result ≡ true → (book : Book) → IsOfSize self.now.unit book
             → PromisesIn (over self.now book) (event.Out (record { items = packet.now })) }
     {
-        if self.bulk.out_halted {
-            return false;
-        }
-        match &self.bulk.phase {
-            Phase::Command => wrapper_promises(&self.unit, packet),
-            Phase::DataOut(pending) => {
-                data_promises(&self.unit, pending, packet, self.bulk.size.bytes())
-            }
-            _ => false,
+        match self.carried_block(packet) {
+            Some(block) => self.unit.promises(block.as_slice()),
+            None => false,
         }
     }
 
@@ -108,15 +96,9 @@ impl<M: Medium> Disk<M> {
             → IsTrue result ↔ QuietIn (over self.now book) self.now.unit.store.cached
             (event.Out (record { items = packet.now })) }
     {
-        if self.bulk.out_halted {
-            return true;
-        }
-        match &self.bulk.phase {
-            Phase::Command => wrapper_is_quiet(&self.unit, packet),
-            Phase::DataOut(pending) => {
-                data_is_quiet(&self.unit, pending, packet, self.bulk.size.bytes())
-            }
-            _ => true,
+        match self.carried_block(packet) {
+            Some(block) => self.unit.is_quiet(block.as_slice()),
+            None => true,
         }
     }
 }
