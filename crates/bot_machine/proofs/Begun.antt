@@ -1,5 +1,5 @@
 -- What comes of a start: a disk runs, power goes, or the start is refused.
-use Rattle.std.proofs.Common.{◌≡◌, ltb-true, ℕ, ◌+◌, Bool, true, false, [], ◌∷◌, None, refl, sym, subst, ◌∙◌, ap, arith, inl, inr}
+use Rattle.std.proofs.Common.{◌≡◌, ℕ, ◌+◌, Bool, true, false, [], ◌∷◌, None, refl, sym, subst, ◌∙◌, ap, arith, inl, inr}
 use Rattle.std.proofs.lemmas.Bool.{cases_Bool}
 use Rattle.medium.specs.Moments.{EachCut}
 use Rattle.medium.specs.Sim.{Sim, state_of, ComesAfter}
@@ -11,7 +11,7 @@ use Rattle.scsi_unit.specs.StartFaults.{StartFault}
 use Rattle.bot_machine.specs.Device.{presented, Device}
 use Rattle.spec.specs.Book.{Book, opened}
 use Rattle.scsi_unit.specs.Books.{MayFind}
-use Rattle.scsi_unit.specs.Starting.{Stands, IsCauseFor, blocks_of}
+use Rattle.scsi_unit.specs.Starting.{Stands, IsCauseFor, OpensOn, blocks_of}
 use Rattle.spec.specs.Rules.{UnitState}
 use Rattle.scsi_unit.specs.UnitValue.{unit_limit, state_of as unit_state}
 use Rattle.bot_machine.specs.declared.lives.disk_state.DiskState.{DiskState}
@@ -26,26 +26,27 @@ use Rattle.bot_machine.specs.LivesValue.{MayRefuse, LivesStop}
 use Rattle.scsi_unit.specs.Serving.{has_refused}
 use Rattle.bot_machine.specs.Moving.{StartsIn}
 use Rattle.bot_machine.proofs.Moved.{some_refused, caused_once}
-use Rattle.bot_machine.proofs.LifeActions.{lives_at, stays, called_once, one_run, one_counted, armed_then, on_or_off}
-use Rattle.bot_machine.proofs.LifeStarts.{WouldOpen, with_shape, flushed_at, starts_at, keeps_same, keeps_limit, would_open, has_opened}
+use Rattle.bot_machine.proofs.LifeActions.{lives_at, stays, called_once, one_run, armed_then, on_or_off}
+use Rattle.bot_machine.proofs.Runs.{one_counted}
+use Rattle.bot_machine.proofs.LifeStarts.{WouldOpen, with_shape, flushed_at, starts_at, keeps_same, keeps_limit, would_open}
+use Rattle.bot_machine.proofs.LifeStarts.{stands_ours, fits_opened}
 use Rattle.bot_machine.proofs.UnitLaws.{between_calls, limit_between_calls, start_keeps_limit, knows_images}
 
 -- ---- what a start leaves, where it has no disk
 
 -- over a book with which a life would open
 may_find : (before after : Sim) (leaves : StartLeaves (state_of before) (state_of after)) → before.unflushed ≡ []
-    → (place : Place) (w : WouldOpen (state_of before) place) → w.book.ours ≡ true
-    → EachCut (MayFind (state_of after).size w.book) (state_of after)
-may_find before after leaves none place w ours = leaves.finds w.book (w.on ours) ours (none_flushed before none)
+    → (book : Book) → OpensOn (state_of before) book → book.ours ≡ true → EachCut (MayFind (state_of after).size book) (state_of after)
+may_find before after leaves none book on ours = leaves.finds book on ours (none_flushed before none)
 
 -- where each image had one limit, each still has it
-limited_start : (before after : Sim) (leaves : StartLeaves (state_of before) (state_of after)) (place : Place) (limit : ℕ)
-    (w : WouldOpen (state_of before) place) → w.book.ours ≡ true → LeavesLimit limit (Stopped before) → LeavesLimit limit (Stopped after)
-limited_start before after leaves place limit w ours has =
+limited_start : (before after : Sim) (leaves : StartLeaves (state_of before) (state_of after)) (limit : ℕ) (book : Book)
+    → OpensOn (state_of before) book → book.ours ≡ true → LeavesLimit limit (Stopped before) → LeavesLimit limit (Stopped after)
+limited_start before after leaves limit book on ours has =
     subst (λ (n : ℕ). EachCut (HasLimit n limit) (state_of after)) (sym leaves.bounded.moments.size_stays)
     (at_exit (HasLimit (state_of before).size limit) (state_of before) (state_of after) (is_sound after)
     (start_keeps_limit (state_of before) (state_of after) limit leaves
-    (λ image cut. with_shape (state_of before).size image ((w.on ours).ours ours image cut)) has))
+    (λ image cut. with_shape (state_of before).size image (on.ours ours image cut)) has))
 
 -- ---- why a start is refused
 
@@ -119,29 +120,31 @@ module _ (device : Device) (m : Sim) (on : m.power.off ≡ false) where
     begun : (here : Standing) → FitsLives (lives_at device (Stopped m)) here
         → LifeBegun device (has_refused (state_of m) (state_of new)) here (Running disk)
     begun here fits =
-        let h = has_opened m on (state_of new) device disk is_opened here.place fits.is_at fits.found in
+        let w = would_open m on (blocks_of disk.unit.store.cached) is_opened.store.array is_opened.store.next here.place fits.is_at
+        fits.found in
+        let fitted = fits_opened (state_of m) (state_of new) device disk is_opened w.book w.stands in
         let keeps = keeps_limit m on here.place here.limit (unit_limit disk.unit) fits.is_at fits.limit_at fits.limited is_opened.limit in
-        let limited = λ (ours : h.book.ours ≡ true). limit_between_calls (state_of new) disk.unit h.book h.fits ours in
-        let found = λ (ours : h.book.ours ≡ true). between_calls (state_of new) disk.unit h.book h.fits ours in
-        let says : started (unit_limit disk.unit) (presented device) h.book ≡ over disk h.book =
-        sym (ap (λ (l : Line). on_line l (unit_state disk.unit h.book)) is_opened.line
-        ∙ ap (λ (u : UnitState). on_line (at_rest device.packet_size) u) (is_opened.unit h.book)) in
+        let limited = λ (ours : w.book.ours ≡ true). limit_between_calls (state_of new) disk.unit w.book fitted ours in
+        let found = λ (ours : w.book.ours ≡ true). between_calls (state_of new) disk.unit w.book fitted ours in
+        let says : started (unit_limit disk.unit) (presented device) w.book ≡ over disk w.book =
+        sym (ap (λ (l : Line). on_line l (unit_state disk.unit w.book)) is_opened.line
+        ∙ ap (λ (u : UnitState). on_line (at_rest device.packet_size) u) (is_opened.unit w.book)) in
         elim (cases_Bool new.power.off) [
-          | inl is_off ↦ power_went (Running disk) follows is_off here fits.unfused h.book (unit_limit disk.unit) h.opens h.ours keeps.0
-              (λ ours. subst (λ (n : ℕ). EachCut (HasLimit (state_of new).size n) (state_of new)) (keeps.1 (sym h.ours ∙ ours))
+          | inl is_off ↦ power_went (Running disk) follows is_off here fits.unfused w.book (unit_limit disk.unit) w.opens w.ours keeps.0
+              (λ ours. subst (λ (n : ℕ). EachCut (HasLimit (state_of new).size n) (state_of new)) (keeps.1 (sym w.ours ∙ ours))
               (limited ours))
               found
           | inr still ↦ record {
-            there = record here { place = runs (started (unit_limit disk.unit) (presented device) h.book); limit = unit_limit disk.unit };
-            life = record { book = h.book; opens = h.opens; limit = unit_limit disk.unit; keeps_limit = keeps.0; begins = inl refl };
+            there = record here { place = runs (started (unit_limit disk.unit) (presented device) w.book); limit = unit_limit disk.unit };
+            life = record { book = w.book; opens = w.opens; limit = unit_limit disk.unit; keeps_limit = keeps.0; begins = inl refl };
             fits = record {
-              is_at = record { on = still; says = says; fits = h.fits };
+              is_at = record { on = still; says = says; fits = fitted };
               limit_at = refl;
               limited = limited;
               found = found;
               unfused = λ e. (keeps_power m new follows).no_fuse_stays (fits.unfused e);
             };
-            ours = h.ours;
+            ours = w.ours;
             limit_stays = keeps.1;
           }
         ]
@@ -158,6 +161,11 @@ module _ (device : Device) (m : Sim) (on : m.power.off ≡ false) where
   -- ---- the start has no disk
 
   module _ (after : Sim) (leaves : StartLeaves (state_of m) (state_of after)) (follows : ComesAfter m after) where
+    would : (here : Standing) → FitsLives (lives_at device (Stopped m)) here
+        → WouldOpen (state_of m) here.place (book_at here.place).blocks (book_at here.place).opening (book_at here.place).stamp
+    would here fits =
+        let book = book_at here.place in would_open m on book.blocks book.opening book.stamp here.place fits.is_at fits.found
+
     -- power went in it
     pub start_is_cut : after.power.off ≡ true → LivesGoOn (lives_at device (Stopped m)) (starts ∷ []) [] (lives_at device (Stopped after))
     start_is_cut is_off =
@@ -167,12 +175,12 @@ module _ (device : Device) (m : Sim) (on : m.power.off ≡ false) where
         )
         follows on leaves.bounded.moments.size_stays
         (λ here fits.
-        let w = would_open m on here.place fits.is_at fits.found in
+        let w = would here fits in
         goes_to (Stopped after) (has_refused (state_of m) (state_of after)) here fits
         (power_went (Stopped after) follows is_off here fits.unfused w.book here.limit w.opens w.ours
         (keeps_same m on here.place here.limit fits.is_at)
-        (λ ours. limited_start m after leaves here.place here.limit w ours (fits.limited (sym w.ours ∙ ours)))
-        (λ ours. may_find m after leaves (flushed_at m on here.place fits.is_at) here.place w ours)))
+        (λ ours. limited_start m after leaves here.limit w.book (stands_ours w ours) ours (fits.limited (sym w.ours ∙ ours)))
+        (λ ours. may_find m after leaves (flushed_at m on here.place fits.is_at) w.book (stands_ours w ours) ours)))
 
     -- it was refused, and the power is on
     pub start_is_refused : after.power.off ≡ false → (fault : StartFault) → IsNotOpened (state_of m) (state_of after) fault
@@ -184,20 +192,19 @@ module _ (device : Device) (m : Sim) (on : m.power.off ≡ false) where
       start = record { called = record { leaves = leaves; follows = follows }; cause = h; on = still };
       in_start = has_refused (state_of m) (state_of after);
       counted = refl;
-      refused = one_counted (has_refused (state_of m) (state_of after)) (state_of m).failures (state_of after).failures
-          (ltb-true (state_of m).failures (state_of after).failures) (keeps_power m after follows).refused_stay;
+      refused = one_counted (state_of m).failures (state_of after).failures (keeps_power m after follows).refused_stay;
       caused = caused_once m after [] follows on;
       goes = λ here fits.
-          let w = would_open m on here.place fits.is_at fits.found in
+          let w = would here fits in
           record {
             there = here;
             run = (refl, refl);
             book = w.book;
             opens = w.opens;
             ours = w.ours;
-            cause = λ ours. counted m after w.book fault (h.possible w.book (w.on ours));
-            limited = λ ours. limited_start m after leaves here.place here.limit w ours (fits.limited (sym w.ours ∙ ours));
-            found = λ ours. may_find m after leaves (flushed_at m on here.place fits.is_at) here.place w ours;
+            cause = λ ours. counted m after w.book fault (h.possible w.book (stands_ours w ours));
+            limited = λ ours. limited_start m after leaves here.limit w.book (stands_ours w ours) ours (fits.limited (sym w.ours ∙ ours));
+            found = λ ours. may_find m after leaves (flushed_at m on here.place fits.is_at) w.book (stands_ours w ours) ours;
           };
       rests = refl;
       on = still;

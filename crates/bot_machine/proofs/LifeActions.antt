@@ -1,6 +1,6 @@
 -- What happens in a life: an event comes, the power is cut.
 use Rattle.std.specs.Prelude.{if◌then◌else◌}
-use Rattle.std.proofs.Common.{◌≡◌, ◌<◌, ◌≤◌, ℕ, ◌+◌, Bool, true, false, nat_lt, ltb-true, List, [], ◌∷◌, None, refl, sym, subst, ◌∙◌, ap}
+use Rattle.std.proofs.Common.{◌≡◌, ◌<◌, ◌≤◌, ℕ, ◌+◌, Bool, true, false, nat_lt, List, [], ◌∷◌, None, refl, sym, subst, ◌∙◌, ap}
 use Rattle.std.proofs.Common.{arith, inl, inr}
 use Rattle.std.proofs.lemmas.Bool.{false≢true}
 use Rattle.std.proofs.lemmas.List.{append-nil}
@@ -29,6 +29,7 @@ use Rattle.bot_machine.specs.Disk.{DiskValue, over, FitsDisk, IsStep}
 use Rattle.spec.specs.Rules.{UnitState}
 use Rattle.scsi_unit.specs.UnitValue.{unit_limit}
 use Rattle.bot_machine.proofs.UnitLaws.{limit_between_calls}
+use Rattle.bot_machine.proofs.Runs.{one_counted}
 use Rattle.spec.specs.Lives.{Action, plays, cuts, Remains, Place, before_first, runs, off, Standing, after_cut, LivesStep, LivesRun}
 use Rattle.spec.specs.Blocks.{Array}
 use Rattle.bot_machine.specs.Moving.{Does, EventMovesIn, EventMoves}
@@ -41,11 +42,6 @@ use Rattle.scsi_unit.specs.Serving.{has_refused}
 pub one_run : (device : Device) (refused : Bool) (old new : Standing) (action : Action) (answers : List Answer)
     → LivesStep (presented device) refused old action answers new → LivesRun (presented device) old (action ∷ []) answers (refused ∷ []) new
 one_run device refused old new action answers step = (new, answers, [], sym (append-nil answers), step, (refl, refl))
-
--- one action with a refused call is counted
-pub one_counted : (refused : Bool) (before after : ℕ) → (refused ≡ true → before < after) → before ≤ after
-    → refused_events (refused ∷ []) + before ≤ after
-one_counted refused before after grew stays = grind (arith, grew)
 
 -- a medium whose power is on is not one whose power is off
 pub on_or_off : {A : Type 0} (b : Bool) → b ≡ false → b ≡ true → A
@@ -95,8 +91,8 @@ module _ (device : Device) where
   called_once action answers old new does follows on size goes = record {
     refusals = has_refused (state_in old) (state_in new) ∷ [];
     moves = one_move device (has_refused (state_in old) (state_in new)) old new action answers does refl;
-    refused = one_counted (has_refused (state_in old) (state_in new)) (state_in old).failures (state_in new).failures
-        (ltb-true (state_in old).failures (state_in new).failures) (keeps_power (medium_in old) (medium_in new) follows).refused_stay;
+    refused = one_counted (state_in old).failures (state_in new).failures
+        (keeps_power (medium_in old) (medium_in new) follows).refused_stay;
     caused = caused_once (medium_in old) (medium_in new) (action ∷ []) follows on;
     goes = goes;
     size_stays = size;

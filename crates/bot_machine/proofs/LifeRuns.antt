@@ -16,7 +16,8 @@ use Rattle.bot_machine.specs.Lifetimes.{AppendsFor, actions_of, actions_of_all, 
 use Rattle.bot_machine.specs.Lifetimes.{KeepsPromiseUpTo, IsRefusedFor}
 use Rattle.bot_machine.specs.LivesValue.{LivesValue, medium_in, state_in, AreCaused, LeavesLimit, FitsLives, LivesGoTo, LivesGoOn}
 use Rattle.bot_machine.specs.LivesValue.{MayRefuse, LivesStopAt, LivesStop, IsAtRest, OpensOn, HasLimit, FoundAt, RestsAlone}
-use Rattle.bot_machine.proofs.Moved.{MovesBy-append, refused_events-append, caused_through, few_causes}
+use Rattle.bot_machine.proofs.Runs.{refused_events-append, counted}
+use Rattle.bot_machine.proofs.Moved.{MovesBy-append, caused_through, few_causes}
 use Rattle.std.proofs.lemmas.List.Sums.{sum_by-append, sum_by-take-le}
 use Rattle.std.specs.Prelude.{Option, Some, MatchOption}
 use Rattle.medium.specs.Medium.{State, Image, CutLeaves}
@@ -46,10 +47,6 @@ LivesRun-append device (x ∷ xs) ys told more (refused ∷ refusals) others a b
   LivesRun-append device xs ys r.2 more refusals others r.0 b c r.5 s,
 )
 LivesRun-append device xs ys told more refusals others a b c r s = absurd r
-
--- the refusals of one part and of the next
-pub counted : (xs ys : List Bool) (a b c : ℕ) → refused_events xs + a ≤ b → refused_events ys + b ≤ c → refused_events (xs ++ ys) + a ≤ c
-counted xs ys a b c h k = omega (arith, refused_events-append xs ys, h, k)
 
 -- where a start may be refused with fewer refusals counted
 pub more_refused : (book : Book) (fault : StartFault) (counted less failures : ℕ) → counted ≤ less → MayRefuse book less failures fault

@@ -1,5 +1,5 @@
 -- How a life begins: what the medium was left with is what the life opens with.
-use Rattle.std.proofs.Common.{◌≡◌, ◌≤◌, ◌⊎◌, ℕ, Bool, true, false, [], Some, None, Option, refl, sym, ◌∙◌, ap, inl, inr, arith}
+use Rattle.std.proofs.Common.{◌≡◌, ◌≤◌, ◌⊎◌, ℕ, Bool, true, false, [], Some, None, Option, refl, sym, ◌∙◌, ap, inl, inr, ⊎_elim, arith}
 use Rattle.std.proofs.lemmas.Bool.{false≢true, cases_Bool}
 use Rattle.spec.specs.Blocks.{Write, Array}
 use Rattle.medium.specs.Medium.{State, Image}
@@ -89,73 +89,48 @@ next_limit m limit other leaves has =
     knows_images.one_limit (state_of m).size other limit (state_of m).content has
     (content_has (HasLimit (state_of m).size limit) (state_of m) (is_sound m) leaves)
 
--- a book with which a life may open here; where it is ours the contents stand for it
-pub record WouldOpen (m : State) (place : Place) : Type 0 where
+-- A book with which a life may open here: the contents stand for it, or not every image was ours, and it is opened with these.
+pub record WouldOpen (m : State) (place : Place) (blocks : ℕ) (array : Array) (stamp : ℕ) : Type 0 where
   pub book : Book
   pub opens : Opens place book
   pub ours : book.ours ≡ (book_at place).ours
-  pub on : book.ours ≡ true → OpensOn m book
+  pub stands : OpensOn m book ⊎ (book ≡ opened blocks array stamp false)
 
-module _ (m : Sim) (remains : Remains) where
-  next_opens_ours : remains.book.ours ≡ true → EachCut (FoundAt (state_of m).size (between remains)) (state_of m)
-      → WouldOpen (state_of m) (between remains)
-  next_opens_ours ours found =
+pub stands_ours : {m : State} {place : Place} {blocks stamp : ℕ} {array : Array} (w : WouldOpen m place blocks array stamp)
+    → w.book.ours ≡ true → OpensOn m w.book
+stands_ours w ours = ⊎_elim (λ on. on) (λ is. absurd (false≢true (sym (ap (λ (b : Book). b.ours) is) ∙ ours))) w.stands
+
+next_opens : (m : Sim) (remains : Remains) (blocks : ℕ) (array : Array) (stamp : ℕ)
+    → (remains.book.ours ≡ true → EachCut (FoundAt (state_of m).size (between remains)) (state_of m))
+    → WouldOpen (state_of m) (between remains) blocks array stamp
+next_opens m remains blocks array stamp found = elim (cases_Bool remains.book.ours) [
+  | inl ours ↦
       let l = leaves_book (state_of m).size remains.book remains.in_progress (state_of m).content
-      (content_has (FoundAt (state_of m).size (between remains)) (state_of m) (is_sound m) found) in
+      (content_has (FoundAt (state_of m).size (between remains)) (state_of m) (is_sound m) (found ours)) in
       let is_ours : l.next.ours ≡ true = ap (λ (b : Book). b.ours) l.is in
       record {
         book = l.next;
         opens = record { opens = l.is ∙ ap (opened l.next.blocks l.next.opening l.next.stamp) (sym ours); left = λ _. l.left };
         ours = is_ours ∙ sym ours;
-        on = λ _. record {
+        stands = inl (record {
           opens = l.is ∙ ap (opened l.next.blocks l.next.opening l.next.stamp) (sym is_ours);
           stands = knows_images.stands_for (state_of m).size l.next (state_of m).content l.stands;
-          ours = λ _ image cut. with_blocks (state_of m).size image (remains_ours (state_of m) remains found image cut);
-        };
+          ours = λ _ image cut. with_blocks (state_of m).size image (remains_ours (state_of m) remains (found ours) image cut);
+        });
       }
-
-  next_opens_any : remains.book.ours ≡ false → (blocks : ℕ) (array : Array) (stamp : ℕ)
-      → Opens (between remains) (opened blocks array stamp false)
-  next_opens_any ours blocks array stamp = record {
-    opens = ap (opened blocks array stamp) (sym ours);
-    left = λ is_ours. absurd (false≢true (sym ours ∙ is_ours));
+  | inr not ↦ record {
+    book = opened blocks array stamp false;
+    opens = record { opens = ap (opened blocks array stamp) (sym not); left = λ is_ours. absurd (false≢true (sym not ∙ is_ours)) };
+    ours = sym not;
+    stands = inr refl;
   }
+]
 
-  pub next_opens : (remains.book.ours ≡ true → EachCut (FoundAt (state_of m).size (between remains)) (state_of m))
-      → WouldOpen (state_of m) (between remains)
-  next_opens found = elim (cases_Bool remains.book.ours) [
-    | inl ours ↦ next_opens_ours ours (found ours)
-    | inr not ↦ record {
-      book = opened remains.book.blocks remains.book.opening remains.book.stamp false;
-      opens = next_opens_any not remains.book.blocks remains.book.opening remains.book.stamp;
-      ours = sym not;
-      on = λ is_ours. absurd (false≢true is_ours);
-    }
-  ]
-
--- ---- a start that has a disk
-
--- a book with which a life opens here, and which a disk fits then
-pub record HasOpened (after : State) (disk : DiskValue Sim) (place : Place) : Type 0 where
-  pub book : Book
-  pub opens : Opens place book
-  pub ours : book.ours ≡ (book_at place).ours
-  pub fits : FitsDisk after disk book
-
-module _ (m : Sim) (after : State) (device : Device) (disk : DiskValue Sim) (h : IsOpened (state_of m) after device disk) where
-  next_opened : (remains : Remains) → (remains.book.ours ≡ true → EachCut (FoundAt (state_of m).size (between remains)) (state_of m))
-      → HasOpened after disk (between remains)
-  next_opened remains found = elim (cases_Bool remains.book.ours) [
-    | inl ours ↦
-        let w = next_opens_ours m remains ours (found ours) in
-        record { book = w.book; opens = w.opens; ours = w.ours; fits = h.store.serves w.book (w.on (w.ours ∙ ours)) }
-    | inr not ↦ record {
-      book = opened (blocks_of disk.unit.store.cached) h.store.array h.store.next false;
-      opens = next_opens_any m remains not (blocks_of disk.unit.store.cached) h.store.array h.store.next;
-      ours = sym not;
-      fits = h.store.fits false (λ is_ours. absurd (false≢true is_ours));
-    }
-  ]
+-- a disk that has started fits it
+pub fits_opened : (before after : State) (device : Device) (disk : DiskValue Sim) (h : IsOpened before after device disk) (book : Book)
+    → OpensOn before book ⊎ (book ≡ opened (blocks_of disk.unit.store.cached) h.store.array h.store.next false) → FitsDisk after disk book
+fits_opened before after device disk h book stands =
+    ⊎_elim (h.store.serves book) (λ is. rw is (h.store.fits false (λ ours. absurd (false≢true ours)))) stands
 
 -- ---- wherever lives stand while no disk runs and the power is on
 
@@ -179,18 +154,10 @@ module _ (m : Sim) (on : m.power.off ≡ false) where
       let one : remains.book.ours ≡ true → other ≡ limit = λ ours. next_limit m limit other (leaves ours) has in (one, one)
   keeps_limit place limit other is at leaves has = grind arith
 
-  pub would_open : (place : Place) → IsAt place (Stopped m)
-      → ((book_at place).ours ≡ true → EachCut (FoundAt (state_of m).size place) (state_of m)) → WouldOpen (state_of m) place
-  would_open (before_first book) is found = record { book = book; opens = refl; ours = refl; on = λ ours. is.1 }
-  would_open (between remains) is found = next_opens m remains found
-  would_open (runs conversation) is found = absurd is
-  would_open (off remains) is found = absurd (false≢true (sym on ∙ is))
-
-  pub has_opened : (after : State) (device : Device) (disk : DiskValue Sim) → IsOpened (state_of m) after device disk → (place : Place)
-      → IsAt place (Stopped m) → ((book_at place).ours ≡ true → EachCut (FoundAt (state_of m).size place) (state_of m))
-      → HasOpened after disk place
-  has_opened after device disk h (before_first book) is found =
-      record { book = book; opens = refl; ours = refl; fits = h.store.serves book is.1 }
-  has_opened after device disk h (between remains) is found = next_opened m after device disk h remains found
-  has_opened after device disk h (runs conversation) is found = absurd is
-  has_opened after device disk h (off remains) is found = absurd (false≢true (sym on ∙ is))
+  pub would_open : (blocks : ℕ) (array : Array) (stamp : ℕ) (place : Place) → IsAt place (Stopped m)
+      → ((book_at place).ours ≡ true → EachCut (FoundAt (state_of m).size place) (state_of m))
+      → WouldOpen (state_of m) place blocks array stamp
+  would_open blocks array stamp (before_first book) is found = record { book = book; opens = refl; ours = refl; stands = inl is.1 }
+  would_open blocks array stamp (between remains) is found = next_opens m remains blocks array stamp found
+  would_open blocks array stamp (runs conversation) is found = absurd is
+  would_open blocks array stamp (off remains) is found = absurd (false≢true (sym on ∙ is))

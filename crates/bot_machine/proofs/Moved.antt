@@ -5,6 +5,7 @@ use Rattle.std.proofs.lemmas.Bool.{lt-ltb, le-ltb}
 use Rattle.std.proofs.lemmas.List.{append-nil}
 use Rattle.bot_machine.specs.Device.{Device}
 use Rattle.scsi_unit.specs.Serving.{has_refused}
+use Rattle.bot_machine.proofs.Runs.{refused_events-append}
 use Rattle.medium.specs.Medium.{State}
 use Rattle.spec.specs.declared.event.Answer.{Answer}
 use Rattle.bot_machine.specs.declared.lives.disk_state.DiskState.{DiskState}
@@ -51,13 +52,7 @@ MovesBy-append device (x ∷ xs) ys told more (refused ∷ refusals) others a b 
 MovesBy-append device [] ys told more (refused ∷ refusals) others a b c r s = absurd r
 MovesBy-append device (x ∷ xs) ys told more [] others a b c r s = absurd r
 
--- events with a refused call are counted one list after the other
-pub refused_events-append : (xs ys : List Bool) → refused_events (xs ++ ys) ≡ refused_events xs + refused_events ys
-refused_events-append [] ys = omega arith
-refused_events-append (true ∷ xs) ys = omega (arith, refused_events-append xs ys)
-refused_events-append (false ∷ xs) ys = refused_events-append xs ys
-
--- and so are the faults that actions arm
+-- faults that actions arm are counted one list after the other
 faults_armed-append : (xs ys : List Action) → faults_armed (xs ++ ys) ≡ faults_armed xs + faults_armed ys
 faults_armed-append xs ys = sum_by-append (λ (action : Action). if is_fault action then 1 else 0) xs ys
 
@@ -87,20 +82,23 @@ pub one_fuse_more : (writes : ℕ) (m : Sim)
     → faults_in (record m.power { fuse = Some writes }) ≤ faults_in m.power + 1
 one_fuse_more writes m = grind arith
 
-does_keep : (device : Device) (old : DiskState) (action : Action) (answers : List Answer) (new : DiskState)
-    → Does device old action answers new
-    → HasPackets device.packet_size old → HasPackets device.packet_size new
-does_keep device old action answers new does has = grind arith
+-- what each action keeps, actions keep one after another
+pub moves_keep : (device : Device) (P : DiskState → Type 0)
+    → ((old new : DiskState) (action : Action) (answers : List Answer) → Does device old action answers new → P old → P new)
+    → (old new : DiskState) (actions : List Action) (answers : List Answer) (refusals : List Bool)
+    → MovesBy device old actions answers refusals new → P old → P new
+moves_keep device P each old new [] answers [] moves has = subst P (sym moves.1) has
+moves_keep device P each old new (action ∷ actions) answers (refused ∷ refusals) moves has =
+    moves_keep device P each moves.0 new actions moves.2 refusals moves.5 (each old moves.0 action moves.1 moves.4.does has)
+moves_keep device P each old new actions answers refusals moves has = absurd moves
 
-pub packets_stay : (device : Device) (old new : DiskState) (actions : List Action) (answers : List Answer) (refusals : List Bool)
-    → MovesBy device old actions answers refusals new → HasPackets device.packet_size old → HasPackets device.packet_size new
-packets_stay device old new [] answers [] moves has = subst (HasPackets device.packet_size) (sym moves.1) has
-packets_stay device old new (action ∷ actions) answers (refused ∷ refusals) moves has =
-    packets_stay device moves.0 new actions moves.2 refusals moves.5 (does_keep device old action moves.1 moves.0 moves.4.does has)
-packets_stay device old new actions answers refusals moves has = absurd moves
+packets_kept : (device : Device) (old new : DiskState) (action : Action) (answers : List Answer) → Does device old action answers new
+    → HasPackets device.packet_size old → HasPackets device.packet_size new
+packets_kept device old new action answers does has = grind arith
 
 -- where lives go on, the size of their packets stays
 pub keeps_packets : (device : Device) (old new : DiskState) (actions : List Action) (answers : List Answer)
     → LivesGoOn (record { device = device; state = old }) actions answers (record { device = device; state = new })
     → HasPackets device.packet_size old → HasPackets device.packet_size new
-keeps_packets device old new actions answers goes has = packets_stay device old new actions answers goes.refusals goes.moves has
+keeps_packets device old new actions answers goes has =
+    moves_keep device (HasPackets device.packet_size) (packets_kept device) old new actions answers goes.refusals goes.moves has

@@ -148,20 +148,18 @@ module _ {S F : Type 0} (Intends : S → List ℕ → Way → Type 0)
       → ByTurns None (marks_in Intends CarriesOut Ticks old events answers refusals new run)
   by_turns old events answers refusals new run e = turns_on None old events answers refusals new run (rw e tt)
 
-refused_events-more : (refusals : List Bool) (refused : Bool)
-    → refused_events (refusals ++ refused ∷ []) ≡ refused_events refusals + refused_events
-    (refused ∷ [])
-refused_events-more [] refused = omega arith
-refused_events-more (true ∷ refusals) refused = omega (arith, refused_events-more refusals refused)
-refused_events-more (false ∷ refusals) refused = refused_events-more refusals refused
+-- events with a refused call are counted one list after the other
+pub refused_events-append : (xs ys : List Bool) → refused_events (xs ++ ys) ≡ refused_events xs + refused_events ys
+refused_events-append [] ys = omega arith
+refused_events-append (true ∷ xs) ys = omega (arith, refused_events-append xs ys)
+refused_events-append (false ∷ xs) ys = refused_events-append xs ys
 
-one_refused : (m n : ℕ) → m ≤ n → refused_events (nat_lt m n ∷ []) + m ≤ n
-one_refused m n h = grind (arith, nat_tests)
+-- one is counted once, where the count grew
+pub one_counted : (m n : ℕ) → m ≤ n → refused_events (nat_lt m n ∷ []) + m ≤ n
+one_counted m n h = grind (arith, nat_tests)
 
--- an event with a refused call is counted once, where the count grew
-pub counted : (refusals : List Bool) (k m n : ℕ) → refused_events refusals + k ≤ m → m ≤ n
-    → refused_events (refusals ++ nat_lt m n ∷ []) + k ≤ n
-counted refusals k m n h g = omega (arith, refused_events-more refusals (nat_lt m n), one_refused m n g)
+pub counted : (xs ys : List Bool) (a b c : ℕ) → refused_events xs + a ≤ b → refused_events ys + b ≤ c → refused_events (xs ++ ys) + a ≤ c
+counted xs ys a b c h k = omega (arith, refused_events-append xs ys, h, k)
 
 module _ {S F : Type 0} (Intends : S → List ℕ → Way → Type 0)
     (CarriesOut : Bool → List ℕ → List ℕ → S → Result (List ℕ) F → S → Type 0)
@@ -273,7 +271,8 @@ IsRun-more state old mid new events answers event answer r s =
     let after : State = state new.unit.store.medium in record {
       steps = StepsThrough-more state events answers r.refusals old mid new event answer r.steps s;
       refusals = r.refusals ++ has_refused before after ∷ [];
-      refused = counted r.refusals first.failures before.failures after.failures r.refused s.elapses.failures_stay;
+      refused = counted r.refusals (has_refused before after ∷ []) first.failures before.failures after.failures r.refused
+          (one_counted before.failures after.failures s.elapses.failures_stay);
       runs_on = λ book fits. runs_more first before after old mid new events answers r.refusals event answer book
           (r.runs_on book fits) s (sym r.elapses.size_stays);
       elapses = record {

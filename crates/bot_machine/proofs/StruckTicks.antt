@@ -26,6 +26,7 @@ use Rattle.bot_machine.specs.Disk.{DiskValue, over}
 use Rattle.bot_machine.specs.Opening.{IsOpened}
 use Rattle.spec.specs.Lives.{Action}
 use Rattle.bot_machine.specs.Moving.{Does}
+use Rattle.bot_machine.proofs.Moved.{moves_keep}
 use Rattle.bot_machine.specs.Policy.{DiskRetires, KeepsPolicy, PolicyIsUnseen}
 
 -- conversations are the same where line and unit are
@@ -210,16 +211,12 @@ ticks_struck old new other events fewer answers told refusals refused run again 
 
 -- ---- a disk keeps to it
 
-does_keep : (device : Device) (old : DiskState) (action : Action) (answers : List Answer) (new : DiskState)
-    → Does device old action answers new
+policy_kept : (device : Device) (old new : DiskState) (action : Action) (answers : List Answer) → Does device old action answers new
     → DiskRetires device.retiring old → DiskRetires device.retiring new
-does_keep device old action answers new does has = grind arith
+policy_kept device old new action answers does has = grind arith
 
 pub keeps_policy : KeepsPolicy
-keeps_policy device old new [] answers [] moves has = subst (DiskRetires device.retiring) (sym moves.1) has
-keeps_policy device old new (action ∷ actions) answers (refused ∷ refusals) moves has =
-    keeps_policy device moves.0 new actions moves.2 refusals moves.5 (does_keep device old action moves.1 moves.0 moves.4.does has)
-keeps_policy device old new actions answers refusals moves has = absurd moves
+keeps_policy device = moves_keep device (DiskRetires device.retiring) (policy_kept device)
 
 -- ---- a host sees nothing of it
 

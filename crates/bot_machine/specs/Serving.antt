@@ -24,7 +24,7 @@ use Rattle.spec.specs.Conversation.{IsCarriedOut, OpensExchange, Locks, Takes}
 use Rattle.spec.specs.UnitConversation.{way_of, Intends, write_of_packet, on_line}
 use Rattle.bot_machine.specs.Acts.{PacketCarriesOut}
 use Rattle.bot_machine.specs.Promising.{SendsBy}
-use Rattle.bot_machine.specs.Refinement.{taking_of, line_with, IsInPhase}
+use Rattle.bot_machine.specs.Refinement.{taking_of, line_with, IsTaking, IsInPhase}
 use Rattle.bot_machine.specs.Disk.{Proceeds, Elapses, TakesFew, Tells}
 use Rattle.bot_machine.specs.Reading.{LooksBesides}
 
@@ -99,16 +99,19 @@ SendsOn most before after old left packet = (book : Book) → IsOfSize old book
 
 -- A packet takes data, of which the first bytes of this buffer came already: by the rules, and the
 -- unit rests where no command is carried out, and makes few calls where one is.
-pub record TakesData {M : Type 0} (before after : State) (old new : UnitValue M) (from : BulkState)
-    (to : Line) (taken packet : List ℕ) : Type 0 where
-  pub takes : (pending : Taking) → from.phase ≡ DataOut pending → (left : Script)
+pub record TakesFor {M : Type 0} (before after : State) (old new : UnitValue M) (from : BulkState)
+    (to : Line) (taken packet : List ℕ) (pending : Taking) : Type 0 where
+  pub takes : (left : Script)
       → TakesOn before after old new (line_with from left) to pending taken packet
-  pub rests : (pending : Taking) → from.phase ≡ DataOut pending
-      → RestsOn (bytes_of from.size) before old new (taking_of pending taken) packet
-  pub spares : (pending : Taking) → from.phase ≡ DataOut pending
-      → SparesOn (bytes_of from.size) before after old new to (taking_of pending taken) packet
-  pub sends : (pending : Taking) → from.phase ≡ DataOut pending
-      → SendsOn (bytes_of from.size) before after old (taking_of pending taken) packet
+  pub rests : RestsOn (bytes_of from.size) before old new (taking_of pending taken) packet
+  pub spares : SparesOn (bytes_of from.size) before after old new to (taking_of pending taken)
+      packet
+  pub sends : SendsOn (bytes_of from.size) before after old (taking_of pending taken) packet
+
+abbrev pub TakesData : {M : Type 0} → State → State → UnitValue M → UnitValue M → BulkState → Line
+    → List ℕ → List ℕ → Type 0
+TakesData before after old new from to taken packet = (pending : Taking)
+    → from.phase ≡ DataOut pending → TakesFor before after old new from to taken packet pending
 
 -- A part of an event passes these on: a phase that the unit allows, its limit and the size of a
 -- packet as they were, and the medium, which comes after what it was by few calls, and of which no
@@ -150,6 +153,20 @@ pub record CanCarryOut {M : Type 0} (unit : UnitValue M) (exchange : Exchange)
 pub record AwaitsWrapper (limit : ℕ) (bulk : BulkState) (buffer : List ℕ) : Type 0 where
   pub expected : bulk.phase ≡ Command
   pub room : length buffer ≡ 512 * limit
+
+-- data is expected, which the unit allows, and there is room for it
+pub record AwaitsData {M : Type 0} (unit : UnitValue M) (bulk : BulkState) (buffer : List ℕ)
+    : Type 0 where
+  pub room : length buffer ≡ 512 * unit_limit unit
+  pub taking : (pending : Taking) × (bulk.phase ≡ DataOut pending)
+      × IsTaking (unit_limit unit) (intention_of unit) pending
+
+-- behind a packet of the greatest size none is due
+pub record AwaitsEnd {M : Type 0} (unit : UnitValue M) (bulk : BulkState) (buffer packet : List ℕ)
+    : Type 0 where
+  pub awaits : AwaitsData unit bulk buffer
+  pub ends : (pending : Taking) → bulk.phase ≡ DataOut pending
+      → length packet ≡ bytes_of bulk.size → pending.due ≤ bytes_of bulk.size
 
 -- a packet of the greatest size comes, behind which more data is due
 pub record HasMoreDue (pending : Taking) (taken packet : List ℕ) (most : ℕ) : Type 0 where

@@ -8,14 +8,15 @@ ghost use Rattle.spec.specs.StatusWrapper.{status_wrapper};
 ghost use Rattle.spec.specs.declared.status.Status.TheVariants.{PhaseError};
 ghost use Rattle.scsi_unit.specs.Calls.{IsBounded};
 ghost use Rattle.scsi_unit.specs.Serving.{IsSparing};
-ghost use Rattle.scsi_unit.specs.UnitValue.{unit_limit, intention_of};
+ghost use Rattle.scsi_unit.specs.UnitValue.{unit_limit};
 ghost use Rattle.bot_machine.specs.Disk.{Tells};
 ghost use Rattle.spec.specs.Exchange.{Script, finished};
-ghost use Rattle.bot_machine.specs.Refinement.{IsTaking, line_of, line_with};
+ghost use Rattle.bot_machine.specs.Refinement.{line_of, line_with};
 ghost use Rattle.spec.specs.Packets.{bytes_of};
 ghost use Rattle.bot_machine.specs.Serving.{IsBegun, CarriesOutOn, BeginsOn, RestsOn, SparesOn};
 ghost use Rattle.bot_machine.specs.Serving.{TakesData, HandsOn, EndsData, CanCarryOut, LiesIn};
-ghost use Rattle.bot_machine.specs.Serving.{AwaitsWrapper, HasMoreDue, SendsOn};
+ghost use Rattle.bot_machine.specs.Serving.{AwaitsWrapper, AwaitsData, AwaitsEnd, HasMoreDue};
+ghost use Rattle.bot_machine.specs.Serving.{SendsOn};
 ghost use Rattle.bot_machine.specs.LineChanges.{LaysOut};
 ghost use Rattle.scsi_unit.specs.Reading.{IsOneOf};
 ghost use Rattle.bot_machine.specs.Reading.{sectors_for, WrapperReadsAt};
@@ -129,9 +130,7 @@ pub(crate) fn take_data<M: Medium>(
     transfer: &mut [u8],
     packet: &[u8],
 )
-    requires room { length transfer.old ≡ 512 * unit_limit unit.old }
-    requires taking { (pending : Taking) × (bulk.old.phase ≡ Phase.DataOut pending)
-        × IsTaking (unit_limit unit.old) (intention_of unit.old) pending }
+    requires { AwaitsData unit.old bulk.old transfer.old }
     ensures serves { TakesData (M.state unit.old.store.medium) (M.state unit.new.store.medium)
         unit.old unit.new bulk.old (line_of bulk.new transfer.new) transfer.old packet.now }
     ensures passes { HandsOn M.state M.follows (λ _. ⊥) unit.old unit.new bulk.old bulk.new }
@@ -167,11 +166,7 @@ fn take_more(pending: &mut Taking, taken: &mut [u8], packet: &[u8], most: u32)
 // runs for each other packet of a transfer is short.
 #[inline(never)]
 fn end_data<M: Medium>(unit: &mut Unit<M>, bulk: &mut BulkState, transfer: &mut [u8], packet: &[u8])
-    requires room { length transfer.old ≡ 512 * unit_limit unit.old }
-    requires taking { (pending : Taking) × (bulk.old.phase ≡ Phase.DataOut pending)
-        × IsTaking (unit_limit unit.old) (intention_of unit.old) pending }
-    requires ends { (pending : Taking) → bulk.old.phase ≡ Phase.DataOut pending
-        → length packet.now ≡ bytes_of bulk.old.size → pending.due ≤ bytes_of bulk.old.size }
+    requires { AwaitsEnd unit.old bulk.old transfer.old packet.now }
     ensures { EndsData M.state M.follows unit.old unit.new bulk.old bulk.new
         (line_of bulk.new transfer.new) transfer.old packet.now }
 {

@@ -1,6 +1,5 @@
 use Rattle.std.proofs.Common.{ℕ, ◌≡◌, ◌<◌, ◌-◌, ◌++◌, inl, length, take, refl, sym, arith, ap, ◌∙◌}
 use Rattle.spec.specs.Cases.{size_of_way}
-use Rattle.bot_machine.specs.declared.bulk_state.Taking.{Taking}
 use Rattle.bot_machine.specs.declared.bulk_state.Phase.{Phase}
 use Rattle.bot_machine.specs.declared.bulk_state.Phase.TheVariants.{DataOut}
 use Rattle.spec.specs.Exchange.{taking}
@@ -14,7 +13,7 @@ use Rattle.bot_machine.proofs.bulk_out.take_data.Goals.{else-pending-most-via-th
 use Rattle.bot_machine.proofs.bulk_out.take_data.Goals.{else-pending-most-via-else-pending-most}
 
 pub returns-then-packet-most-clause-serves : goal.returns-then-packet-most-clause-serves
-returns-then-packet-most-clause-serves g c =
+returns-then-packet-most-clause-serves g c = λ pending is.
     let d = c.in-DataOut.pending in
     let unit = c.args.unit.now in
     let bulk = c.args.bulk.now in
@@ -24,11 +23,8 @@ returns-then-packet-most-clause-serves g c =
     let more : most < d.due = omega (arith, c.if-pending-most.true, c.bytes-most.ensures) in
     let came = take now.filled c.take_more.new.taken in
     let left_due : now.due ≡ d.due - most = c.take_more.ensures.due ∙ ap (λ n. d.due - n) c.bytes-most.ensures in
-    record {
-      takes = λ pending is left book fits.
-          let same : d ≡ pending = one_taking d pending (sym c.in-DataOut.is ∙ is) in
-          rw (← same)
-          (staying_so _ unit _ _ book (g.met.M.Medium.sound unit.store.medium) fits
+    rw (← one_taking d pending (sym c.in-DataOut.is ∙ is)) (record {
+      takes = λ left book fits. staying_so _ unit _ _ book (g.met.M.Medium.sound unit.store.medium) fits
           (other_packet most (length c.args.packet.now) d.due _ _ (λ whole. more)) (inl (record {
             size = let s : length c.args.packet.now ≡ most = omega (arith, c.if-packet-most.true, c.bytes-most.ensures) in s;
             more = more;
@@ -39,14 +35,11 @@ returns-then-packet-most-clause-serves g c =
                 (λ n. line_with bulk
                 (taking e.case e.command e.intended
                 (take (size_of_way e.intended) (take d.filled c.args.transfer.now ++ c.args.packet.now)) n)) left_due;
-          })));
-      rests = λ pending is book fits none. refl;
-      spares = λ pending is book fits block taken carries.
-          let due = ap (λ (t : Taking). t.due) (one_taking d pending (sym c.in-DataOut.is ∙ is)) in
-          let last = carries.last in
-          absurd (omega (arith, more, due, last));
-      sends = λ pending is book size. sends_none _ unit _ _;
-    }
+          }));
+      rests = λ book fits none. refl;
+      spares = λ book fits block taken carries. let last = carries.last in absurd (omega (arith, more, last));
+      sends = λ book size. sends_none _ unit _ _;
+    })
 
 pub returns-clause-serves : goal.returns-clause-serves
 returns-clause-serves g c =

@@ -25,14 +25,13 @@ returns-in-DataOut-clause-step g c =
     let t = c.in-DataOut.field-0 in
     let left = ap (λ p. left_of (bytes_of d.bulk.size) p d.transfer.items d.bulk.status) (sym c.in-DataOut.is) in
     let taken = c.deref_mut-in-DataOut.ensures.value in
-    let serves = c.take_data.ensures.serves in
+    let serves = c.take_data.ensures.serves t c.in-DataOut.is in
     let passes = c.take_data.ensures.passes in
     rw (← c.self.view_is, with_items_is d.transfer c.take_data.new.transfer (search (rules, places)))
     (goes_on _ _ _ _ c.args.packet.now t c.deref_mut-in-DataOut.result.now (sym c.if-self.false)
     (ap (λ came. taking_of t came) taken ∙ left)
-    (serves.takes t c.in-DataOut.is (left_of (bytes_of d.bulk.size) d.bulk.phase d.transfer.items d.bulk.status))
-    (serves.rests t c.in-DataOut.is) (serves.spares t c.in-DataOut.is) (serves.sends t c.in-DataOut.is) passes.few passes.looks
-    passes.elapses passes.limit (ap bytes_of passes.size))
+    (serves.takes (left_of (bytes_of d.bulk.size) d.bulk.phase d.transfer.items d.bulk.status)) serves.rests serves.spares serves.sends
+    passes.few passes.looks passes.elapses passes.limit (ap bytes_of passes.size))
 
 pub returns-in_default-clause-step : goal.returns-in_default-clause-step
 returns-in_default-clause-step g c =
