@@ -1,6 +1,6 @@
 -- Whole lives, told at once.
-use Rattle.std.specs.Prelude.{◌≡◌, ℕ, ◌+◌, ◌-◌, Bool, true, false, List, [], ◌∷◌, ◌++◌, map, length}
-use Rattle.std.specs.Prelude.{sum_by, Option, None, Some}
+use Rattle.std.specs.Prelude.{◌≡◌, ◌≤◌, ℕ, ◌+◌, ◌-◌, Bool, true, false, List, [], ◌∷◌, ◌++◌, map}
+use Rattle.std.specs.Prelude.{length, sum_by, Option, None, Some}
 use Rattle.medium.specs.Sim.{Sim, state_of}
 use Rattle.medium.specs.Power.{faults_in}
 use Rattle.medium.specs.Writes.{keeps}
@@ -8,6 +8,7 @@ use Rattle.scsi_unit.specs.StartFaults.{StartFault}
 use Rattle.spec.specs.Book.{Book}
 use Rattle.scsi_unit.specs.Books.{StandsAs}
 use Rattle.scsi_unit.specs.Serving.{has_refused}
+use Rattle.spec.specs.declared.event.Event.{Event}
 use Rattle.spec.specs.declared.event.Answer.{Answer}
 use Rattle.bot_machine.specs.declared.lives.life.Life.{Life}
 use Rattle.bot_machine.specs.Answers.{Room}
@@ -17,8 +18,10 @@ use Rattle.bot_machine.specs.Opening.{IsNotOpened}
 use Rattle.spec.specs.Lives.{Action, arms, starts, plays, cuts}
 use Rattle.bot_machine.specs.declared.lives.disk_state.DiskState.TheVariants.{Stopped}
 use Rattle.bot_machine.specs.Moving.{MovesBy, IsRefusedStart}
-use Rattle.bot_machine.specs.LivesValue.{LivesValue, LivesGoOn, LivesStop, IsAtRest, OpensOn}
-use Rattle.bot_machine.specs.LivesValue.{HasLimit, FitsLives, MayRefuse, faults_armed, state_in}
+use Rattle.bot_machine.specs.LivesValue.{LivesValue, HasStarted, LivesGoOn, LivesStop, IsAtRest}
+use Rattle.bot_machine.specs.LivesValue.{OpensOn, HasLimit, FitsLives, MayRefuse, faults_armed}
+use Rattle.bot_machine.specs.LivesValue.{state_in}
+use Rattle.bot_machine.specs.Fitting.{AreWithin}
 use Rattle.medium.specs.Medium.{CutLeaves}
 use Rattle.scsi_unit.specs.Starting.{StandsForSome}
 use Rattle.spec.specs.Promise.{first_standing, IsKept, IsKeptUpTo}
@@ -83,6 +86,12 @@ KeepsPromiseUpTo before device actions told after =
     (state_of before).content (CutLeaves (state_of before).may_leave) (state_of before).failures
     (state_of after).failures (causes_in before actions after) actions told
     (CutLeaves (state_of after).may_leave)
+
+-- a disk was started, no packet of the events is longer than its own, and their answers have room
+pub record AwaitsEvents (lives : LivesValue) (events : List Event) (answers : Room) : Type 0 where
+  pub started : HasStarted lives.state
+  pub within : AreWithin lives.device.packet_size events
+  pub room : length answers.list + length events ≤ answers.room
 
 -- lives went on by these actions, and the answers to `events` events were appended
 pub record AppendsFor (before after : LivesValue) (old new : Room) (actions : List Action)

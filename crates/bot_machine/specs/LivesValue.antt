@@ -48,6 +48,11 @@ abbrev pub HasPackets : ℕ → DiskState → Type 0
 HasPackets size (Stopped medium) = ⊤
 HasPackets size (Running disk) = disk.line.packet_size ≡ size
 
+-- a disk was started, and the event's packet is no longer than those of the disk
+pub record AwaitsEvent (lives : LivesValue) (event : Event) : Type 0 where
+  pub started : HasStarted lives.state
+  pub within : IsWithin lives.device.packet_size event
+
 -- where a disk runs, the event's packet is no longer than those of the disk
 abbrev pub TakesEvent : DiskState → Event → Type 0
 TakesEvent (Stopped medium) event = ⊤

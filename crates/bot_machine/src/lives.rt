@@ -59,7 +59,7 @@ impl Model for Lives {
 }
 
 impl Lives {
-    ghost use Rattle.bot_machine.specs.LivesValue.{medium_in, HasStarted, HasBegun, IsAtRest};
+    ghost use Rattle.bot_machine.specs.LivesValue.{medium_in, AwaitsEvent, HasBegun, IsAtRest};
     ghost use Rattle.bot_machine.specs.LivesValue.{OpensOn, HasLimit, FitsLives, LivesGoOn};
     ghost use Rattle.bot_machine.specs.LivesValue.{LivesRefuseStart, LifeBegins, DiskAnswers};
     ghost use Rattle.bot_machine.specs.declared.lives.disk_state.DiskState.TheVariants.{Stopped};
@@ -193,8 +193,7 @@ impl Lives {
 
     /// Plays an event on a disk that was started.
     pub(crate) fn play(&mut self, event: &Event) -> Answer
-        requires started { HasStarted self.old.state }
-        requires within { IsWithin self.old.device.packet_size event.now }
+        requires { AwaitsEvent self.old event.now }
         ensures goes_on { LivesGoOn self.old (plays event.now ∷ []) (result ∷ []) self.new }
         ensures plays { DiskAnswers self.old.state result self.new.state }
     {

@@ -3,7 +3,6 @@ ghost use Rattle.std.specs.Prelude.{◌≡◌, ◌<◌, ◌↔◌, [], ◌∷◌
 ghost use Rattle.medium.specs.Sim.{IsCut, IsFused, IsFailing, ComesAfter};
 ghost use Rattle.medium.specs.Writes.{keeps};
 ghost use Rattle.bot_machine.specs.Device.{Device, device_by};
-ghost use Rattle.bot_machine.specs.Fitting.{IsWithin};
 ghost use Rattle.spec.specs.Lives.{starts, plays, cuts, arms, fails};
 ghost use Rattle.bot_machine.specs.LivesValue.{medium_in, HasStarted, TakesEvent, HasBegun};
 ghost use Rattle.bot_machine.specs.LivesValue.{LivesGoOn, LivesRefuseStart, DiskAnswers};
@@ -128,7 +127,7 @@ pub(crate) fn play(state: &mut DiskState, event: &Event) -> Answer
 
 // Plays an event on a disk. The answer is the disk's where the power is on afterwards.
 fn play_on(disk: &mut Disk<SimMedium>, event: &Event) -> Answer
-    requires { IsWithin disk.old.line.packet_size event.now }
+    requires { TakesEvent (Running disk.old) event.now }
     ensures goes_on { (device : Device) → LivesGoOn
         (record { device = device; state = Running disk.old }) (plays event.now ∷ []) (result ∷ [])
         (record { device = device; state = Running disk.new }) }

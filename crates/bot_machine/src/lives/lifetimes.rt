@@ -8,11 +8,11 @@ ghost use Rattle.bot_machine.specs.Device.{device_by, device_of};
 ghost use Rattle.bot_machine.specs.Fitting.{AreWithin, LivesAreWithin};
 ghost use Rattle.spec.specs.Packets.{bytes_of};
 ghost use Rattle.spec.specs.declared.packet_size.PacketSize.TheVariants.{High512};
-ghost use Rattle.bot_machine.specs.LivesValue.{medium_in, HasStarted, IsAtRest};
+ghost use Rattle.bot_machine.specs.LivesValue.{medium_in, IsAtRest};
 ghost use Rattle.bot_machine.specs.LivesValue.{LivesGoOn, RestsAlone};
 ghost use Rattle.bot_machine.specs.Lifetimes.{actions_of, armed_by, events_in, Appends, AppendsFor};
 ghost use Rattle.bot_machine.specs.Lifetimes.{KeepPromise, KeepPromiseUpTo, AreLived, AreLivedUpTo};
-ghost use Rattle.bot_machine.specs.Lifetimes.{IsNotLived};
+ghost use Rattle.bot_machine.specs.Lifetimes.{IsNotLived, AwaitsEvents};
 
 use crate::answers::Answers;
 use crate::lives::Lives;
@@ -181,9 +181,7 @@ fn arm(run: &mut Lives, fuse: Option<u64>)
 
 // The events of a life that was started.
 fn play_all(run: &mut Lives, events: &[Event], answers: &mut Answers)
-    requires started { HasStarted run.old.state }
-    requires within { AreWithin run.old.device.packet_size events.now }
-    requires room { length answers.old.list + length events.now ≤ answers.old.room }
+    requires { AwaitsEvents run.old events.now answers.old }
     ensures { AppendsFor run.old run.new answers.old answers.new
         (map plays events.now) (length events.now) }
 {
