@@ -20,7 +20,7 @@ use Rattle.spec.specs.Exchange.{Line, at_rest}
 use Rattle.bot_machine.specs.Disk.{DiskValue, over}
 use Rattle.spec.specs.UnitConversation.{on_line}
 use Rattle.bot_machine.specs.Opening.{IsOpened, IsNotOpened, StartLeaves}
-use Rattle.spec.specs.Lives.{starts, Place, runs, off, Standing, Opens, KeepsLimit, started, LifeBegins}
+use Rattle.spec.specs.Lives.{starts, runs, off, Standing, Opens, KeepsLimit, started, LifeBegins}
 use Rattle.bot_machine.specs.LivesValue.{medium_in, state_in, HasBegun, HasLimit, book_at, LeavesLimit, FitsLives, LivesGoTo, LivesGoOn}
 use Rattle.bot_machine.specs.LivesValue.{MayRefuse, LivesStop}
 use Rattle.scsi_unit.specs.Serving.{has_refused}
@@ -28,8 +28,8 @@ use Rattle.bot_machine.specs.Moving.{StartsIn}
 use Rattle.bot_machine.proofs.Moved.{some_refused, caused_once}
 use Rattle.bot_machine.proofs.LifeActions.{lives_at, stays, called_once, one_run, armed_then, on_or_off}
 use Rattle.bot_machine.proofs.Runs.{one_counted}
-use Rattle.bot_machine.proofs.LifeStarts.{WouldOpen, with_shape, flushed_at, starts_at, keeps_same, keeps_limit, would_open}
-use Rattle.bot_machine.proofs.LifeStarts.{stands_ours, fits_opened}
+use Rattle.bot_machine.proofs.LifeStarts.{WouldOpen, with_shape, flushed_at, starts_at, keeps_same, keeps_limit, would_open, stands_ours}
+use Rattle.bot_machine.proofs.LifeStarts.{fits_opened}
 use Rattle.bot_machine.proofs.UnitLaws.{between_calls, limit_between_calls, start_keeps_limit, knows_images}
 
 -- ---- what a start leaves, where it has no disk

@@ -1,7 +1,6 @@
 -- What happens in a life: an event comes, the power is cut.
 use Rattle.std.specs.Prelude.{if◌then◌else◌}
-use Rattle.std.proofs.Common.{◌≡◌, ◌<◌, ◌≤◌, ℕ, ◌+◌, Bool, true, false, nat_lt, List, [], ◌∷◌, None, refl, sym, subst, ◌∙◌, ap}
-use Rattle.std.proofs.Common.{arith, inl, inr}
+use Rattle.std.proofs.Common.{◌≡◌, ℕ, Bool, true, false, nat_lt, List, [], ◌∷◌, None, refl, sym, subst, ◌∙◌, ap, arith, inl, inr}
 use Rattle.std.proofs.lemmas.Bool.{false≢true}
 use Rattle.std.proofs.lemmas.List.{append-nil}
 use Rattle.medium.specs.Medium.{State, Image, CutLeaves}
@@ -23,7 +22,7 @@ use Rattle.spec.specs.declared.event.Answer.{Answer}
 use Rattle.spec.specs.declared.event.Answer.TheVariants.{Off}
 use Rattle.bot_machine.specs.declared.lives.disk_state.DiskState.{DiskState}
 use Rattle.bot_machine.specs.declared.lives.disk_state.DiskState.TheVariants.{Stopped, Running}
-use Rattle.spec.specs.Conversation.{Conversation, refused_events}
+use Rattle.spec.specs.Conversation.{Conversation}
 use Rattle.spec.specs.UnitConversation.{write_of_event, UnitStep}
 use Rattle.bot_machine.specs.Disk.{DiskValue, over, FitsDisk, IsStep}
 use Rattle.spec.specs.Rules.{UnitState}

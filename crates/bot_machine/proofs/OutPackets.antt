@@ -17,7 +17,7 @@ use Rattle.scsi_unit.specs.Background.{Work, Settle, is_dead}
 use Rattle.scsi_unit.specs.Reading.{first_home_of}
 use Rattle.spec.specs.Book.{Book}
 use Rattle.spec.specs.Rules.{UnitState, CarriesOut, Ticks, Intention}
-use Rattle.scsi_unit.specs.Calls.{IsBounded, SendsOneBatch}
+use Rattle.scsi_unit.specs.Calls.{IsBounded}
 use Rattle.scsi_unit.specs.Serving.{has_refused, IsSparing, TicksOver}
 use Rattle.scsi_unit.specs.UnitValue.{UnitValue, unit_limit, state_of, IsOfSize, intention_of}
 use Rattle.spec.specs.declared.event.Event.{Event}
@@ -29,7 +29,7 @@ use Rattle.spec.specs.UnitConversation.{Intends, UnitStep, write_of_packet, writ
 use Rattle.bot_machine.specs.Acts.{PacketCarriesOut, EventCarriesOut}
 use Rattle.spec.specs.declared.intent.Intent.TheVariants as intent
 use Rattle.bot_machine.specs.Promising.{SendsBy}
-use Rattle.bot_machine.specs.Refinement.{taking_of, left_of, halt_of, IsInPhase, Invariant}
+use Rattle.bot_machine.specs.Refinement.{taking_of, left_of, halt_of, IsInPhase}
 use Rattle.spec.specs.Packets.{packets_of}
 use Rattle.bot_machine.specs.Reading.{LooksBesides, LooksIn, ReadsAt, WrapperReadsAt}
 use Rattle.bot_machine.specs.Serving.{BeginsOn, TakesOn, RestsOn, SparesOn, SendsOn, HandsOn}
@@ -278,26 +278,7 @@ pub still_in_phase : (limit : ℕ) (old new : List ℕ → Intention)
     → ((block : List ℕ) (n : ℕ) → new block ≡ intent.Out n → old block ≡ intent.Out n)
     → ((block : List ℕ) (n : ℕ) → new block ≡ intent.In n → old block ≡ intent.In n) → (phase : Phase) → IsInPhase limit old phase
     → IsInPhase limit new phase
-still_in_phase limit old new steady steady_in Command h = tt
-still_in_phase limit old new steady steady_in (DataOut t) h = record {
-  is_case = h.is_case;
-  moment = h.moment;
-  some_block = h.some_block;
-  some_due = h.some_due;
-  within = h.within;
-  room = h.room;
-  filled_is = h.filled_is;
-  intended = λ n is. h.intended n (steady t.exchange.command.block.items n is);
-  sends_none = λ n is. h.sends_none n (steady_in t.exchange.command.block.items n is);
-}
-still_in_phase limit old new steady steady_in (DataIn from to halt) h = h
-still_in_phase limit old new steady steady_in Status h = tt
-
--- what is kept with one limit is kept with another that is the same
-pub kept_as : (old new : ℕ) (intention : List ℕ → Intention) (phase : Phase) (buffer : List ℕ) → new ≡ old
-    → Invariant old intention phase buffer → Invariant new intention phase buffer
-kept_as old new intention phase buffer same kept =
-    subst (λ (n : ℕ). Invariant n intention phase buffer) (sym same) kept
+still_in_phase limit old new steady steady_in phase h = grind (arith, steady, steady_in)
 
 -- no read was made
 pub none_besides : {M : Type 0} (At : ℕ → Type 0) (m : State) (unit : UnitValue M) → LooksBesides At m m unit

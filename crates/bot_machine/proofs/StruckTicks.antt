@@ -17,7 +17,7 @@ use Rattle.spec.specs.Exchange.{Line, Script, finished, taking, sending, Moment,
 use Rattle.spec.specs.Conversation.{Conversation, IsCarriedOut, Begins, OpensExchange, Takes, OutStep, SetupStep}
 use Rattle.spec.specs.UnitConversation.{Intends, way_of, write_of_packet, UnitStep, UnitRun, on_line}
 use Rattle.bot_machine.specs.Striking.{HasStamps, without_ticks, answers_without_ticks, IsUntroubled}
-use Rattle.bot_machine.proofs.UnitLaws.{writes_none, one_answer, no_tick, knows_images}
+use Rattle.bot_machine.proofs.UnitLaws.{keeps_intentions, is_function, ticks_only, knows_images}
 use Rattle.medium.specs.Medium.{State}
 use Rattle.scsi_unit.specs.UnitValue.{unit_limit, state_of as unit_state}
 use Rattle.bot_machine.specs.declared.lives.disk_state.DiskState.{DiskState}
@@ -38,7 +38,7 @@ carried_out_once : (case : Case) (command : Cbw) (intended : Way) (bytes : List 
     → IsCarriedOut Intends CarriesOut Ticks false case command intended bytes old one
     → IsCarriedOut Intends CarriesOut Ticks false case command intended bytes old other → one ≡ other
 carried_out_once case command intended bytes old one other stamps a b =
-    let same = one_answer command.block.items bytes old.unit one.unit other.unit a.answer b.answer stamps a.effect b.effect in grind arith
+    let same = is_function.one_answer command.block.items bytes old.unit one.unit other.unit a.answer b.answer stamps a.effect b.effect in grind arith
 
 begins_once : (moment : Moment) (case : Case) (command : Cbw) (intended : Way) (old one other : Conversation UnitState)
     → (at_once ≡ moment → ¬ StampsOut (with_progress old.unit.book (write_in_progress old.unit command.block.items [])))
@@ -60,7 +60,7 @@ opens_once : (packet : List ℕ) (old one other : Conversation UnitState) → ¬
     → OpensExchange Intends CarriesOut Ticks false packet old one
     → OpensExchange Intends CarriesOut Ticks false packet old other → one ≡ other
 opens_once packet old one other stamps a b =
-    let none = λ (moment : at_once ≡ moment_of a.case). writes_none old.unit a.command.block.items [] (λ n out.
+    let none = λ (moment : at_once ≡ moment_of a.case). keeps_intentions.unwritten old.unit a.command.block.items [] (λ n out.
     at_once-takes_none a.case a.command.host a.intended a.is_case (sym moment) n (a.intends ∙ ap way_of out)) in
     begins_once (moment_of a.case) a.case a.command a.intended old one other (λ moment. (rw (none moment) stamps))
     a.begins (opens_as packet old other a.command a.intended a.case a.spelled a.intends a.is_case b)
@@ -100,7 +100,7 @@ setup_once packet old one other answer again a b = grind (arith, one_request)
 -- a step in the background changes nothing
 pub still : (old new : Conversation UnitState) (answer : Answer) → HasStamps old event.Tick
     → UnitStep false old event.Tick answer new → new ≡ old
-still old new answer stamps step = let same = no_tick old.unit new.unit stamps step.1 in grind arith
+still old new answer stamps step = let same = ticks_only.nothing old.unit new.unit stamps step.1 in grind arith
 
 pub one_step : (old one other : Conversation UnitState) (happens : Event) (answer again : Answer) → HasStamps old happens
     → UnitStep false old happens answer one → UnitStep false old happens again other → (answer ≡ again) × (one ≡ other)

@@ -31,7 +31,7 @@ use Rattle.spec.specs.CommandWrapper.{SpellsCommand}
 use Rattle.bot_machine.proofs.Wrappers.{one_wrapper, at_once-takes_none}
 use Rattle.spec.specs.Book.{StampsOut}
 use Rattle.bot_machine.specs.Striking.{HasStamps}
-use Rattle.bot_machine.proofs.UnitLaws.{writes_none, one_answer}
+use Rattle.bot_machine.proofs.UnitLaws.{keeps_intentions, is_function}
 
 -- ---- lists of packets
 
@@ -191,7 +191,7 @@ one_carried_out : (case : Case) (command : Cbw) (intended : Way) (bytes : List �
     → CarriedOut case command intended bytes old new heard → CarriedOut case command intended bytes old last again
     → (new ≡ last) × (heard ≡ again)
 one_carried_out case command intended bytes old new last heard again a b =
-    let same = one_answer command.block.items bytes old new last a.answer b.answer a.stamps a.effect b.effect in grind arith
+    let same = is_function.one_answer command.block.items bytes old new last a.answer b.answer a.stamps a.effect b.effect in grind arith
 
 one_outcome : (moment : Moment) (case : Case) (command : Cbw) (intended : Way) (sent : List ℕ) (old new last : UnitState)
     (heard again : Heard) → Outcome moment case command intended sent old new heard
@@ -339,7 +339,7 @@ module _ (size : ℕ) (some : 0 < size) (t : Transfer) (old new : UnitState) (as
       → Begins Intends CarriesOut Ticks false moment case t.command intended (on_line (at_rest size) old) f.mid
       → Outcome moment case t.command intended t.sent old new (heard_in answers)
   outcome at_once is begins =
-      let none = writes_none old t.command.block.items []
+      let none = keeps_intentions.unwritten old t.command.block.items []
       (λ n out. at_once-takes_none case t.command.host intended is_case (sym is) n (intends ∙ ap way_of out)) in
       heard_of size some case t.command intended asks only end refl [] (on_line (at_rest size) old) f.mid
       (packets_of size t.sent) answers f.later (rw none f.stamps) refl begins (rw (f.told, ack) refl) f.run

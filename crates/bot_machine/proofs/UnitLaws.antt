@@ -1,14 +1,13 @@
 -- What the laws of the unit say of the commands and steps that a disk has it do, and how it proceeds by these.
-use Rattle.std.proofs.Common.{◌≡◌, ◌≢◌, ℕ, false, Bool, List, None, true, ap, ◌∙◌, refl, subst}
+use Rattle.std.proofs.Common.{◌≡◌, ℕ, List, None, true, ap, ◌∙◌, refl, subst}
 use Rattle.std.specs.Prelude.{Result, Option, None}
-use Rattle.spec.specs.Book.{StampsOut, Book}
-use Rattle.spec.specs.declared.intent.Intent.TheVariants as intent
+use Rattle.spec.specs.Book.{Book}
 use Rattle.spec.specs.Sense.{Sense}
-use Rattle.spec.specs.Rules.{UnitState, intention, CarriesOut, Ticks, write_in_progress, with_progress}
-use Rattle.scsi_unit.proofs.UnitLaws.{is_function, keeps_writes, keeps_intentions, ticks_only}
-pub use Rattle.scsi_unit.proofs.UnitLaws.{between_calls, limit_between_calls, start_keeps_limit, fits_size, knows_images, few_ticks}
-pub use Rattle.scsi_unit.proofs.UnitLaws.{intends_by_book, promises_by_book, quiet_by_book, none_made, step_made, steps_to_write}
-pub use Rattle.scsi_unit.proofs.UnitLaws.{written_live, ahead_fewer, both_empty, plain_quiet}
+use Rattle.spec.specs.Rules.{UnitState}
+pub use Rattle.scsi_unit.proofs.UnitLaws.{is_function, keeps_writes, keeps_intentions, ticks_only, stays_faulted, between_calls}
+pub use Rattle.scsi_unit.proofs.UnitLaws.{limit_between_calls, start_keeps_limit, fits_size, knows_images, few_ticks, intends_by_book}
+pub use Rattle.scsi_unit.proofs.UnitLaws.{promises_by_book, quiet_by_book, none_made, step_made, steps_to_write, written_live, ahead_fewer}
+pub use Rattle.scsi_unit.proofs.UnitLaws.{both_empty, plain_quiet}
 use Rattle.spec.specs.StatusWrapper.{status_wrapper}
 use Rattle.medium.specs.Medium.{State, IsSound}
 use Rattle.scsi_unit.specs.Background.{is_dead}
@@ -21,30 +20,6 @@ use Rattle.medium.specs.Moments.{LeavesOnly}
 use Rattle.medium.proofs.Moments.{started}
 use Rattle.scsi_unit.specs.Books.{MayFind, FoundWith}
 use Rattle.bot_machine.specs.Disk.{Proceeds}
-
--- a command leaves it as it was whether every image was ours when the life began
-pub ours_stay : (refused : Bool) (block taken : List ℕ) (old new : UnitState)
-    (answer : Result (List ℕ) Sense) → CarriesOut refused block taken old answer new
-    → new.book.ours ≡ old.book.ours
-ours_stay refused block taken old new answer carried =
-    (keeps_writes.life refused block taken old new answer carried).ours
-
--- a command that does not intend to take data writes none
-pub writes_none : (unit : UnitState) (block taken : List ℕ)
-    → ((n : ℕ) → intention unit block ≢ intent.Out n) → write_in_progress unit block taken ≡ None
-writes_none unit block taken none = keeps_intentions.unwritten unit block taken none
-
--- where the medium refused nothing and stamps are left, a command has one answer and one state after it
-pub one_answer : (block taken : List ℕ) (old new other : UnitState) (answer told : Result (List ℕ) Sense)
-    → ¬ StampsOut (with_progress old.book (write_in_progress old block taken))
-    → CarriesOut false block taken old answer new → CarriesOut false block taken old told other
-    → (answer ≡ told) × (new ≡ other)
-one_answer block taken old new other answer told stamps carried again =
-    is_function.one_answer block taken old new other answer told stamps carried again
-
--- where the medium refused nothing and stamps are left, a step in the background changes nothing
-pub no_tick : (old new : UnitState) → ¬ StampsOut old.book → Ticks false old new → new ≡ old
-no_tick old new stamps ticks = ticks_only.nothing old new stamps ticks
 
 -- a faulted unit carries out a command without a call of the medium
 pub faulted_rests : {M : Type 0} (state : M → State) (block taken : List ℕ) (old : UnitValue M) (answer : Result (List ℕ) Sense)

@@ -28,7 +28,7 @@ use Rattle.std.specs.Prelude.{None}
 use Rattle.spec.specs.Book.{Book}
 use Rattle.spec.specs.Conversation.{Conversation, Begins, OpensExchange}
 use Rattle.bot_machine.specs.Acts.{CarriesOutAtOnce}
-use Rattle.bot_machine.proofs.UnitLaws.{intends_by_book, writes_none}
+use Rattle.bot_machine.proofs.UnitLaws.{intends_by_book, keeps_intentions}
 
 pub one_wrapper : (packet : List ℕ) (one other : Cbw) → SpellsCommand packet one → SpellsCommand packet other → one ≡ other
 one_wrapper packet one other first second = grind arith
@@ -171,7 +171,7 @@ module _ {M : Type 0} (unit : UnitValue M) (book : Book) (size : IsOfSize unit b
   -- a command that is carried out at once writes nothing
   pub no_write : (taken : List ℕ) → at_once ≡ moment_of exchange.case
       → write_in_progress (state_of unit book) exchange.command.block.items taken ≡ None
-  no_write taken moment = writes_none (state_of unit book) exchange.command.block.items taken
+  no_write taken moment = keeps_intentions.unwritten (state_of unit book) exchange.command.block.items taken
       (λ n out. at_once-takes_none exchange.case exchange.command.host exchange.intended begun.is_case (sym moment) n
       (intends ∙ ap way_of out))
 

@@ -4,7 +4,7 @@ use Rattle.spec.specs.Sense.{Sense}
 use Rattle.spec.specs.Rules.{Intention}
 use Rattle.spec.specs.declared.intent.Intent.TheVariants as intent
 use Rattle.scsi_unit.specs.Calls.{SendsAsMeant}
-use Rattle.bot_machine.proofs.UnitLaws.{ours_stay, faulted_rests, proceeding}
+use Rattle.bot_machine.proofs.UnitLaws.{keeps_writes, faulted_rests, proceeding}
 use Rattle.spec.specs.Exchange.{finished}
 use Rattle.bot_machine.specs.Refinement.{line_with}
 use Rattle.bot_machine.proofs.Packets.{sent_in-size, lies_sent, lies_within, packets_of-none, some_bytes}
@@ -36,7 +36,7 @@ returns-in-Ok-clause-carried_out g c = λ buffer left lies book fits.
           (c.conclude.ensures.line buffer left
           (omega (arith, c.size_sent-size.ensures.is, lies_within case c.in-Ok.size buffer out lies (omega (arith, room)))));
     })
-    line.2 (ours_stay _ _ _ _ _ _ line.1)
+    line.2 (keeps_writes.life _ _ _ _ _ _ line.1).ours
     (rw c.as_slice.ensures.value at (c.in-Ok.ensures.serves.cuts book fits))
 
 pub returns-in-Ok-clause-spares : goal.returns-in-Ok-clause-spares
@@ -77,7 +77,7 @@ returns-in-Err-clause-carried_out g c = λ buffer left lies book fits.
       after = rw (c.after_failure.ensures, packets_of-none _ (some_bytes c.args.bulk.now.size)) at
           (c.conclude-in-Err.ensures.line buffer left (omega arith));
     })
-    line.2 (ours_stay _ _ _ _ _ _ line.1) (rw c.as_slice.ensures.value at (c.in-Err.ensures.serves.cuts book fits))
+    line.2 (keeps_writes.life _ _ _ _ _ _ line.1).ours (rw c.as_slice.ensures.value at (c.in-Err.ensures.serves.cuts book fits))
 
 pub returns-in-Err-clause-spares : goal.returns-in-Err-clause-spares
 returns-in-Err-clause-spares g c = (
