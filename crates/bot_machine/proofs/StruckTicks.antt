@@ -38,7 +38,8 @@ carried_out_once : (case : Case) (command : Cbw) (intended : Way) (bytes : List 
     → IsCarriedOut Intends CarriesOut Ticks false case command intended bytes old one
     → IsCarriedOut Intends CarriesOut Ticks false case command intended bytes old other → one ≡ other
 carried_out_once case command intended bytes old one other stamps a b =
-    let same = is_function.one_answer command.block.items bytes old.unit one.unit other.unit a.answer b.answer stamps a.effect b.effect in grind arith
+    let same = is_function.one_answer command.block.items bytes old.unit one.unit other.unit a.answer b.answer stamps a.effect b.effect in
+    grind arith
 
 begins_once : (moment : Moment) (case : Case) (command : Cbw) (intended : Way) (old one other : Conversation UnitState)
     → (at_once ≡ moment → ¬ StampsOut (with_progress old.unit.book (write_in_progress old.unit command.block.items [])))

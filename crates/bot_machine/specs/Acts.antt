@@ -1,12 +1,14 @@
 -- What an event has the unit do: carry out a command, or make a step in the background.
 use Rattle.spec.specs.declared.event.Event.TheVariants as event
-use Rattle.std.specs.Prelude.{◌≡◌, ⊤, ◌≤◌, ℕ, Bool, true, false, List, [], ◌++◌, length, take}
+use Rattle.std.specs.Prelude.{◌≡◌, ⊤, ◌<◌, ◌≤◌, ℕ, Bool, true, false, List, [], ◌++◌, length, take}
 use Rattle.spec.specs.declared.wrapper.Cbw.{Cbw}
 use Rattle.spec.specs.declared.way.Way.{Way}
 use Rattle.spec.specs.declared.case.Case.{Case}
 use Rattle.spec.specs.CommandWrapper.{SpellsCommand}
 use Rattle.spec.specs.Cases.{IsCase, size_of_way}
+use Rattle.spec.specs.Book.{Book}
 use Rattle.spec.specs.Rules.{UnitState}
+use Rattle.scsi_unit.specs.UnitValue.{UnitValue, IsOfSize}
 use Rattle.spec.specs.declared.event.Event.{Event}
 use Rattle.spec.specs.Exchange.{Script, finished, taking, sending, at_once, moment_of}
 use Rattle.spec.specs.Conversation.{Conversation}
@@ -57,11 +59,22 @@ EventCarriesOut s event.Tick block taken = ⊥
 abbrev pub CarriesOutNone : (List ℕ → List ℕ → Type 0) → Type 0
 CarriesOutNone CarriedOut = (block taken : List ℕ) → CarriedOut block taken → ⊥
 
--- this command block is carried out, and no other
+-- this command block, of some bytes, is carried out, and no other
 pub record CarriesOutOnly (CarriedOut : List ℕ → List ℕ → Type 0) (block : List ℕ) : Type 0 where
+  pub some_block : 0 < length block
   pub taken : List ℕ
   pub carried_out : CarriedOut block taken
   pub only : (other bytes : List ℕ) → CarriedOut other bytes → other ≡ block
+
+-- so it is by each book of the unit's size
+abbrev pub RunsNone : {M : Type 0} → UnitValue M → (Book → List ℕ → List ℕ → Type 0) → Type 0
+RunsNone unit CarriedOut =
+    (book : Book) → IsOfSize unit book → CarriesOutNone (CarriedOut book)
+
+pub record RunsOne {M : Type 0} (unit : UnitValue M) (CarriedOut : Book → List ℕ → List ℕ → Type 0)
+    (block : List ℕ) : Type 0 where
+  pub some_block : 0 < length block
+  pub alone : (book : Book) → IsOfSize unit book → CarriesOutOnly (CarriedOut book) block
 
 -- an event has the unit do something
 abbrev pub Acts : Conversation UnitState → Event → Type 0

@@ -1,12 +1,12 @@
 //! Which packets have a command carried out that promises, and which ask the medium for no write
 //! and no flush.
 ghost use Rattle.std.specs.Prelude.{◌≡◌, ◌↔◌, ◌<◌, ℕ, List, true, false, length, IsTrue};
-ghost use Rattle.std.specs.Prelude.{IfSome, MatchOption};
+ghost use Rattle.std.specs.Prelude.{MatchOption};
 ghost use Rattle.spec.specs.Book.{Book};
 ghost use Rattle.spec.specs.declared.event.Event.TheVariants as event;
 ghost use Rattle.scsi_unit.specs.UnitValue.{state_of, IsOfSize};
 ghost use Rattle.bot_machine.specs.Acts.{CarriesOutAtOnce, CarriesOutLast, EventCarriesOut};
-ghost use Rattle.bot_machine.specs.Acts.{CarriesOutNone, CarriesOutOnly};
+ghost use Rattle.bot_machine.specs.Acts.{CarriesOutNone, CarriesOutOnly, RunsNone, RunsOne};
 ghost use Rattle.bot_machine.specs.Disk.{over};
 ghost use Rattle.bot_machine.specs.Promising.{PromisesIn, PromisesNone, QuietIn};
 
@@ -20,10 +20,9 @@ use scsi_unit::Unit;
 
 // The command block of a wrapper in this packet, if it is carried out at once.
 fn block_at_once<M: Medium>(unit: &Unit<M>, packet: &[u8]) -> Option<ArrayVec<u8, 16>>
-    ensures some { IfSome result (λ block. 0 < length block.items) }
-    ensures exact { (book : Book) → IsOfSize unit.now book → MatchOption result
-        (CarriesOutNone (CarriesOutAtOnce packet.now (state_of unit.now book)))
-        (λ block. CarriesOutOnly (CarriesOutAtOnce packet.now (state_of unit.now book))
+    ensures { MatchOption result
+        (RunsNone unit.now (λ book. CarriesOutAtOnce packet.now (state_of unit.now book)))
+        (λ block. RunsOne unit.now (λ book. CarriesOutAtOnce packet.now (state_of unit.now book))
         block.items) }
 {
     let Some(exchange) = read_exchange(unit, packet) else {
@@ -38,8 +37,7 @@ fn block_at_once<M: Medium>(unit: &Unit<M>, packet: &[u8]) -> Option<ArrayVec<u8
 // The command block whose data this packet, of at most `most` bytes, ends.
 fn block_of_data(pending: &Taking, packet: &[u8], most: u32) -> Option<ArrayVec<u8, 16>>
     requires { 0 < length pending.now.exchange.command.block.items }
-    ensures some { IfSome result (λ block. 0 < length block.items) }
-    ensures exact { (bytes : List ℕ) → MatchOption result
+    ensures { (bytes : List ℕ) → MatchOption result
         (CarriesOutNone (CarriesOutLast most pending.now.exchange.command
         pending.now.exchange.intended bytes pending.now.due packet.now))
         (λ block. CarriesOutOnly (CarriesOutLast most pending.now.exchange.command
@@ -54,11 +52,10 @@ fn block_of_data(pending: &Taking, packet: &[u8], most: u32) -> Option<ArrayVec<
 impl<M: Medium> Disk<M> {
     // The command block that this packet to Bulk-Out has carried out, if there is one.
     fn carried_block(&self, packet: &[u8]) -> Option<ArrayVec<u8, 16>>
-        ensures some { IfSome result (λ block. 0 < length block.items) }
-        ensures exact { (book : Book) → IsOfSize self.now.unit book → MatchOption result
-            (CarriesOutNone (EventCarriesOut (over self.now book)
+        ensures { MatchOption result
+            (RunsNone self.now.unit (λ book. EventCarriesOut (over self.now book)
             (event.Out (record { items = packet.now }))))
-            (λ block. CarriesOutOnly (EventCarriesOut (over self.now book)
+            (λ block. RunsOne self.now.unit (λ book. EventCarriesOut (over self.now book)
             (event.Out (record { items = packet.now }))) block.items) }
     {
         if self.bulk.out_halted {

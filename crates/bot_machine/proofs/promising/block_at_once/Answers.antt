@@ -4,18 +4,22 @@ use Rattle.bot_machine.specs.Refinement.{moment_meant}
 use Rattle.bot_machine.proofs.Wrappers.{carries_out, carried_at_once}
 use Rattle.bot_machine.proofs.promising.block_at_once.Goals as goal
 
-pub returns-in_default-clause-exact : goal.returns-in_default-clause-exact
-returns-in_default-clause-exact g c = λ book size block taken carries. c.in_default.ensures carries.command carries.spelled
+pub returns-in_default : goal.returns-in_default
+returns-in_default g c = λ book size block taken carries. c.in_default.ensures carries.command carries.spelled
 
-pub returns-in-AtOnce-clause-exact : goal.returns-in-AtOnce-clause-exact
-returns-in-AtOnce-clause-exact g c = λ book size. record {
-  taken = [];
-  carried_out = carries_out _ book size _ c.in-Some.exchange c.in-Some.ensures c.in-AtOnce.ensures;
-  only = λ other bytes carries. (carried_at_once _ book size _ c.in-Some.exchange c.in-Some.ensures other bytes carries).1;
+pub returns-in-AtOnce : goal.returns-in-AtOnce
+returns-in-AtOnce g c = record {
+  some_block = c.in-Some.ensures.some_block;
+  alone = λ book size. record {
+    some_block = c.in-Some.ensures.some_block;
+    taken = [];
+    carried_out = carries_out _ book size _ c.in-Some.exchange c.in-Some.ensures c.in-AtOnce.ensures;
+    only = λ other bytes carries. (carried_at_once _ book size _ c.in-Some.exchange c.in-Some.ensures other bytes carries).1;
+  };
 }
 
-pub returns-in-AfterData-clause-exact : goal.returns-in-AfterData-clause-exact
-returns-in-AfterData-clause-exact g c = λ book size block taken carries.
+pub returns-in-AfterData : goal.returns-in-AfterData
+returns-in-AfterData g c = λ book size block taken carries.
     let same = carried_at_once _ book size _ c.in-Some.exchange c.in-Some.ensures block taken carries in
     let once : moment_meant c.when_carried_out.result ≡ at_once = c.when_carried_out.ensures ∙ same.0 in
     elim c.in-AfterData.is [

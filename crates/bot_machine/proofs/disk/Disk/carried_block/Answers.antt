@@ -1,21 +1,28 @@
-use Rattle.std.proofs.Common.{take}
+use Rattle.std.proofs.Common.{take, Option, None, Some, MatchOption}
 use Rattle.spec.specs.Packets.{bytes_of}
 use Rattle.bot_machine.proofs.OutPackets.{sends}
 use Rattle.bot_machine.proofs.disk.Disk.carried_block.Goals as goal
 
-pub returns-then-self-clause-exact : goal.returns-then-self-clause-exact
-returns-then-self-clause-exact g c = rw (← c.self.view_is, c.if-self.true) (λ book size block taken carries. carries)
+match_so : {T A B : Type 0} {P Q : T → Type 0} (found : Option T) → MatchOption found A P → (A → B) → ((x : T) → P x → Q x)
+    → MatchOption found B Q
+match_so None h none some = none h
+match_so (Some x) h none some = some x h
 
-pub returns-in-Command-clause-exact : goal.returns-in-Command-clause-exact
-returns-in-Command-clause-exact g c = rw (← c.self.view_is, c.if-self.false, c.in-Command.is) c.block_at_once.ensures.exact
+pub returns-then-self : goal.returns-then-self
+returns-then-self g c = rw (← c.self.view_is, c.if-self.true) (λ book size block taken carries. carries)
 
-pub returns-in-DataOut-clause-exact : goal.returns-in-DataOut-clause-exact
-returns-in-DataOut-clause-exact g c =
+pub returns-in-Command : goal.returns-in-Command
+returns-in-Command g c = rw (← c.self.view_is, c.if-self.false, c.in-Command.is) c.block_at_once.ensures
+
+pub returns-in-DataOut : goal.returns-in-DataOut
+returns-in-DataOut g c =
     rw (← c.self.view_is, c.if-self.false, c.in-DataOut.is)
-    (λ book size. (rw c.bytes.ensures at c.block_of_data.ensures.exact) (take c.in-DataOut.pending.filled c.self.inside.transfer.items))
+    (match_so c.block_of_data.result
+    ((rw c.bytes.ensures at c.block_of_data.ensures) (take c.in-DataOut.pending.filled c.self.inside.transfer.items))
+    (λ none book size. none) (λ block one. record { some_block = one.some_block; alone = λ book size. one }))
 
-pub returns-in_default-clause-exact : goal.returns-in_default-clause-exact
-returns-in_default-clause-exact g c =
+pub returns-in_default : goal.returns-in_default
+returns-in_default g c =
     let d = c.self.inside in
     let sent = sends d.bulk.phase (λ e. c.in_default.not-Command e) (λ t e. c.in_default.not-DataOut t e)
     (bytes_of d.bulk.size) d.transfer.items d.bulk.status in
