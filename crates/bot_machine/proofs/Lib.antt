@@ -10,5 +10,4 @@ pub mod StruckTicks
 pub mod LifeActions
 pub mod ArmedFaults
 pub mod LifeStarts
-pub mod Begun
 pub mod LifeRuns

@@ -22,12 +22,10 @@ pub mod Disk
 pub mod Faulting
 pub mod Opening
 pub mod Refinement
-pub mod LineChanges
 pub mod Serving
 pub mod Striking
 pub mod Transfers
 pub mod LivesValue
-pub mod LivesView
 pub mod Moving
 pub mod Policy
 pub mod Lifetimes

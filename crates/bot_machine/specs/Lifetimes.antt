@@ -21,7 +21,7 @@ use Rattle.bot_machine.specs.Moving.{MovesBy, IsRefusedStart}
 use Rattle.bot_machine.specs.LivesValue.{LivesValue, HasStarted, LivesGoOn, LivesStop, IsAtRest}
 use Rattle.bot_machine.specs.LivesValue.{OpensOn, HasLimit, FitsLives, MayRefuse, faults_armed}
 use Rattle.bot_machine.specs.LivesValue.{state_in}
-use Rattle.bot_machine.specs.Fitting.{AreWithin}
+use Rattle.bot_machine.specs.Fitting.{AreWithin, LivesAreWithin}
 use Rattle.medium.specs.Medium.{CutLeaves}
 use Rattle.scsi_unit.specs.Starting.{StandsForSome}
 use Rattle.spec.specs.Promise.{first_standing, IsKept, IsKeptUpTo}
@@ -92,6 +92,14 @@ pub record AwaitsEvents (lives : LivesValue) (events : List Event) (answers : Ro
   pub started : HasStarted lives.state
   pub within : AreWithin lives.device.packet_size events
   pub room : length answers.list + length events ≤ answers.room
+
+-- Lives may be lived: the power is on, nothing is unflushed and no fuse is armed, no packet has
+-- more bytes than this, and the answers have room.
+pub record AwaitsLives (most : ℕ) (medium : Sim) (lives : List Life) (answers : Room) : Type 0 where
+  pub rests : IsAtRest medium
+  pub unfused : medium.power.fuse ≡ None
+  pub within : LivesAreWithin most lives
+  pub room : length answers.list + events_in lives ≤ answers.room
 
 -- lives went on by these actions, and the answers to `events` events were appended
 pub record AppendsFor (before after : LivesValue) (old new : Room) (actions : List Action)

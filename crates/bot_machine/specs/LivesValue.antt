@@ -1,9 +1,10 @@
 -- Lives of a disk over a medium in memory, and where they stand.
 use Rattle.std.specs.Prelude.{◌≡◌, ◌↔◌, ℕ, ◌+◌, ◌^◌, ◌≤◌, ◌<◌, ⊤, Bool, true, false, List, [], ◌∷◌}
-use Rattle.std.specs.Prelude.{◌++◌, None, count_by, Result, OnOk, IfErr}
+use Rattle.std.specs.Prelude.{◌++◌, Option, None, Some, count_by, Result, OnOk, IfErr}
 use Rattle.medium.specs.Medium.{Image}
 use Rattle.medium.specs.Moments.{EachCut}
-use Rattle.medium.specs.Power.{faults_in}
+use Rattle.medium.specs.Power.{faults_in, powered}
+use Rattle.medium.specs.Tally.{none}
 use Rattle.medium.specs.Sim.{Sim, state_of, ComesAfter}
 use Rattle.scsi_unit.specs.StartFaults.{StartFault, NoMemory, Read, Write, Flush, BadSuper}
 use Rattle.scsi_unit.specs.StartFaults.{BadVersion, BadSize, BadHead, StampsUsedUp, LogTooSmall}
@@ -240,3 +241,18 @@ pub record DiskAnswers (before : DiskState) (answer : Answer) (after : DiskState
   pub started : HasStarted after
   pub off : (answer ≡ Off) ↔ ((medium_in after).power.off ≡ true)
   pub follows : ComesAfter (medium_in before) (medium_in after)
+
+-- a medium that holds nothing, where none is kept; that is so within a call alone
+abbrev pub disk_state_in : Option DiskState → DiskState
+disk_state_in None = Stopped (record {
+  flushed = [];
+  unflushed = [];
+  room = 0;
+  power = powered;
+  flushes = 0;
+  calls = 0;
+  made = none;
+  refused = none;
+  without_room = 0;
+})
+disk_state_in (Some state) = state

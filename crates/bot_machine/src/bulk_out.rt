@@ -11,13 +11,12 @@ ghost use Rattle.scsi_unit.specs.Serving.{IsSparing};
 ghost use Rattle.scsi_unit.specs.UnitValue.{unit_limit};
 ghost use Rattle.bot_machine.specs.Disk.{Tells};
 ghost use Rattle.spec.specs.Exchange.{Script, finished};
-ghost use Rattle.bot_machine.specs.Refinement.{line_of, line_with};
+ghost use Rattle.bot_machine.specs.Refinement.{line_of, line_with, LaysOut};
 ghost use Rattle.spec.specs.Packets.{bytes_of};
 ghost use Rattle.bot_machine.specs.Serving.{IsBegun, CarriesOutOn, BeginsOn, RestsOn, SparesOn};
 ghost use Rattle.bot_machine.specs.Serving.{TakesData, HandsOn, EndsData, CanCarryOut, LiesIn};
 ghost use Rattle.bot_machine.specs.Serving.{AwaitsWrapper, AwaitsData, AwaitsEnd, HasMoreDue};
 ghost use Rattle.bot_machine.specs.Serving.{SendsOn};
-ghost use Rattle.bot_machine.specs.LineChanges.{LaysOut};
 ghost use Rattle.scsi_unit.specs.Reading.{IsOneOf};
 ghost use Rattle.bot_machine.specs.Reading.{sectors_for, WrapperReadsAt};
 

@@ -7,7 +7,7 @@ ghost use Rattle.spec.specs.Exchange.{outcome_for, status_for};
 ghost use Rattle.spec.specs.Packets.{bytes_of};
 ghost use Rattle.spec.specs.Requests.{clear_halt};
 ghost use Rattle.bot_machine.specs.Refinement.{halt_of, line_of, IsInPhase};
-ghost use Rattle.bot_machine.specs.LineChanges.{ChangesLine, LaysOut, MovesOn};
+ghost use Rattle.bot_machine.specs.Refinement.{ChangesLine, LaysOut, MovesOn};
 
 use crate::exchange::Exchange;
 use crate::status::write_csw;

@@ -4,8 +4,7 @@ ghost use Rattle.spec.specs.Book.{Book};
 ghost use Rattle.bot_machine.specs.Disk.{FitsDisk, over};
 ghost use Rattle.bot_machine.specs.Faulting.{is_good, taken_back, owes_good, faulted_line};
 ghost use Rattle.bot_machine.specs.Faulting.{faulted_over, faulted_disk, TurnsGoodAlone};
-ghost use Rattle.bot_machine.specs.Refinement.{line_of};
-ghost use Rattle.bot_machine.specs.LineChanges.{ChangesLine};
+ghost use Rattle.bot_machine.specs.Refinement.{line_of, ChangesLine};
 
 use crate::bulk_state::{BulkState, Phase};
 use crate::disk::Disk;

@@ -39,12 +39,11 @@ pub struct Lives {
 
 impl Model for Lives {
     ghost use Rattle.std.specs.Prelude.{◌≢◌, None};
-    ghost use Rattle.bot_machine.specs.LivesValue.{LivesValue};
+    ghost use Rattle.bot_machine.specs.LivesValue.{LivesValue, disk_state_in, HasPackets};
 
     ghost Value = { LivesValue };
 
     ghost use Rattle.bot_machine.specs.Device.{device_by};
-    ghost use Rattle.bot_machine.specs.LivesView.{disk_state_in};
 
     ghost view = { λ l. record {
       device = device_by l.identity l.size l.retiring;
@@ -52,7 +51,6 @@ impl Model for Lives {
     } };
 
     ghost use Rattle.spec.specs.Packets.{bytes_of};
-    ghost use Rattle.bot_machine.specs.LivesValue.{HasPackets};
 
     ghost invariant = { λ l.
         (l.state ≢ None) × HasPackets (bytes_of l.size) (disk_state_in l.state) };

@@ -5,14 +5,14 @@ ghost use Rattle.medium.specs.Sim.{IsFused};
 ghost use Rattle.spec.specs.declared.event.Answer.{Answer};
 ghost use Rattle.spec.specs.Lives.{plays};
 ghost use Rattle.bot_machine.specs.Device.{device_by, device_of};
-ghost use Rattle.bot_machine.specs.Fitting.{AreWithin, LivesAreWithin};
+ghost use Rattle.bot_machine.specs.Fitting.{AreWithin};
 ghost use Rattle.spec.specs.Packets.{bytes_of};
 ghost use Rattle.spec.specs.declared.packet_size.PacketSize.TheVariants.{High512};
 ghost use Rattle.bot_machine.specs.LivesValue.{medium_in, IsAtRest};
 ghost use Rattle.bot_machine.specs.LivesValue.{LivesGoOn, RestsAlone};
 ghost use Rattle.bot_machine.specs.Lifetimes.{actions_of, armed_by, events_in, Appends, AppendsFor};
 ghost use Rattle.bot_machine.specs.Lifetimes.{KeepPromise, KeepPromiseUpTo, AreLived, AreLivedUpTo};
-ghost use Rattle.bot_machine.specs.Lifetimes.{IsNotLived, AwaitsEvents};
+ghost use Rattle.bot_machine.specs.Lifetimes.{IsNotLived, AwaitsEvents, AwaitsLives};
 
 use crate::answers::Answers;
 use crate::lives::Lives;
@@ -68,10 +68,7 @@ pub fn run_lives_with(
     lives: &[Life],
     answers: &mut Answers,
 ) -> Result<SimMedium, StartError<SimMedium>>
-    requires rests { IsAtRest medium }
-    requires unfused { medium.power.fuse ≡ None }
-    requires within { LivesAreWithin (bytes_of size) lives.now }
-    requires room { length answers.old.list + events_in lives.now ≤ answers.old.room }
+    requires { AwaitsLives (bytes_of size) medium lives.now answers.old }
     ensures promise { IfOk result (λ after. (told : List Answer)
         × Appends told answers.old answers.new
         × KeepPromise medium (device_of identity size) lives.now told after) }
@@ -116,10 +113,7 @@ pub fn run_lives_by(
     lives: &[Life],
     answers: &mut Answers,
 ) -> Result<SimMedium, StartError<SimMedium>>
-    requires rests { IsAtRest medium }
-    requires unfused { medium.power.fuse ≡ None }
-    requires within { LivesAreWithin (bytes_of size) lives.now }
-    requires room { length answers.old.list + events_in lives.now ≤ answers.old.room }
+    requires { AwaitsLives (bytes_of size) medium lives.now answers.old }
     ensures promise { IfOk result (λ after. (told : List Answer)
         × Appends told answers.old answers.new
         × KeepPromise medium (device_by identity size retiring) lives.now told after) }

@@ -1,6 +1,6 @@
 use Rattle.std.proofs.Common.{sym, ◌∙◌}
-use Rattle.bot_machine.proofs.Begun.{start_has_disk, start_is_cut, start_is_refused, start_of_disk, start_without_power, begun_running}
-use Rattle.bot_machine.proofs.Begun.{begun_with, begun_without_power}
+use Rattle.bot_machine.proofs.LifeStarts.{start_has_disk, start_is_cut, start_is_refused, start_of_disk, start_without_power, begun_running}
+use Rattle.bot_machine.proofs.LifeStarts.{begun_with, begun_without_power}
 use Rattle.bot_machine.proofs.lives.disk_state.start.Goals as goal
 
 pub returns-in-Running-clause-ok : goal.returns-in-Running-clause-ok
