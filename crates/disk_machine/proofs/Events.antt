@@ -1,8 +1,8 @@
--- One event of the disk, wherever the device is.
-use Rattle.std.proofs.Common.{◌≡◌, ◌⊎◌, ◌≤◌, ◌++◌, inl, inr, List, ℕ, Bool, true, false, length, take, sym, ◌∙◌, ap, subst, arith}
-use Rattle.std.proofs.Common.{append_assoc}
-use Rattle.std.proofs.lemmas.Bool.{cases_lt}
-use Rattle.std.proofs.lemmas.List.{take-append-le}
+-- One event of the disk, wherever the device is: what a start finds of a book stays to be found.
+use Rattle.std.proofs.Common.{◌≡◌, ◌⊎◌, ◌≤◌, ◌++◌, ◌∷◌, [], inl, inr, ⊎_elim, List, ℕ, Bool, true, false, length, take, sym, ◌∙◌, ap}
+use Rattle.std.proofs.Common.{subst, arith, append_assoc, length-append, Some, None, Option}
+use Rattle.std.proofs.lemmas.Bool.{cases_lt, false≢true}
+use Rattle.std.proofs.lemmas.List.{take-append-le, append-nil}
 use Rattle.medium.specs.Medium.{Image, CutLeaves}
 use Rattle.window.specs.Device.{durable, after}
 use Rattle.window.specs.OutboxMedium.{sent}
@@ -10,23 +10,124 @@ use Rattle.window.specs.Parts.{AreCarriedOut}
 use Rattle.window.specs.Story.{given}
 use Rattle.window.specs.declared.call.DeviceCall.{DeviceCall}
 use Rattle.window.specs.Window.{state_of, mirror_of}
+use Rattle.spec.specs.Blocks.{Write}
 use Rattle.spec.specs.Book.{Book}
 use Rattle.spec.specs.Conversation.{Conversation}
 use Rattle.spec.specs.Rules.{UnitState}
-use Rattle.spec.specs.UnitConversation.{UnitStep}
+use Rattle.spec.specs.UnitConversation.{UnitStep, write_of_event}
 use Rattle.spec.specs.declared.event.Event.{Event}
 use Rattle.spec.specs.declared.event.Answer.{Answer}
+use Rattle.scsi_unit.specs.Background.{Work}
+use Rattle.scsi_unit.specs.Books.{MayFind, FoundWith}
+use Rattle.scsi_unit.specs.Laws.{IsSameLife}
 use Rattle.scsi_unit.specs.Serving as serving
 use Rattle.bot_machine.specs.Disk.{FitsDisk, over}
 use Rattle.bot_machine.specs.Promising.{PromisesNone}
-use Rattle.scsi_unit.specs.Background.{Work}
+use Rattle.bot_machine.specs.BookLaws.{GrowsBy}
+use Rattle.bot_machine.proofs.BookLaws.{book_laws}
 use Rattle.disk_machine.specs.Plays.{medium_of, PlaysBy}
-use Rattle.disk_machine.specs.Machine.{Machine, MayLeave, Finds, Keeps, has_refused, under_way, carried}
+use Rattle.disk_machine.specs.Machine.{Machine, MayLeave, Finds, Keeps, has_refused, under_way, carried, promising}
 use Rattle.disk_machine.specs.Moves.{ServesEvent}
 use Rattle.disk_machine.specs.declared.asked.Asked.{Asked}
 use Rattle.disk_machine.specs.declared.waiting.Waiting.TheVariants as waiting
 use Rattle.disk_machine.proofs.Handing.{KeepsAll}
-use Rattle.disk_machine.proofs.StepLaws.{faulted_stays, mark_stays, mark_grows, finds_on, finds_with}
+
+-- ---- what may be found, from book to book
+
+-- there are as many writes as before, or one more
+pub some_since : (write : Option Write) (old new : UnitState) → GrowsBy write old new
+    → (since : List Write) × (new.book.writes ≡ old.book.writes ++ since)
+some_since None old new same = ([], same ∙ sym (append-nil old.book.writes))
+some_since (Some write) old new (inl more) = (write ∷ [], more)
+some_since (Some write) old new (inr refused) = ([], refused.1 ∙ sym (append-nil old.book.writes))
+
+module _ (size told : ℕ) (image : Image) where
+  -- fewer promises keep less, and more writes take nothing away
+  found_with : (old new : Book) → IsSameLife old new → (was : ℕ) (before rest writes : List Write) → told ≤ was
+      → writes ≡ before ++ rest → MayFind size (record old { writes = before; mark = was }) image
+      → MayFind size (record new { writes = writes; mark = told }) image
+  found_with old new life was before rest writes few more found =
+      let marked = found.promises in
+      let within = found.accepted in
+      let bound = found.bound in
+      let longer = simp length-append at (ap (λ (l : List Write). length l) more) in record {
+        count = found.count;
+        next = found.next;
+        promises = omega arith;
+        accepted = omega (arith, longer);
+        stands = rw (life.blocks, life.opening, more, take-append-le found.count before rest within) found.stands;
+        bound = omega (arith, longer, life.stamp);
+      }
+
+  -- with the same book, and faulted where it was so, a unit has the same found of it
+  pub finds_same : (old new : UnitState) → (old.faulted ≡ true → new.faulted ≡ true) → new.book ≡ old.book
+      → Finds size told old image → Finds size told new image
+  finds_same old new faulted same found = rw same (elim found [
+    | inl found ↦ inl found
+    | inr found ↦ inr (faulted found.0, found.1)
+  ])
+
+  module _ (old new : UnitState) (life : IsSameLife old.book new.book) where
+    found_since : (was : ℕ) → told ≤ was → (write : Option Write) → GrowsBy write old new → MayFind size (promising was old.book) image
+        → MayFind size (promising told new.book) image
+    found_since was few write grows = let more = some_since write old new grows in
+        found_with old.book new.book life was old.book.writes more.0 new.book.writes few more.1
+
+    found_amid : (write : Option Write) → GrowsBy write old new → told ≤ old.book.mark → FoundWith size old.book write image
+        → Finds size told new image
+    found_amid None same few found = inl (found_since old.book.mark few None same found)
+    found_amid (Some write) grows few (inl found) = inl (found_since old.book.mark few (Some write) grows found)
+    found_amid (Some write) (inl more) few (inr found) = inl (found_with old.book new.book life old.book.mark
+        (old.book.writes ++ write ∷ []) [] new.book.writes few (more ∙ sym (append-nil (old.book.writes ++ write ∷ []))) found)
+    found_amid (Some write) (inr refused) few (inr found) = inr (
+      refused.0,
+      (
+        write,
+        found_with old.book new.book life old.book.mark (old.book.writes ++ write ∷ []) [] (new.book.writes ++ write ∷ []) few
+            (rw refused.1 (sym (append-nil (old.book.writes ++ write ∷ [])))) found,
+      ),
+    )
+
+-- ---- an event
+
+module _ (refused : Bool) (old new : Conversation UnitState) (event : Event) (answer : Answer)
+    (step : UnitStep refused old event answer new) where
+  pub opening_stays : IsSameLife old.unit.book new.unit.book
+  opening_stays = book_laws.life refused old new event answer step
+
+  pub writes_grow : GrowsBy (write_of_event old event) old.unit new.unit
+  writes_grow = book_laws.writes refused old new event answer step
+
+  faulted_stays : old.unit.faulted ≡ true → (new.unit.faulted ≡ true) × (new.unit.book ≡ old.unit.book)
+  faulted_stays = book_laws.fault refused old new event answer step
+
+  mark_stays : PromisesNone old event → new.unit.book.mark ≡ old.unit.book.mark
+  mark_stays none = ⊎_elim (λ same. same)
+      (λ moved. absurd (false≢true (sym (none moved.0.block moved.0.taken moved.0.carried_out) ∙ moved.0.promising)))
+      (book_laws.mark refused old new event answer step)
+
+  mark_grows : old.unit.book.mark ≤ length old.unit.book.writes
+      → (old.unit.book.mark ≤ new.unit.book.mark) × (new.unit.book.mark ≤ length new.unit.book.writes)
+  mark_grows most =
+      let more = some_since (write_of_event old event) old.unit new.unit writes_grow in
+      grind (arith, most, simp length-append at (ap (λ (l : List Write). length l) more.1), book_laws.mark refused old new event answer step)
+
+  -- ---- what a start finds
+
+  module _ (size told : ℕ) (image : Image) where
+    -- before the event, and so behind it
+    finds_on : Finds size told old.unit image → Finds size told new.unit image
+    finds_on (inl found) =
+        inl (found_since size told image old.unit new.unit opening_stays told (omega arith) (write_of_event old event) writes_grow found)
+    finds_on (inr found) =
+        finds_same size told image old.unit new.unit (λ faulted. (faulted_stays faulted).0) (faulted_stays found.0).1 (inr found)
+
+    -- amid the event, and so behind it
+    finds_with : told ≤ old.unit.book.mark → FoundWith size old.unit.book (write_of_event old event) image
+        → Finds size told new.unit image
+    finds_with = found_amid size told image old.unit new.unit opening_stays (write_of_event old event) writes_grow
+
+-- ---- wherever the device is
 
 module _ {work : Work} (old new : Machine) (event : Event) (answer : Answer) (plays : PlaysBy work old.disk event answer new.disk)
     (same : new.asked ≡ old.asked) where

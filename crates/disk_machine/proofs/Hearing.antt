@@ -23,7 +23,7 @@ use Rattle.disk_machine.specs.declared.waiting.Waiting.{Waiting}
 use Rattle.disk_machine.specs.declared.waiting.Waiting.TheVariants as waiting
 use Rattle.disk_machine.proofs.Handing.{Stands, keeps_all, stays_safe}
 use Rattle.disk_machine.proofs.Handing.{IsSentStill, some_go, taken_by, leaves_no_more, sent_stands, stays, same_safe, read_behind}
-use Rattle.disk_machine.proofs.StepLaws.{finds_same}
+use Rattle.disk_machine.proofs.Events.{finds_same}
 
 -- ---- calls are carried out
 
@@ -78,7 +78,7 @@ module _ (old new : Machine) (count : ℕ) (was : old.asked ≡ asked.Calls coun
     fewer = serves.fewer;
     keeps = λ ours image left.
         subst (λ (n : ℕ). Finds n told (unit_state new.disk.unit book) image) (sym same.size)
-        (finds_same (state_of (medium_of old.disk)).size image told (unit_state old.disk.unit book) (unit_state new.disk.unit book)
+        (finds_same (state_of (medium_of old.disk)).size told image (unit_state old.disk.unit book) (unit_state new.disk.unit book)
         (λ faulted. dead book) refl (serves.keeps ours image (leaves_no_more old new same reaches image left)));
     all = λ none fine. absurd (false≢true (sym fine ∙ refuses));
     faulted = λ refused. dead book;

@@ -4,7 +4,6 @@ pub mod OutboxTaken
 pub mod Handing
 pub mod Hearing
 pub mod Events
-pub mod StepLaws
 pub mod Playing
 pub mod PutOff
 pub mod Living

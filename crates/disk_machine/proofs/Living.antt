@@ -1,7 +1,7 @@
 -- A life is served on through all calls, and what is said in them is by the rules.
 use Rattle.std.proofs.Common.{◌≡◌, ◌++◌, inl, inr, [], ◌∷◌, List, ℕ, zero, suc, Bool, true, false, refl, ap, subst, ◌⊎◌, ◌*◌, ◌≤◌, sym, ◌∙◌}
 use Rattle.std.proofs.Common.{arith, append_assoc, drop}
-use Rattle.std.specs.Prelude.{Result, Option, Some, None}
+use Rattle.std.specs.Prelude.{Result}
 use Rattle.window.specs.declared.ask.DeviceAsk.{DeviceAsk}
 use Rattle.window.specs.declared.ask.DeviceAsk.TheVariants as ask
 use Rattle.window.specs.declared.done_fault.DoneFault.{DoneFault}
@@ -29,18 +29,16 @@ use Rattle.spec.specs.Blocks.{Write}
 use Rattle.spec.specs.UnitConversation.{write_of_event}
 use Rattle.spec.specs.declared.event.Event.{Event}
 use Rattle.spec.specs.declared.event.Answer.{Answer}
-use Rattle.scsi_unit.specs.Laws.{IsSameLife}
-use Rattle.bot_machine.specs.BookLaws.{GrowsBy}
 use Rattle.disk_machine.specs.Ahead.{LooksAhead}
 use Rattle.disk_machine.specs.Idling.{HasGoneAhead, HasStepped}
 use Rattle.disk_machine.specs.Lives.{Call, next, done, bulk_out, bulk_in, take_transfer, send_transfer, setup, idle, work_ahead, look_ahead}
-use Rattle.disk_machine.specs.Lives.{IsMade, turns_of, ServesLater, ServesThroughout, turns_in_all}
+use Rattle.disk_machine.specs.Lives.{IsMade, turns_of, ServesLater, ServesThroughout}
 use Rattle.disk_machine.specs.Moves.{ServesOn, ServesEvent, ServesToken}
 use Rattle.disk_machine.specs.Packets.{TakesOne, SendsIn}
 use Rattle.disk_machine.specs.PuttingOff.{WaitsForSteps, WaitsForCalls}
 use Rattle.disk_machine.specs.Transfers.{packet_at, TakesFirst, EndsTaking, TakesTransfer, SendsAt, SendsFirst, EndsSending, SendsTransfer}
 use Rattle.disk_machine.specs.Transfers.{SendsInto}
-use Rattle.disk_machine.proofs.StepLaws.{opening_stays, writes_grow}
+use Rattle.disk_machine.proofs.Events.{opening_stays, some_since, writes_grow}
 
 -- ---- turns, one after the other, by the rules
 
@@ -59,29 +57,22 @@ events_run old (refusal ∷ turns) new run all = absurd all
 
 -- ---- calls that are no event
 
-pub same_over : (old new : Machine) → new.disk ≡ old.disk → (book : Book) → over new.disk book ≡ over old.disk book
-same_over old new same book = ap (λ (d : Disk). over d book) same
-
 pub asks_say : (old new : Machine) (room : List ℕ) (what : DeviceAsk) (filled : List ℕ) → AsksFor old room what new filled
     → (book : Book) → over new.disk book ≡ over old.disk book
-asks_say old new room ask.Nothing filled asks book = same_over old new (ap (λ (s : Machine). s.disk) asks.1) book
+asks_say old new room ask.Nothing filled asks book = rw asks.1 refl
 asks_say old new room (ask.Write first count) filled asks book = ap (λ (d : Disk). over d book) asks.0.rest.others
 asks_say old new room ask.Flush filled asks book = ap (λ (d : Disk). over d book) asks.0.rest.others
-asks_say old new room (ask.Read home) filled asks book = same_over old new (ap (λ (s : Machine). s.disk) asks.3) book
+asks_say old new room (ask.Read home) filled asks book = rw asks.3 refl
 
 module _ (old new : Machine) (bytes : List ℕ) (result : Result (Unit {0}) DoneFault) (book : Book) where
-  stays_over : new ≡ old → over new.disk book ≡ over old.disk book
-  stays_over same = same_over old new (ap (λ (s : Machine). s.disk) same) book
-
   pub done_says : (a : Asked) (ok : Bool) → IsDone a ok old bytes result new
       → TurnsRun (over old.disk book) (turns_done a ok) (over new.disk book)
-  done_says asked.Nothing ok ended = stays_over ended.1
-  done_says (asked.Calls count) true ended = same_over old new (ap (λ (s : Machine). s.disk) ended.1) book
+  done_says (asked.Calls count) true ended = rw ended.1 refl
   done_says (asked.Calls count) false ended = ended.1.refused.by_rules book
-  done_says (asked.Read home) true (inl bad) = stays_over bad.1.1
+  done_says (asked.Read home) true (inl bad) = rw bad.1.1 refl
   done_says (asked.Read home) true (inr good) = ap (λ (d : Disk). over d book) good.2.sees.others
-  done_says (asked.Read home) false ended = same_over old new (ap (λ (s : Machine). s.disk) ended.1) book
-  done_says (asked.Refused count behind) ok ended = stays_over ended.1
+  done_says (asked.Read home) false ended = rw ended.1 refl
+  done_says _ ok ended = rw ended.1 refl
 
 -- ---- steps in the background
 
@@ -100,36 +91,21 @@ steps_run Holds work (suc count) old new (mid, steps, holds, plays) told book se
 abbrev LivesOn : Machine → List Turn → Machine → Type 0
 LivesOn old turns new = (told : ℕ) (book : Book) → Serves old told book → ServesLater told book old turns new
 
-same_life : (book : Book) → IsSameLife book book
-same_life book = record { blocks = refl; opening = refl; stamp = refl; ours = refl }
-
-life_through : (a b c : Book) → IsSameLife a b → IsSameLife b c → IsSameLife a c
-life_through a b c f g = record {
-  blocks = g.blocks ∙ f.blocks;
-  opening = g.opening ∙ f.opening;
-  stamp = g.stamp ∙ f.stamp;
-  ours = g.ours ∙ f.ours;
-}
-
-then : (old mid new : Machine) (first last : List Turn) (told : ℕ) (book : Book) → ServesLater told book old first mid
-    → LivesOn mid last new → ServesLater told book old (first ++ last) new
-then old mid new before behind told book first on =
-    let last = on first.told_now first.later first.serves in record {
-      told_now = last.told_now;
-      later = last.later;
-      serves = last.serves;
-      told_stays = omega (arith, first.told_stays, last.told_stays);
-      life = life_through book first.later last.later first.life last.life;
-      since = first.since ++ last.since;
-      writes = last.writes ∙ ap (λ (l : List Write). l ++ last.since) first.writes
-          ∙ append_assoc book.writes first.since last.since;
-      run = runs_through (over old.disk book) (over mid.disk first.later) (over new.disk last.later) before behind first.run last.run;
+through : {old mid new : Machine} {before behind : List Turn} → LivesOn old before mid → LivesOn mid behind new
+    → LivesOn old (before ++ behind) new
+through {old} {mid} {new} {before} {behind} first last told book serves =
+    let early = first told book serves in
+    let late = last early.told_now early.later early.serves in record {
+      told_now = late.told_now;
+      later = late.later;
+      serves = late.serves;
+      told_stays = omega (arith, early.told_stays, late.told_stays);
+      life = record { blocks = cc; opening = cc; stamp = cc; ours = cc };
+      since = early.since ++ late.since;
+      writes = late.writes ∙ ap (λ (l : List Write). l ++ late.since) early.writes
+          ∙ append_assoc book.writes early.since late.since;
+      run = runs_through (over old.disk book) (over mid.disk early.later) (over new.disk late.later) before behind early.run late.run;
     }
-
-through : (old mid new : Machine) (first last : List Turn) → LivesOn old first mid → LivesOn mid last new
-    → LivesOn old (first ++ last) new
-through old mid new before behind first last told book serves =
-    then old mid new before behind told book (first told book serves) last
 
 -- ---- one call
 
@@ -141,7 +117,7 @@ with_book old new turns told now book more serves run = record {
   later = book;
   serves = serves;
   told_stays = more;
-  life = same_life book;
+  life = record { blocks = refl; opening = refl; stamp = refl; ours = refl };
   since = [];
   writes = sym (append-nil book.writes);
   run = run;
@@ -152,12 +128,6 @@ served_on : (old new : Machine) (turns : List Turn) → ServesOn old new
     → ((book : Book) → TurnsRun (over old.disk book) turns (over new.disk book)) → LivesOn old turns new
 served_on old new turns on run told book serves =
     with_book old new turns told told book (omega arith) (on told book serves) (run book)
-
-some_since : (write : Option Write) (old new : UnitState) → GrowsBy write old new
-    → (since : List Write) × (new.book.writes ≡ old.book.writes ++ since)
-some_since None old new same = ([], same ∙ sym (append-nil old.book.writes))
-some_since (Some write) old new (inl more) = (write ∷ [], more)
-some_since (Some write) old new (inr refused) = ([], refused.1 ∙ sym (append-nil old.book.writes))
 
 -- an event
 served_event : (old new : Machine) (event : Event) (answer : Answer) → ServesEvent old event answer new
@@ -210,7 +180,7 @@ taken_one : (old new : Machine) (packet : List ℕ) (code : ℕ) (takes : TakesO
 taken_one old new packet code (inl long) = nothing_changes old new long.2
 taken_one old new packet code (inr (few, inl held)) = nothing_changes old new held.2
 taken_one old new packet code (inr (few, inr (free, inl lacks))) =
-    served_on old new [] lacks.4.serves (same_over old new (ap (λ (s : Machine). s.disk) lacks.3))
+    served_on old new [] lacks.4.serves (λ book. rw lacks.3 refl)
 taken_one old new packet code (inr (few, inr (free, inr (inl (none, serves))))) =
     served_event old new (event.Out (record { items = packet })) serves.played.answer serves.serves
 taken_one old new packet code (inr (few, inr (free, inr (inr puts)))) = put_off puts.promises old new puts.waits
@@ -231,10 +201,8 @@ gone_ahead old new (inr (rests, inl (some, writes), others)) on =
 gone_ahead old new (inr (rests, inr (none, makes), others)) on = stepped _ Ahead makes.count old new makes.steps on
 
 looked : (old new : Machine) (first count : ℕ) (reads : Bool) → LooksAhead old first count new reads → LivesOn old [] new
-looked old new first count true looks =
-    served_on old new [] looks.stays.serves (same_over old new (ap (λ (s : Machine). s.disk) looks.one.2))
-looked old new first count false looks =
-    served_on old new [] looks.stays.serves (same_over old new (ap (λ (s : Machine). s.disk) looks.one.1))
+looked old new first count true looks = served_on old new [] looks.stays.serves (λ book. rw looks.one.2 refl)
+looked old new first count false looks = served_on old new [] looks.stays.serves (λ book. rw looks.one.1 refl)
 
 -- ---- a transfer
 
@@ -242,9 +210,7 @@ taken_first : (most : ℕ) (bytes : List ℕ) (count : ℕ) (old new : Machine) 
     → LivesOn old (turns_taken most bytes count old new first) new
 taken_first most bytes zero old new same = nothing_changes old new same
 taken_first most bytes (suc number) old new (mid, first, has, takes) =
-    through old mid new (turns_taken most bytes number old mid first)
-    (turns_one mid (packet_at most bytes number) new 0 takes.one) (taken_first most bytes number old mid first)
-    (taken_one mid new (packet_at most bytes number) 0 takes.one)
+    through (taken_first most bytes number old mid first) (taken_one mid new (packet_at most bytes number) 0 takes.one)
 
 not_taken : (most : ℕ) (bytes : List ℕ) (count : ℕ) (mid new : Machine) (taken code : ℕ)
     (ends : EndsTaking most bytes count mid new taken code)
@@ -257,9 +223,7 @@ transfer_taken : (old new : Machine) (bytes : List ℕ) (taken code : ℕ) (take
     → LivesOn old (turns_of_taking old bytes new taken code takes) new
 transfer_taken old new bytes taken code takes =
     let most = old.disk.line.packet_size in
-    through old takes.mid new (turns_taken most bytes takes.count old takes.mid takes.first)
-    (turns_not_taken most bytes takes.count takes.mid new taken code takes.ends)
-    (taken_first most bytes takes.count old takes.mid takes.first)
+    through (taken_first most bytes takes.count old takes.mid takes.first)
     (not_taken most bytes takes.count takes.mid new taken code takes.ends)
 
 sent_at : (most at : ℕ) (old new : Machine) (room filled : List ℕ) (size code : ℕ)
@@ -271,9 +235,7 @@ sent_first : (most count : ℕ) (old new : Machine) (room filled : List ℕ) (fi
     → LivesOn old (turns_sent most count old room new filled first) new
 sent_first most zero old new room filled same = nothing_changes old new same.0
 sent_first most (suc number) old new room filled (mid, before, first, sends) =
-    through old mid new (turns_sent most number old room mid before first)
-    (turns_at most (number * most) mid before new filled most 0 sends) (sent_first most number old mid room before first)
-    (sent_at most (number * most) mid new before filled most 0 sends)
+    through (sent_first most number old mid room before first) (sent_at most (number * most) mid new before filled most 0 sends)
 
 sent_last : (most count : ℕ) (mid new : Machine) (before filled : List ℕ) (given code : ℕ)
     (ends : EndsSending most count mid before new filled given code)
@@ -286,9 +248,7 @@ transfer_sent : (old new : Machine) (room filled : List ℕ) (given code : ℕ) 
     → LivesOn old (turns_of_sending old room new filled given code sends) new
 transfer_sent old new room filled given code sends =
     let most = old.disk.line.packet_size in
-    through old sends.mid new (turns_sent most sends.count old room sends.mid sends.before sends.first)
-    (turns_last most sends.count sends.mid sends.before new filled given code sends.ends)
-    (sent_first most sends.count old sends.mid room sends.before sends.first)
+    through (sent_first most sends.count old sends.mid room sends.before sends.first)
     (sent_last most sends.count sends.mid new sends.before filled given code sends.ends)
 
 sent_into : (old new : Machine) (room : List ℕ) (was : ℕ) (filled : List ℕ) (given code : ℕ)
@@ -318,5 +278,4 @@ one (look_ahead first count) old new (reads, looks) = looked old new first count
 pub serves_throughout : ServesThroughout
 serves_throughout [] old new same = nothing_changes old new same
 serves_throughout (call ∷ calls) old new (mid, made, rest) =
-    through old mid new (turns_of call old mid made) (turns_in_all calls mid new rest) (one call old mid made)
-    (serves_throughout calls mid new rest)
+    through (one call old mid made) (serves_throughout calls mid new rest)

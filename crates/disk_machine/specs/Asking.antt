@@ -34,11 +34,9 @@ pub record HandsOut (old : Machine) (count : ℕ) (new : Machine) : Type 0 where
 
 -- the sectors that are to be read: a READ lacks them, or they are read ahead
 abbrev pub to_read : Lack → Option DeviceRead
-to_read lack.Nothing = None
 to_read (lack.Wanted home) = Some home
 to_read (lack.Ahead home) = Some home
-to_read lack.Ended = None
-to_read (lack.Unread home) = None
+to_read _ = None
 
 -- the device is at a call that it was asked for, or there is none for it
 abbrev pub IsAtRest : Machine → Type 0
@@ -48,11 +46,8 @@ IsAtRest s = (s.asked ≢ asked.Nothing)
 -- A READ lacks sectors: they are read before the calls that wait, even where one of these writes
 -- them. What is read ahead waits for the calls.
 abbrev pub overtakes : Lack → Bool
-overtakes lack.Nothing = false
 overtakes (lack.Wanted home) = true
-overtakes (lack.Ahead home) = false
-overtakes lack.Ended = false
-overtakes (lack.Unread home) = false
+overtakes _ = false
 
 abbrev pub IsOvertaken : Machine → Type 0
 IsOvertaken s = overtakes s.lack ≡ true
@@ -99,11 +94,8 @@ pub record IsGivenUp (old : Machine) (count : ℕ) (new : Machine) : Type 0 wher
 
 -- they are read ahead
 abbrev pub is_ahead : Lack → Bool
-is_ahead lack.Nothing = false
-is_ahead (lack.Wanted home) = false
 is_ahead (lack.Ahead home) = true
-is_ahead lack.Ended = false
-is_ahead (lack.Unread home) = false
+is_ahead _ = false
 
 -- Sectors that a READ lacks, and that the disk did not take, count as unread: its packet is played
 -- without them. Those that were read ahead do not: a READ that lacks them has them read.
@@ -143,11 +135,9 @@ HasEnded count false old result new = (result ≡ Ok tt) × IsGivenUp old count 
 -- what the device was asked for last has ended, good or not; it read these bytes
 abbrev pub IsDone : Asked → Bool → Machine → List ℕ → Result (Unit {0}) DoneFault → Machine
     → Type 0
-IsDone asked.Nothing ok old bytes result new = IsNotDone fault.NothingAsked old result new
 IsDone (asked.Calls count) ok old bytes result new = HasEnded count ok old result new
 IsDone (asked.Read home) ok old bytes result new = HasRead home ok old bytes result new
-IsDone (asked.Refused count behind) ok old bytes result new =
-    IsNotDone fault.NothingAsked old result new
+IsDone _ ok old bytes result new = IsNotDone fault.NothingAsked old result new
 
 abbrev pub Hears : Machine → Bool → List ℕ → Result (Unit {0}) DoneFault → Machine → Type 0
 Hears old ok bytes result new = IsDone old.asked ok old bytes result new

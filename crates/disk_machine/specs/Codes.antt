@@ -7,25 +7,17 @@ use Rattle.recovery.specs.declared.start_fault.StartFault.TheVariants as fault
 
 -- what the host is answered
 abbrev pub code_of : Answer → ℕ
-code_of answer.Ack = 0
 code_of answer.Nak = 1
 code_of answer.Stall = 2
-code_of (answer.Data packet) = 0
-code_of (answer.Byte byte) = 0
-code_of (answer.Two bytes) = 0
-code_of answer.Ticked = 0
 code_of answer.Off = 2
+code_of _ = 0
 
 -- the bytes that go to the host
 abbrev pub bytes_of : Answer → List ℕ
-bytes_of answer.Ack = []
-bytes_of answer.Nak = []
-bytes_of answer.Stall = []
 bytes_of (answer.Data packet) = packet.items
 bytes_of (answer.Byte byte) = byte ∷ []
 bytes_of (answer.Two bytes) = bytes
-bytes_of answer.Ticked = []
-bytes_of answer.Off = []
+bytes_of _ = []
 
 -- why a start is refused
 abbrev pub number_of : StartFault → ℕ

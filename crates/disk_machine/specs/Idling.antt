@@ -19,17 +19,14 @@ use Rattle.disk_machine.specs.declared.waiting.Waiting.TheVariants as waiting
 
 -- sectors are to be read
 abbrev pub is_wanted : Lack → Bool
-is_wanted lack.Nothing = false
 is_wanted (lack.Wanted home) = true
 is_wanted (lack.Ahead home) = true
-is_wanted lack.Ended = false
-is_wanted (lack.Unread home) = false
+is_wanted _ = false
 
 -- something waits until the device has carried out all: steps would put it off
 abbrev pub is_waiting : Waiting → Bool
 is_waiting waiting.Nothing = false
-is_waiting waiting.Promise = true
-is_waiting waiting.Start = true
+is_waiting _ = true
 
 -- No step is made now: something waits for the device, or it reads, or is to read.
 abbrev pub IsHeld : Machine → Type 0
@@ -41,8 +38,7 @@ IsHeld s = (is_waiting s.waiting ≡ true)
 abbrev pub IsShort : Work → ℕ → Disk → Type 0
 IsShort Settle most disk =
     (length (medium_of disk).outbox ≤ most) × (length (medium_of disk).outbox < 64)
-IsShort Ahead most disk = length (medium_of disk).outbox ≤ most
-IsShort WriteBack most disk = length (medium_of disk).outbox ≤ most
+IsShort _ most disk = length (medium_of disk).outbox ≤ most
 
 -- so many steps in the background that work towards this, one by one, each while few calls wait
 abbrev pub StepsOn : Work → ℕ → ℕ → Disk → Disk → Type 0

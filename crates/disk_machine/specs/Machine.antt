@@ -29,17 +29,14 @@ Machine = DiskMachine
 
 -- how many of the calls that left the outbox the device has not told done
 abbrev pub under_way : Asked → ℕ
-under_way asked.Nothing = 0
 under_way (asked.Calls count) = count
-under_way (asked.Read home) = 0
 under_way (asked.Refused count behind) = count + behind
+under_way _ = 0
 
 -- it refused a call
 abbrev pub has_refused : Asked → Bool
-has_refused asked.Nothing = false
-has_refused (asked.Calls count) = false
-has_refused (asked.Read home) = false
 has_refused (asked.Refused count behind) = true
+has_refused _ = false
 
 -- how many calls it has told done, since the beginning
 abbrev pub carried : Machine → ℕ

@@ -44,9 +44,8 @@ begun disk most = record {
 
 -- where the device refused nothing
 abbrev pub state_by : Waiting → MachineState
-state_by waiting.Nothing = state.Serving
-state_by waiting.Promise = state.Serving
 state_by waiting.Start = state.Starting
+state_by _ = state.Serving
 
 abbrev pub state_of : Machine → MachineState
 state_of s = if has_refused s.asked then state.Refused else state_by s.waiting
@@ -87,10 +86,8 @@ pub record HasRoomBeside (s : Machine) : Type 0 where
 abbrev pub is_behind : Asked → List DeviceCall → Bool
 is_behind (asked.Refused count left) calls = false
 is_behind (asked.Calls count) calls = true
-is_behind (asked.Read home) [] = false
-is_behind (asked.Read home) (call ∷ calls) = true
-is_behind asked.Nothing [] = false
-is_behind asked.Nothing (call ∷ calls) = true
+is_behind _ [] = false
+is_behind _ (call ∷ calls) = true
 
 -- Nothing waits for a device that is not behind: so where something does, the device is at a call,
 -- or `next` tells it one.

@@ -27,16 +27,13 @@ use Rattle.disk_machine.specs.declared.waiting.Waiting.TheVariants as waiting
 
 -- the device reads
 abbrev pub is_reading : Asked → Bool
-is_reading asked.Nothing = false
-is_reading (asked.Calls count) = false
 is_reading (asked.Read home) = true
-is_reading (asked.Refused count left) = false
+is_reading _ = false
 
 -- it has not carried out all that the start made
 abbrev pub is_starting : Waiting → Bool
-is_starting waiting.Nothing = false
-is_starting waiting.Promise = false
 is_starting waiting.Start = true
+is_starting _ = false
 
 -- No packet to Bulk-Out is taken now: the device has not carried out the calls of the start, or it
 -- reads.

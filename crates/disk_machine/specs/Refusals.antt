@@ -32,9 +32,7 @@ abbrev pub MakesOneBatch : Disk → Event → Type 0
 MakesOneBatch disk (event.Out packet) = IsWritten disk.unit.store.cached
     ⊎ ((book : Book) → IsOfSize disk.unit book
     → PromisesNone (over disk book) (event.Out packet))
-MakesOneBatch disk event.In = ⊤
-MakesOneBatch disk (event.Setup packet) = ⊤
-MakesOneBatch disk event.Tick = ⊤
+MakesOneBatch disk _ = ⊤
 
 -- no record of the disk is left to write, or it is faulted
 abbrev pub HasWritten : Disk → Type 0
@@ -67,17 +65,14 @@ HoldsLog disk = first_home (layout_on disk) ≤ (medium_of disk).near
 -- has any read
 abbrev pub SeesHome : Disk → Event → Type 0
 SeesHome disk (event.Out packet) = WantsNone disk packet.items
-SeesHome disk event.In = ⊤
-SeesHome disk (event.Setup packet) = ⊤
-SeesHome disk event.Tick = ⊤
+SeesHome disk _ = ⊤
 
 -- it has room for what this event asks of the medium: none, those of one record, or those of a step
 abbrev pub HasRoomOnce : Disk → Event → Type 0
 HasRoomOnce disk (event.Out packet) = IsQuietPacket disk packet.items
     ⊎ (NeedsRecordAlone disk × HasRoom disk)
-HasRoomOnce disk event.In = ⊤
-HasRoomOnce disk (event.Setup packet) = ⊤
 HasRoomOnce disk event.Tick = length (medium_of disk).outbox + 2 ≤ (medium_of disk).room
+HasRoomOnce disk _ = ⊤
 
 -- the outbox has room for this event: for any, those calls that make three batches durable; for one
 -- that makes one batch durable, those of one; or those that it makes

@@ -1,5 +1,5 @@
 -- What a host and a disk have said to each other in a call of a machine.
-use Rattle.std.specs.Prelude.{◌≡◌, ◌⊎◌, ◌++◌, ℕ, zero, suc, ◌*◌, Bool, true, false, List, [], ◌∷◌}
+use Rattle.std.specs.Prelude.{◌≡◌, ◌⊎◌, ◌++◌, ℕ, zero, suc, ◌*◌, Bool, false, List, [], ◌∷◌}
 use Rattle.std.specs.Prelude.{drop}
 use Rattle.std.proofs.Common.{inl, inr}
 use Rattle.spec.specs.Rules.{UnitState}
@@ -71,13 +71,11 @@ turns_before promises old new (inr calls) = []
 
 abbrev pub turns_one : (old : Machine) (packet : List ℕ) (new : Machine) (code : ℕ)
     → TakesOne old packet new code → List Turn
-turns_one old packet new code (inl long) = []
-turns_one old packet new code (inr (few, inl held)) = []
-turns_one old packet new code (inr (few, inr (free, inl lacks))) = []
 turns_one old packet new code (inr (few, inr (free, inr (inl (none, serves))))) =
     played (event.Out (record { items = packet })) serves.played.answer ∷ []
 turns_one old packet new code (inr (few, inr (free, inr (inr puts)))) =
     turns_before puts.promises old new puts.waits
+turns_one old packet new code _ = []
 
 abbrev pub turns_out : (old : Machine) (packet : List ℕ) (new : Machine) (code : ℕ)
     → TakesOut old packet new code → List Turn
@@ -91,11 +89,8 @@ turns_in old room new filled size code (inr (none, sends)) = played event.In sen
 
 -- the device refused calls that it was asked for
 abbrev pub turns_done : Asked → Bool → List Turn
-turns_done asked.Nothing ok = []
-turns_done (asked.Calls count) true = []
 turns_done (asked.Calls count) false = refusal ∷ []
-turns_done (asked.Read home) ok = []
-turns_done (asked.Refused count behind) ok = []
+turns_done _ _ = []
 
 abbrev pub turns_idle : (old new : Machine) → HasStepped old new → List Turn
 turns_idle old new (inl held) = []
