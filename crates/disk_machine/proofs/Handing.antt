@@ -1,5 +1,5 @@
 -- A machine whose disk is as it was but for its medium: calls leave the outbox, and are under way.
-use Rattle.std.proofs.Common.{◌≡◌, ◌⊎◌, ℕ, sym, ◌∙◌, ap, subst, inl, inr, arith, ◌≤◌, ◌<◌, ◌+◌, ◌++◌, ◌∷◌, [], zero, suc, length, List}
+use Rattle.std.proofs.Common.{◌≡◌, ◌⊎◌, ℕ, sym, ◌∙◌, ap, subst, inl, inr, arith, ◌≤◌, ◌+◌, ◌++◌, ◌∷◌, [], zero, suc, length, List}
 use Rattle.std.proofs.Common.{refl, append_assoc, length-append}
 use Rattle.window.specs.Window.{state_of, Window, mirror_of, take_first}
 use Rattle.spec.specs.Book.{Book}
@@ -10,15 +10,16 @@ use Rattle.bot_machine.specs.Disk.{FitsDisk, IsRearmed}
 use Rattle.disk_machine.specs.Plays.{Disk, medium_of, layout_on}
 use Rattle.disk_machine.specs.Room.{room_for}
 use Rattle.disk_machine.specs.Machine.{Machine, Finds, Keeps, IsCaughtUp, has_refused, carried, under_way}
-use Rattle.disk_machine.specs.Moves.{ServesAtRest, ServesOn, LeavesNoMore, WaitsForDevice, StaysSafe, is_behind}
+use Rattle.disk_machine.specs.Moves.{ServesAtRest, LeavesNoMore, WaitsForDevice, StaysSafe, is_behind}
 use Rattle.disk_machine.specs.declared.waiting.Waiting.TheVariants as waiting
-use Rattle.std.specs.Prelude.{Some, None}
+use Rattle.std.specs.Prelude.{Some}
 use Rattle.medium.specs.Writes.{sector_of}
 use Rattle.window.specs.OutboxMedium.{sent, first_of}
 use Rattle.window.specs.declared.call.DeviceCall.{DeviceCall}
 use Rattle.window.specs.declared.call.DeviceCall.TheVariants.{Write, Flush}
 use Rattle.window.specs.declared.ask.DeviceRead.{DeviceRead}
 use Rattle.store_calls.specs.Outbox.{without, writes_of, IsRun}
+use Rattle.store_calls.proofs.Handing.{taken_by}
 use Rattle.disk_machine.specs.Asking.{AsksFor, HandsOut}
 use Rattle.disk_machine.specs.declared.lack.Lack.{Lack}
 use Rattle.window.specs.declared.ask.DeviceAsk.{DeviceAsk}
@@ -46,31 +47,26 @@ module _ (old new : Machine) (stands : Stands old new) where
   same_unit book = ap (λ (d : Disk). unit_state d.unit book) stands.others
 
   pub keeps_still : (told : ℕ) (book : Book) → Keeps old told book → Keeps new told book
-  keeps_still told book keeps ours image left =
-      subst (λ (n : ℕ). Finds n told (unit_state new.disk.unit book) image) (sym stands.size)
+  keeps_still told book keeps ours image left = rw stands.size
       (subst (λ (u : UnitState). Finds (state_of (medium_of old.disk)).size told u image) (sym (same_unit book))
       (keeps ours image (stands.leaves image left)))
-
-  -- what waited waits still, or all is kept
-  serves_still : (new.waiting ≡ waiting.Nothing → (old.waiting ≡ waiting.Nothing) ⊎ KeepsAll new)
-      → has_refused new.asked ≡ has_refused old.asked → ServesOn old new
-  serves_still waits same told book serves = record {
-    fits = stands.fits book serves.fits;
-    fewer = serves.fewer;
-    keeps = keeps_still told book serves.keeps;
-    all = λ none fine. elim (waits none) [
-      | inl before ↦ keeps_still book.mark book (serves.all before (sym same ∙ fine))
-      | inr kept ↦ kept book (stands.fits book serves.fits)
-    ];
-    faulted = λ refused. ap (λ (u : UnitState). u.faulted) (same_unit book) ∙ serves.faulted (sym same ∙ refused);
-  }
 
   -- a call that is no event, and tells no promise
   pub stays_safe : (new.waiting ≡ waiting.Nothing → (old.waiting ≡ waiting.Nothing) ⊎ KeepsAll new)
       → has_refused new.asked ≡ has_refused old.asked → new.most ≡ old.most → (WaitsForDevice old → WaitsForDevice new)
       → StaysSafe old new
   stays_safe waits same most behind = record {
-    serves = serves_still waits same;
+    serves = λ told book serves. record {
+      fits = stands.fits book serves.fits;
+      fewer = serves.fewer;
+      keeps = keeps_still told book serves.keeps;
+      -- what waited waits still, or all is kept
+      all = λ none fine. elim (waits none) [
+        | inl before ↦ keeps_still book.mark book (serves.all before (sym same ∙ fine))
+        | inr kept ↦ kept book (stands.fits book serves.fits)
+      ];
+      faulted = λ refused. ap (λ (u : UnitState). u.faulted) (same_unit book) ∙ serves.faulted (sym same ∙ refused);
+    };
     leaves = stands.leaves;
     goes_on = record {
       room = λ fits. record {
@@ -107,33 +103,7 @@ pub some_go : (count : ℕ) (w : Window) → IsSentStill w (without count w)
 some_go zero w = still w
 some_go (suc count) w =
     let before = some_go count w in
-    let last = one_goes (without count w).outbox (without count w) refl in record {
-      opening = last.opening ∙ before.opening;
-      sent = last.sent ∙ before.sent;
-      size = last.size ∙ before.size;
-      room = last.room ∙ before.room;
-    }
-
-one_fewer : (calls : List DeviceCall) (w : Window) → w.outbox ≡ calls → 0 < length calls
-    → length (take_first calls w).outbox + 1 ≡ length w.outbox
-one_fewer calls w is some = grind (arith, is, some)
-
-pub fewer_wait : (count : ℕ) (w : Window) → count ≤ length w.outbox → length (without count w).outbox + count ≡ length w.outbox
-fewer_wait zero w le = omega arith
-fewer_wait (suc count) w le =
-    let before = fewer_wait count w (omega (arith, le)) in
-    omega (arith, before, one_fewer (without count w).outbox (without count w) refl (omega (arith, before, le)))
-
--- so many have left it
-pub taken_by : (count : ℕ) (w : Window) → count ≤ length w.outbox
-    → length (without count w).seen.told.taken ≡ length w.seen.told.taken + count
-taken_by count w le = omega (
-  arith,
-  fewer_wait count w le,
-  ap (λ (l : List DeviceCall). length l) (some_go count w).sent,
-  length-append (without count w).seen.told.taken (without count w).outbox,
-  length-append w.seen.told.taken w.outbox,
-)
+    let last = one_goes (without count w).outbox (without count w) refl in record { opening = cc; sent = cc; size = cc; room = cc }
 
 -- a device that told no fewer done leaves no more
 pub leaves_no_more : (old new : Machine) → IsSentStill (medium_of old.disk) (medium_of new.disk) → carried old ≤ carried new
@@ -163,10 +133,8 @@ sent_stands old new others fits same reaches = record {
 
 -- the disk stays, and the device told no fewer done
 pub stays : (old new : Machine) → new.disk ≡ old.disk → carried old ≤ carried new → Stands old new
-stays old new same reaches = sent_stands old new (subst (λ (d : Disk). IsRearmed old.disk d) (sym same) refl)
-    (λ book fits. subst (λ (d : Disk). FitsOver book d) (sym same) fits)
-    (subst (λ (w : Window). IsSentStill (medium_of old.disk) w) (sym (ap (λ (d : Disk). medium_of d) same)) (still (medium_of old.disk)))
-    reaches
+stays old new same reaches =
+    sent_stands old new (rw same refl) (λ book fits. rw same fits) (rw same (still (medium_of old.disk))) reaches
 
 -- what is to be read changes nothing else
 pub reading_safe : (s : Machine) (lacks : Lack) → StaysSafe s (record s { lack = lacks })
@@ -174,13 +142,12 @@ reading_safe s lacks = stays_safe s (record s { lack = lacks }) (stays s (record
     (λ none. inl none) refl refl (λ waits. waits)
 
 pub same_safe : (old new : Machine) → new ≡ old → StaysSafe old new
-same_safe old new same = subst (λ (s : Machine). StaysSafe old s) (sym same) (reading_safe old old.lack)
+same_safe old new same = rw same (reading_safe old old.lack)
 
 -- calls that left the outbox are under way
 handed_safe : (old new : Machine) (count : ℕ) → HandsOut old count new → count ≤ length (medium_of old.disk).outbox → StaysSafe old new
 handed_safe old new count hands le =
-    let same = subst (λ (w : Window). IsSentStill (medium_of old.disk) w) (sym hands.gone) (some_go count (medium_of old.disk)) in
-    let stands = sent_stands old new hands.rest.others hands.rest.fits same (omega (
+    let stands = sent_stands old new hands.rest.others hands.rest.fits (rw hands.gone (some_go count (medium_of old.disk))) (omega (
       arith,
       ap under_way hands.free,
       ap (λ (s : Machine). under_way s.asked) hands.others,
@@ -194,9 +161,6 @@ handed_safe old new count hands le =
 
 some_first : (calls : List DeviceCall) (call : DeviceCall) → first_of calls ≡ Some call → 1 ≤ length calls
 some_first calls call is = grind (arith, is)
-
-pub none_first : (calls : List DeviceCall) → first_of calls ≡ None → calls ≡ []
-none_first calls is = grind (arith, is)
 
 length_of_writes : (count sector : ℕ) (bytes : List ℕ) → length (writes_of count sector bytes) ≡ count
 length_of_writes zero sector bytes = refl

@@ -14,7 +14,7 @@ use Rattle.disk_machine.specs.Plays.{Disk, medium_of, layout_on, Sees}
 use Rattle.disk_machine.specs.Room.{room_for}
 use Rattle.scsi_unit.specs.Background.{is_dead}
 use Rattle.disk_machine.specs.Asking.{counted, waits_behind, read_over, IsGivenUp, IsShownTo, IsDone, IsHonest}
-use Rattle.disk_machine.specs.Machine.{Machine, Finds, has_refused, under_way, carried}
+use Rattle.disk_machine.specs.Machine.{Machine, has_refused, under_way, carried}
 use Rattle.disk_machine.specs.Moves.{ServesAtRest, ServesOn, StaysSafe, is_behind}
 use Rattle.disk_machine.specs.declared.asked.Asked.{Asked}
 use Rattle.disk_machine.specs.declared.asked.Asked.TheVariants as asked
@@ -22,7 +22,8 @@ use Rattle.window.specs.declared.done_fault.DoneFault.{DoneFault}
 use Rattle.disk_machine.specs.declared.waiting.Waiting.{Waiting}
 use Rattle.disk_machine.specs.declared.waiting.Waiting.TheVariants as waiting
 use Rattle.disk_machine.proofs.Handing.{Stands, keeps_all, stays_safe}
-use Rattle.disk_machine.proofs.Handing.{IsSentStill, some_go, taken_by, leaves_no_more, sent_stands, stays, same_safe, read_behind}
+use Rattle.store_calls.proofs.Handing.{taken_by}
+use Rattle.disk_machine.proofs.Handing.{IsSentStill, some_go, leaves_no_more, sent_stands, stays, same_safe, read_behind}
 use Rattle.disk_machine.proofs.Events.{finds_same}
 
 -- ---- calls are carried out
@@ -57,8 +58,7 @@ module _ (old new : Machine) (count : ℕ) (was : old.asked ≡ asked.Calls coun
   gone = given_up.refused.emptied.medium
 
   same : IsSentStill (medium_of old.disk) (medium_of new.disk)
-  same = subst (λ (w : Window). IsSentStill (medium_of old.disk) w) (sym gone)
-      (some_go (length (medium_of old.disk).outbox) (medium_of old.disk))
+  same = rw gone (some_go (length (medium_of old.disk).outbox) (medium_of old.disk))
 
   reaches : carried old ≤ carried new
   reaches = omega (
@@ -76,8 +76,7 @@ module _ (old new : Machine) (count : ℕ) (was : old.asked ≡ asked.Calls coun
   given_up_serves told book serves = record {
     fits = given_up.refused.fits book serves.fits;
     fewer = serves.fewer;
-    keeps = λ ours image left.
-        subst (λ (n : ℕ). Finds n told (unit_state new.disk.unit book) image) (sym same.size)
+    keeps = λ ours image left. rw same.size
         (finds_same (state_of (medium_of old.disk)).size told image (unit_state old.disk.unit book) (unit_state new.disk.unit book)
         (λ faulted. dead book) refl (serves.keeps ours image (leaves_no_more old new same reaches image left)));
     all = λ none fine. absurd (false≢true (sym fine ∙ refuses));
@@ -119,10 +118,7 @@ AreRead s home bytes = AreHeld (device_so_far (medium_of s.disk)).content home.f
 -- where the disk took them the window has moved
 same_sent : (old new : Window) (first count : ℕ) → new ≡ moved old first count
     → IsSentStill old new × (new.seen.told.taken ≡ old.seen.told.taken)
-same_sent old new first count moves = (
-  subst (λ (w : Window). IsSentStill old w) (sym moves) (record { opening = refl; sent = refl; size = refl; room = refl }),
-  ap (λ (w : Window). w.seen.told.taken) moves,
-)
+same_sent old new first count moves = rw moves (record { opening = refl; sent = refl; size = refl; room = refl }, refl)
 
 -- where it took none of them it is as it was
 not_taken : (old new : Disk) (first : ℕ) (bytes : List ℕ) → Sees old first bytes new false → new ≡ old
@@ -149,7 +145,7 @@ shown_safe old new home bytes was shown read =
     (ap (λ (w : Window). w.outbox) shown.sees.shown.others)
 
 unread_safe : (old new : Machine) (home : DeviceRead) → old.asked ≡ asked.Read home → new ≡ read_over old home false → StaysSafe old new
-unread_safe old new home was is = subst (λ (s : Machine). StaysSafe old s) (sym is)
+unread_safe old new home was is = rw is
     (over_safe old (read_over old home false) home was refl
     (stays old (read_over old home false) refl (as_far old (read_over old home false) home was refl refl)) refl refl refl)
 
@@ -157,7 +153,6 @@ unread_safe old new home was is = subst (λ (s : Machine). StaysSafe old s) (sym
 
 pub done_safe : (a : Asked) (ok : Bool) (old new : Machine) (bytes : List ℕ) (result : Result (Unit {0}) DoneFault)
     → old.asked ≡ a → IsDone a ok old bytes result new → ServesAtRest new → IsHonest old ok bytes → StaysSafe old new
-done_safe asked.Nothing ok old new bytes result was done rest honest = same_safe old new done.1
 done_safe (asked.Calls count) true old new bytes result was done rest honest =
     subst (λ (s : Machine). StaysSafe old s) (sym done.1)
     (counted_safe old count was (subst (λ (s : Machine). ServesAtRest s) done.1 rest))
@@ -166,4 +161,4 @@ done_safe (asked.Read home) true old new bytes result was (inl bad) rest honest 
 done_safe (asked.Read home) true old new bytes result was (inr good) rest honest =
     shown_safe old new home bytes was good.2 (honest refl home was)
 done_safe (asked.Read home) false old new bytes result was done rest honest = unread_safe old new home was done.1
-done_safe (asked.Refused count left) ok old new bytes result was done rest honest = same_safe old new done.1
+done_safe _ ok old new bytes result was done rest honest = same_safe old new done.1

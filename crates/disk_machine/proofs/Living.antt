@@ -22,7 +22,7 @@ use Rattle.disk_machine.specs.Turns.{turns_idle, turns_taken, turns_not_taken, t
 use Rattle.disk_machine.specs.Turns.{turns_last, turns_of_sending, turns_into}
 use Rattle.disk_machine.specs.declared.asked.Asked.{Asked}
 use Rattle.disk_machine.specs.declared.asked.Asked.TheVariants as asked
-use Rattle.disk_machine.proofs.Playing.{with_disk, steps_go_on, tick_step}
+use Rattle.disk_machine.proofs.Playing.{with_disk, steps_go_on, tick_serves}
 use Rattle.std.proofs.lemmas.Bool.{cases_Bool}
 use Rattle.std.proofs.lemmas.List.{append-nil}
 use Rattle.spec.specs.Blocks.{Write}
@@ -81,8 +81,8 @@ pub steps_run : (Holds : Disk → Type 0) (work : Work) (count : ℕ) (old : Mac
     → (told : ℕ) (book : Book) → Serves old told book → TurnsRun (over old.disk book) (ticks count) (over new book)
 steps_run Holds work zero old new same told book serves = ap (λ (d : Disk). over d book) same
 steps_run Holds work (suc count) old new (mid, steps, holds, plays) told book serves =
-    let tick = tick_step (with_disk old mid) (with_disk old new) plays refl told book
-    ((steps_go_on Holds work count old mid steps).0 told book serves) in
+    let tick = (tick_serves (with_disk old mid) (with_disk old new) plays refl told book
+    ((steps_go_on Holds work count old mid steps).0 told book serves)).0 in
     runs_through (over old.disk book) (over mid book) (over new book) (ticks count) (played event.Tick answer.Ticked ∷ [])
     (steps_run Holds work count old mid steps told book serves) (tick.0, over new book, tick.1, refl)
 

@@ -1,6 +1,6 @@
 -- Packets, tokens, requests and steps, wherever the device is, and what they keep.
 use Rattle.std.proofs.Common.{◌≡◌, ◌≢◌, ◌⊎◌, inl, inr, ◌++◌, ◌&&◌, List, ℕ, Bool, true, length, ◌∙◌, ap, arith, [], zero, suc, false, refl}
-use Rattle.std.proofs.Common.{sym, subst}
+use Rattle.std.proofs.Common.{sym, subst, rules}
 use Rattle.journal.specs.Places.{Shape}
 use Rattle.window.specs.Story.{given}
 use Rattle.window.specs.declared.call.DeviceCall.{DeviceCall}
@@ -10,7 +10,7 @@ use Rattle.scsi_unit.specs.Background.{Work, Settle, Ahead, WriteBack}
 use Rattle.disk_machine.specs.Plays.{medium_of, PlaysBy, Disk, Plays, AnswersRequest}
 use Rattle.disk_machine.specs.Room.{room_for}
 use Rattle.disk_machine.specs.Machine.{Machine, under_way, Serves, has_refused}
-use Rattle.disk_machine.specs.Moves.{KeepsGoing, HasRoomBeside, WaitsForDevice, LeavesNoMore, IsDead, is_behind, ServesAtRest, ServesOn}
+use Rattle.disk_machine.specs.Moves.{KeepsGoing, HasRoomBeside, WaitsForDevice, LeavesNoMore, is_behind, ServesAtRest, ServesOn}
 use Rattle.disk_machine.specs.Moves.{ServesEvent, ServesToken}
 use Rattle.disk_machine.specs.Packets.{PlaysOut, waits_for, AnswersSetup, ServesOut}
 use Rattle.disk_machine.specs.declared.asked.Asked.{Asked}
@@ -46,8 +46,24 @@ module _ {work : Work} (old new : Machine) (event : Event) (answer : Answer) (pl
   still_behind is = (λ i. is_behind (same i) (plays.follows.outbox i))
       ∙ more_behind old.asked (medium_of old.disk).outbox (given plays.follows.since) is
 
-  event_waits : new.waiting ≡ old.waiting → (WaitsForDevice old → WaitsForDevice new)
-  event_waits waiting waits some = still_behind (waits (λ none. some (waiting ∙ none)))
+  -- a faulted disk asks its device for nothing, and stays faulted
+  goes_on : new.most ≡ old.most → (WaitsForDevice old → WaitsForDevice new) → KeepsGoing old new
+  goes_on most waits = record {
+    room = λ fits. record {
+      steps = omega (arith, most, plays.follows.room_stays, fits.steps);
+      alone = omega (arith, plays.follows.room_stays, ap (λ (s : Shape). room_for s) plays.step.few.layout_stays, fits.alone);
+    };
+    waits = waits;
+    dead = λ dead. (
+      leaves_no_more old new (record {
+        opening = plays.follows.opening_stays;
+        sent = λ i. plays.follows.taken_stays i ++ (plays.faulted dead).0 i;
+        size = plays.step.elapses.size_stays;
+        room = plays.follows.room_stays;
+      }) (omega (arith, ap (λ (a : Asked). under_way a) same, ap (λ (l : List DeviceCall). length l) plays.follows.taken_stays)),
+      (plays.faulted dead).1,
+    );
+  }
 
 some_waits : (promises behind : Bool) (was : Waiting) → waits_for (promises && behind) was ≢ waiting.Nothing
     → (behind ≡ true) ⊎ (was ≢ waiting.Nothing)
@@ -62,46 +78,13 @@ out_waits old new packet code plays waits some =
       | inr before ↦ still_behind old new _ _ plays.plays same (waits before)
     ]
 
--- ---- a faulted disk asks its device for nothing, and stays faulted
-
-event_dead : {work : Work} → (old new : Machine) (event : Event) (answer : Answer) → PlaysBy work old.disk event answer new.disk
-    → new.asked ≡ old.asked
-    → IsDead old → LeavesNoMore old new × IsDead new
-event_dead old new event answer plays same dead =
-    let still : IsSentStill (medium_of old.disk) (medium_of new.disk) = record {
-      opening = plays.follows.opening_stays;
-      sent = λ i. plays.follows.taken_stays i ++ (plays.faulted dead).0 i;
-      size = plays.step.elapses.size_stays;
-      room = plays.follows.room_stays;
-    } in (
-      leaves_no_more old new still
-          (omega (arith, ap (λ (a : Asked). under_way a) same, ap (λ (l : List DeviceCall). length l) plays.follows.taken_stays)),
-      (plays.faulted dead).1,
-    )
-
--- ---- what goes on
-
-event_room : {work : Work} → (old new : Machine) (event : Event) (answer : Answer) → PlaysBy work old.disk event answer new.disk
-    → new.most ≡ old.most → HasRoomBeside old → HasRoomBeside new
-event_room old new event answer plays most fits = record {
-  steps = omega (arith, most, plays.follows.room_stays, fits.steps);
-  alone = omega (arith, plays.follows.room_stays, ap (λ (s : Shape). room_for s) plays.step.few.layout_stays, fits.alone);
-}
-
 pub event_goes_on : {work : Work} → (old new : Machine) (event : Event) (answer : Answer) → PlaysBy work old.disk event answer new.disk
     → new ≡ record old { disk = new.disk } → KeepsGoing old new
-event_goes_on old new event answer plays others = record {
-  room = event_room old new event answer plays (ap (λ (s : Machine). s.most) others);
-  waits = event_waits old new event answer plays (ap (λ (s : Machine). s.asked) others) (ap (λ (s : Machine). s.waiting) others);
-  dead = event_dead old new event answer plays (ap (λ (s : Machine). s.asked) others);
-}
-
-pub out_goes_on : (old new : Machine) (packet : List ℕ) (code : ℕ) → PlaysOut old packet new code → KeepsGoing old new
-out_goes_on old new packet code plays = record {
-  room = event_room old new _ _ plays.plays (ap (λ (s : Machine). s.most) plays.others);
-  waits = out_waits old new packet code plays;
-  dead = event_dead old new _ _ plays.plays (ap (λ (s : Machine). s.asked) plays.others);
-}
+event_goes_on old new event answer plays others =
+    let same = ap (λ (s : Machine). s.asked) others in
+    let waiting = ap (λ (s : Machine). s.waiting) others in
+    goes_on old new event answer plays same (ap (λ (s : Machine). s.most) others)
+    (λ waits some. still_behind old new event answer plays same (waits (λ none. some (waiting ∙ none))))
 
 -- ---- a packet
 
@@ -133,7 +116,7 @@ out_serves old new packet code ready plays rest =
     let same : new.asked ≡ old.asked = ap (λ (s : Machine). s.asked) plays.others in record {
       played = plays;
       fits = fits_ready old packet ready;
-      goes_on = out_goes_on old new packet code plays;
+      goes_on = goes_on old new _ _ plays.plays same (ap (λ (s : Machine). s.most) plays.others) (out_waits old new packet code plays);
       ready = ready;
       one_batch = plays_few old new packet code ready plays;
       serves = serves_event old new (event.Out (record { items = packet })) plays.answer plays.plays same (λ none fine. elim
@@ -226,22 +209,13 @@ module _ {work : Work} (old new : Machine) (plays : PlaysBy work old.disk event.
   same_book refused was now (inl same) = ap (λ (u : UnitState). u.book) same
   same_book refused was now (inr faulted) = ap (λ (u : UnitState). u.book) faulted.after
 
-  pub tick_serves : ServesOn old new
+  pub tick_serves : (told : ℕ) (book : Book) → Serves old told book
+      → ((refused : Bool) × UnitStep refused (over old.disk book) event.Tick answer.Ticked (over new.disk book)) × Serves new told book
   tick_serves told book serves =
       let played = quiet_serves old new event.Tick answer.Ticked plays others (λ book block taken carried_out. carried_out)
       told book serves in
       let same : played.1 ≡ book = same_book played.0 (over old.disk book).unit (over new.disk played.1).unit played.2.1 in
-      subst (λ (b : Book). Serves new told b) same played.3
-
-  pub tick_step : (told : ℕ) (book : Book) → Serves old told book
-      → (refused : Bool) × UnitStep refused (over old.disk book) event.Tick answer.Ticked (over new.disk book)
-  tick_step told book serves =
-      let played = quiet_serves old new event.Tick answer.Ticked plays others (λ book block taken carried_out. carried_out)
-      told book serves in
-      let same : played.1 ≡ book = same_book played.0 (over old.disk book).unit (over new.disk played.1).unit played.2.1 in (
-        played.0,
-        subst (λ (b : Book). UnitStep played.0 (over old.disk book) event.Tick answer.Ticked (over new.disk b)) same played.2,
-      )
+      ((played.0, rw same at played.2), rw same at played.3)
 
 abbrev pub with_disk : Machine → Disk → Machine
 with_disk s disk = record s { disk = disk }
@@ -252,10 +226,7 @@ abbrev GoesOn : Machine → Machine → Type 0
 GoesOn old new = ServesOn old new × KeepsGoing old new
 
 itself : (s : Machine) → GoesOn s s
-itself s = (
-  λ told book serves. serves,
-  record { room = λ fits. fits; waits = λ waits. waits; dead = λ dead. (λ image left. left, dead) },
-)
+itself s = search rules
 
 further : (old mid new : Machine) → GoesOn old mid → GoesOn mid new → GoesOn old new
 further old mid new first last = (
@@ -263,32 +234,30 @@ further old mid new first last = (
   record {
     room = λ fits. last.1.room (first.1.room fits);
     waits = λ waits. last.1.waits (first.1.waits waits);
-    dead = λ dead.
-        let before = first.1.dead dead in
-        let behind = last.1.dead before.1 in (λ image left. before.0 image (behind.0 image left), behind.1);
+    dead = λ dead. let early = first.1.dead dead in let late = last.1.dead early.1 in (λ image left. early.0 image (late.0 image left), late.1);
   },
 )
 
 pub steps_go_on : (Holds : Disk → Type 0) (work : Work) (count : ℕ) (old : Machine) (new : Disk)
     → StepsWhile Holds work count old.disk new → GoesOn old (with_disk old new)
-steps_go_on Holds work zero old new same = subst (λ (d : Disk). GoesOn old (with_disk old d)) (sym same) (itself old)
+steps_go_on Holds work zero old new same = rw same (itself old)
 steps_go_on Holds work (suc count) old new (mid, steps, holds, plays) =
     further old (with_disk old mid) (with_disk old new) (steps_go_on Holds work count old mid steps) (
-      tick_serves (with_disk old mid) (with_disk old new) plays refl,
+      λ told book serves. (tick_serves (with_disk old mid) (with_disk old new) plays refl told book serves).1,
       event_goes_on (with_disk old mid) (with_disk old new) _ _ plays refl,
     )
 
 pub made_goes_on : (Holds : Disk → Type 0) (work : Work) (count : ℕ) (old new : Machine)
     → StepsWhile Holds work count old.disk new.disk → new ≡ record old { disk = new.disk } → GoesOn old new
 made_goes_on Holds work count old new steps others =
-    subst (λ (s : Machine). GoesOn old s) (sym others) (steps_go_on Holds work count old new.disk steps)
+    rw others (steps_go_on Holds work count old new.disk steps)
 
 pub idle_goes_on : (old new : Machine) → HasStepped old new → GoesOn old new
-idle_goes_on old new (inl held) = subst (λ (s : Machine). GoesOn old s) (sym held.1) (itself old)
+idle_goes_on old new (inl held) = rw held.1 (itself old)
 idle_goes_on old new (inr made) = made_goes_on _ Settle made.1.count old new made.1.steps made.2
 
 pub ahead_goes_on : (old new : Machine) → HasGoneAhead old new → GoesOn old new
-ahead_goes_on old new (inl busy) = subst (λ (s : Machine). GoesOn old s) (sym busy.1) (itself old)
+ahead_goes_on old new (inl busy) = rw busy.1 (itself old)
 ahead_goes_on old new (inr (rests, inl (some, writes), others)) =
     made_goes_on _ WriteBack writes.count old new writes.steps others
 ahead_goes_on old new (inr (rests, inr (none, makes), others)) = made_goes_on _ Ahead makes.count old new makes.steps others
