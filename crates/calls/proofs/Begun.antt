@@ -13,8 +13,8 @@ use Rattle.bot_machine.specs.Device.{Device}
 use Rattle.bot_machine.specs.Opening.{StartsDisk, RefusesDisk}
 use Rattle.disk_machine.specs.Parts.{CoversParts}
 use Rattle.disk_machine.specs.Plays.{Disk, medium_of, layout_on, Begins}
-use Rattle.disk_machine.proofs.Refusals.{ends_in}
-use Rattle.disk_machine.proofs.Rooms.{IsEnough, start_refuses, holds_log, roomy}
+use Rattle.store_calls.proofs.Served.{start_refuses}
+use Rattle.disk_machine.proofs.Rooms.{IsEnough, ends_in, holds_log, roomy}
 use Rattle.disk_machine.specs.Machine.{Machine}
 use Rattle.disk_machine.specs.Moves.{begun, ServesAtRest, BeginsBehind, HasRoomBeside}
 use Rattle.calls.specs.Reserve.{IsReserve}
@@ -65,7 +65,7 @@ module _ (near : List ℕ) (sectors : ℕ) (content : List ℕ) (first : Window)
       covers = covers;
       parts = parts;
       served = served;
-      refuses = start_refuses first (medium_of disk) empty starts.leaves.leaves starts.leaves.medium served;
+      refuses = start_refuses first (medium_of disk) empty starts.leaves.medium served;
       holds = holds_log first disk device starts.opened follows;
       roomy = roomy near content sectors on.0 on.1 first disk device on.3 some (enough near on.0 on.1 on.2 some) starts.opened follows;
     }

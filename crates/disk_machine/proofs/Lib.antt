@@ -1,4 +1,3 @@
-pub mod Refusals
 pub mod Rooms
 pub mod OutboxTaken
 pub mod Handing

@@ -1,17 +1,18 @@
 -- The room of a disk is enough, and what is read is in sight.
-use Rattle.std.proofs.Common.{◌≡◌, ◌⊎◌, ◌<◌, ◌≤◌, ◌+◌, ◌++◌, ◌∷◌, [], ℕ, true, List, length, inl, inr, arith, refl, sym, ◌∙◌, ap, subst}
+use Rattle.std.proofs.Common.{◌≡◌, ◌⊎◌, ◌<◌, ◌≤◌, ◌+◌, ◌++◌, [], ℕ, true, List, length, inl, inr, arith, refl, sym, ◌∙◌, ap, subst}
 use Rattle.std.proofs.Common.{false, length-append}
 use Rattle.std.specs.Prelude.{Option}
-use Rattle.std.proofs.lemmas.List.{append-nil}
+use Rattle.std.specs.List.{list_all}
+use Rattle.std.proofs.lemmas.Bool.{cases_Bool}
+use Rattle.std.proofs.lemmas.List.{append-nil, nil_from_length}
 use Rattle.journal.specs.Places.{Shape}
 use Rattle.journal.specs.Sectors.{IsSuper}
-use Rattle.medium.specs.Medium.{LooksOnly}
 use Rattle.medium.specs.Sent.{sent}
+use Rattle.medium.specs.declared.fault.MediumFault.TheVariants as kind
 use Rattle.medium.specs.Writes.{sector_of}
 use Rattle.window.specs.Story.{given}
 use Rattle.window.specs.declared.call.DeviceCall.{DeviceCall}
-use Rattle.window.specs.Window.{Window, fresh, state_of, mirror_of, is_in_sight, ComesAfter, IsServed, CoversDevice}
-use Rattle.window.specs.Parts.{PartsFollow}
+use Rattle.window.specs.Window.{Window, fresh, state_of, is_in_sight, ComesAfter, IsServed}
 use Rattle.window.specs.WindowLaws.{is_sound, comes_after_itself}
 use Rattle.window.specs.Looks.{near_in_sight, none_refused, none_missed, none_kept_out}
 use Rattle.scsi_unit.specs.Background.{Work}
@@ -23,15 +24,18 @@ use Rattle.bot_machine.proofs.OutPackets.{token}
 use Rattle.spec.specs.Exchange.{in_answer, after_in}
 use Rattle.bot_machine.specs.Device.{Device}
 use Rattle.bot_machine.specs.Disk.{IsStepBy}
-use Rattle.bot_machine.specs.Opening.{IsOpened, StartLeaves, LeavesMedium}
+use Rattle.recovery.specs.declared.start_fault.StartFault.TheVariants as fault
+use Rattle.scsi_unit.specs.StartFaults.{StartFault}
+use Rattle.bot_machine.specs.Opening.{IsOpened, IsNotOpened, StartLeaves, LeavesMedium}
 use Rattle.bot_machine.specs.Reading.{ReadsAt}
 use Rattle.spec.specs.declared.event.Event.{Event}
 use Rattle.spec.specs.declared.event.Event.TheVariants as event
 use Rattle.spec.specs.declared.event.Answer.{Answer}
-use Rattle.disk_machine.specs.Plays.{Disk, medium_of, layout_on, Foresees, Plays, PlaysBy}
-use Rattle.disk_machine.specs.Refusals.{RefusesNothing, HasRoomFor, HasRoomOnce, IsQuietPacket, MakesOneBatch, IsRoomy, HoldsLog, SeesHome}
-use Rattle.disk_machine.specs.Refusals.{HasRoomToStart, HoldsImageLog, StartRefusesNothing}
-use Rattle.store_calls.proofs.Served.{fits_start}
+use Rattle.disk_machine.specs.Plays.{Disk, medium_of, layout_on, Foresees, Plays, PlaysBy, EndsIn}
+use Rattle.disk_machine.specs.Refusals.{HasRoomFor, HasRoomOnce, IsQuietPacket, MakesOneBatch, IsRoomy, HoldsLog, SeesHome}
+use Rattle.disk_machine.specs.Refusals.{HoldsImageLog}
+use Rattle.store_calls.proofs.Served.{start_refuses}
+use Rattle.store_calls.proofs.StartedStore as started
 use Rattle.disk_machine.specs.Room.{room_for}
 use Rattle.window.proofs.Kept.{opened_front}
 
@@ -45,9 +49,7 @@ one_batch : {work : Work} → (old : Disk) (event : Event) (answer : Answer) (ne
     → SendsOneBatch old.unit.store.goes_ahead (state_of (medium_of old)) (state_of (medium_of new)) old.unit.store.cached.log
 one_batch old (event.Out packet) answer new (inl written) step = step.few.one_batch written
 one_batch old (event.Out packet) answer new (inr plain) step = step.plain (some_book old) refl (plain (some_book old) refl)
-one_batch old event.In answer new ready step = step.plain (some_book old) refl (λ block taken none. absurd none)
-one_batch old (event.Setup packet) answer new ready step = step.plain (some_book old) refl (λ block taken none. absurd none)
-one_batch old event.Tick answer new ready step = step.plain (some_book old) refl (λ block taken none. absurd none)
+one_batch old _ answer new ready step = step.plain (some_book old) refl (λ block taken none. absurd none)
 
 -- a quiet packet makes no batch durable
 pub none_sent_by : {work : Work} → (old : Disk) (packet : List ℕ) (answer : Answer) (new : Disk) → IsQuietPacket old packet
@@ -66,11 +68,9 @@ fits_once old (event.Out packet) answer new step held (inl quiet) =
     let none = step.quiet (some_book old) refl (quiet (some_book old) refl) in omega (arith, none, held)
 fits_once old (event.Out packet) answer new step held (inr (alone, room)) =
     let few = (step.few.one_batch alone.written).prepared alone.prepared in omega (arith, few, room)
-fits_once old event.In answer new step held none =
-    let none = step.quiet (some_book old) refl (λ block taken carries. absurd carries) in omega (arith, none, held)
-fits_once old (event.Setup packet) answer new step held none =
-    let none = step.quiet (some_book old) refl (λ block taken carries. absurd carries) in omega (arith, none, held)
 fits_once old event.Tick answer new step held room = let few = step.ticks.0.sent in omega (arith, few, room)
+fits_once old _ answer new step held none =
+    let none = step.quiet (some_book old) refl (λ block taken carries. absurd carries) in omega (arith, none, held)
 
 -- its calls have room
 fits_event : {work : Work} → (old : Disk) (event : Event) (answer : Answer) (new : Disk)
@@ -82,68 +82,46 @@ fits_event old event answer new step held (inr (inl (one, makes))) =
     let few = (one_batch old event answer new makes step).most in omega (arith, few, one)
 fits_event old event answer new step held (inr (inr once)) = fits_once old event answer new step held once
 
--- what leaves no write, no flush and no read refused, where each named a sector that is in sight
-refuses_nothing : (P : ℕ → Type 0) (Room Sight : Type 0) (old new : Window) → ComesAfter old new → IsServed old new
-    → (Room → length old.outbox + sent (state_of new) ≤ sent (state_of old) + old.room) → LooksOnly P (state_of old) (state_of new)
-    → (Sight → (s : ℕ) → P s → is_in_sight old s ≡ true) → RefusesNothing Room Sight old new
-refuses_nothing P Room Sight old new follows served few named in_sight = record {
-  kept = λ room. none_kept_out old new follows (few room);
-  seen = λ sight. none_missed P old new follows (in_sight sight) named;
-  none = λ room sight. none_refused P old new served (in_sight sight) named (few room);
-}
-
 -- a sector that an event names is in sight
 named_in_sight : (old : Disk) (event : Event) → HoldsLog old → SeesHome old event → (s : ℕ)
     → (s < first_home_of old.unit) ⊎ ReadsAt old event s → is_in_sight (medium_of old) s ≡ true
 named_in_sight old event log home s (inl low) = near_in_sight (medium_of old) s (omega (arith, low, log))
 named_in_sight old (event.Out packet) log home s (inr at) = home at.0 at.1 s at.2.0 at.2.1
-named_in_sight old event.In log home s (inr at) = absurd at
-named_in_sight old (event.Setup packet) log home s (inr at) = absurd at
-named_in_sight old event.Tick log home s (inr at) = absurd at
+named_in_sight old _ log home s (inr at) = absurd at
 
 -- where no call was made nothing was given to the device
-none_since : (asked since : List (Option DeviceCall)) → length (asked ++ since) ≡ length asked → since ≡ []
-none_since asked [] same = refl
-none_since asked (one ∷ since) same = absurd (omega (arith, same, length-append asked (one ∷ since)))
-
 asks_nothing : (old new : Window) → ComesAfter old new → (state_of new).calls ≡ (state_of old).calls → new.outbox ≡ old.outbox
 asks_nothing old new follows same =
-    let none = none_since old.seen.told.asked follows.since
-    (ap (λ (l : List (Option DeviceCall)). length l) (sym follows.asked) ∙ same) in
+    let none : follows.since ≡ [] = nil_from_length follows.since
+    (omega (arith, same, simp length-append at (ap (λ (l : List (Option DeviceCall)). length l) follows.asked))) in
     follows.outbox ∙ ap (λ (l : List (Option DeviceCall)). old.outbox ++ given l) none ∙ append-nil old.outbox
-
--- the room and the layout stay
-stays_roomy : (old new : Disk) → layout_on new ≡ layout_on old → (medium_of new).room ≡ (medium_of old).room → IsRoomy old
-    → IsRoomy new
-stays_roomy old new layout room enough_room = omega (arith, ap (λ (s : Shape). room_for s) layout, room, enough_room)
 
 -- an event, with what the medium says of all that may come
 pub played : {work : Work} → (old : Disk) (event : Event) (answer : Answer) (new : Disk)
     → Foresees (medium_of old)
     → IsStepBy work (state_of (medium_of old)) (state_of (medium_of new)) old event answer new
     → ComesAfter (medium_of old) (medium_of new) → PlaysBy work old event answer new
-played old event answer new sees step follows = record {
-  step = step;
-  follows = follows;
-  covers = sees.covers (medium_of new) follows;
-  parts = sees.parts (medium_of new) follows;
-  served = sees.served (medium_of new) follows;
-  refuses = refuses_nothing (λ s. (s < first_home_of old.unit) ⊎ ReadsAt old event s) (HasRoomFor old event)
-      (HoldsLog old × SeesHome old event) (medium_of old) (medium_of new) follows (sees.served (medium_of new) follows)
-      (fits_event old event answer new step sees.held) step.looks (λ sight. named_in_sight old event sight.0 sight.1);
-  faulted = λ dead. (asks_nothing (medium_of old) (medium_of new) follows (step.few.faulted dead).0, (step.few.faulted dead).1);
-  roomy = stays_roomy old new step.few.layout_stays follows.room_stays;
-}
-
--- what a window says of all that may come
-pub foreseen : (m n : Window) → n ≡ m → length n.outbox ≤ n.room → PartsFollow
-    → ((new : Window) → ComesAfter n new → CoversDevice n new) → ((new : Window) → ComesAfter n new → IsServed n new) → Foresees m
-foreseen m n same held law covers served = subst Foresees same (record {
-  held = held;
-  covers = covers;
-  parts = λ new follows. law (mirror_of n) (mirror_of new) (covers new follows);
-  served = served;
-})
+played old event answer new sees step follows =
+    let served = sees.served (medium_of new) follows in
+    let fits = fits_event old event answer new step sees.held in
+    let in_sight = λ (seen : HoldsLog old × SeesHome old event). named_in_sight old event seen.0 seen.1 in
+    let named = λ (s : ℕ). (s < first_home_of old.unit) ⊎ ReadsAt old event s in record {
+      step = step;
+      follows = follows;
+      covers = sees.covers (medium_of new) follows;
+      parts = sees.parts (medium_of new) follows;
+      served = served;
+      refuses = record {
+        kept = λ room. none_kept_out (medium_of old) (medium_of new) follows (fits room);
+        seen = λ sight. none_missed named (medium_of old) (medium_of new) follows (in_sight sight) step.looks;
+        none = λ room sight. none_refused named (medium_of old) (medium_of new) served (in_sight sight) step.looks (fits room);
+      };
+      faulted = λ dead. (
+        asks_nothing (medium_of old) (medium_of new) follows (step.few.faulted dead).0,
+        (step.few.faulted dead).1,
+      );
+      roomy = λ enough. omega (arith, ap (λ (s : Shape). room_for s) step.few.layout_stays, follows.room_stays, enough);
+    }
 
 -- a token is one step, over a medium that stays as it is
 pub taken : (old new : Disk) (answer : Answer) → Foresees (medium_of old) → new ≡ record old { line = after_in old.line }
@@ -155,18 +133,35 @@ taken old new answer sees after answered =
 
 -- ---- a start, good or refused, on a medium that was asked nothing yet
 
-module _ (first after : Window) (empty : length first.outbox ≡ 0) (leaves : StartLeaves (state_of first) (state_of after)) where
-  fits : HasRoomToStart first → length first.outbox + sent (state_of after) ≤ sent (state_of first) + first.room
-  fits = fits_start first after empty leaves.bounded.sends
+-- a read was refused where it is told so
+grew : (first after : Window) → IsNotOpened (state_of first) (state_of after) fault.Read
+    → (state_of first).refused kind.Read < (state_of after).refused kind.Read
+grew first after not = grind (arith, not.cause)
 
-  pub start_refuses : LeavesMedium state_of ComesAfter first after → IsServed first after → StartRefusesNothing first after
-  start_refuses medium served =
-      let near = first.near in record {
-        kept = λ room. none_kept_out first after medium.follows (fits room);
-        seen = λ log. none_missed (λ s. s < near) first after medium.follows (near_in_sight first) (medium.looks near log);
-        none = λ room log. none_refused (λ s. s < near) first after served (near_in_sight first) (medium.looks near log)
-            (fits room);
-      }
+module _ (first after : Window) (empty : length first.outbox ≡ 0) (leaves : StartLeaves (state_of first) (state_of after))
+    (medium : LeavesMedium state_of ComesAfter first after) where
+  -- a start that was refused: its own calls say why
+  pub ends_in : (why : StartFault) → IsNotOpened (state_of first) (state_of after) why → IsServed first after → EndsIn first after why
+  ends_in why not served = record {
+    not = not;
+    leaves = leaves;
+    follows = medium.follows;
+    refuses = start_refuses first after empty medium served;
+    full = λ which. elim not.cause [
+      | inl cause ↦ (started.ends_in first after empty medium why cause served).full which
+      | inr none ↦ grind (arith, which, none.0)
+    ];
+    unseen = λ is. elim (cases_Bool (list_all (is_in_sight first) medium.follows.looks)) [
+      | inl all ↦ absurd (omega (arith, grew first after (rw is at not), medium.follows.in_sight all))
+      | inr some ↦ some
+    ];
+    -- each sector that was read lies in memory
+    sighted = λ log is. absurd (omega (
+      arith,
+      grew first after (rw is at not),
+      none_missed (λ s. s < first.near) first after medium.follows (near_in_sight first) (medium.looks first.near log),
+    ));
+  }
 
 -- the first sectors that held the log hold it still
 pub holds_log : (first : Window) (new : Disk) (device : Device) → IsOpened (state_of first) (state_of (medium_of new)) device new

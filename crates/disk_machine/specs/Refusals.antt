@@ -1,9 +1,7 @@
 -- Nothing that a disk asks of its medium is refused: no write and no flush for want of room, and no
 -- read of a sector that is not in sight.
-use Rattle.std.specs.Prelude.{⊤, ◌≡◌, ◌⊎◌, ℕ, ◌+◌, ◌≤◌, List, length}
+use Rattle.std.specs.Prelude.{⊤, ◌⊎◌, ℕ, ◌+◌, ◌≤◌, List, length}
 use Rattle.journal.specs.Places.{first_home}
-use Rattle.recovery.specs.Calls as recovery
-use Rattle.window.specs.Window.{Window, state_of, kept_out}
 use Rattle.spec.specs.Book.{Book}
 use Rattle.spec.specs.declared.event.Event.{Event}
 use Rattle.spec.specs.declared.event.Event.TheVariants as event
@@ -12,17 +10,11 @@ use Rattle.scsi_unit.specs.Calls.{most_sends_of}
 use Rattle.scsi_unit.specs.UnitValue.{IsOfSize}
 use Rattle.bot_machine.specs.Disk.{over}
 use Rattle.bot_machine.specs.Promising.{PromisesNone, QuietIn}
-pub use Rattle.store_calls.specs.Rooms.{HasRoomToStart}
+pub use Rattle.store_calls.specs.Rooms.{RefusesNothing, HasRoomToStart, HoldsImageLog}
+pub use Rattle.store_calls.specs.Rooms.{StartRefusesNothing}
 use Rattle.disk_machine.specs.Room.{most_sent, room_for}
 use Rattle.disk_machine.specs.Seen.{Disk, medium_of, layout_on}
 use Rattle.disk_machine.specs.Wanted.{WantsNone}
-
--- From one moment to another no write and no flush was refused, given this room; no read, given
--- this sight; and given both, no call at all.
-pub record RefusesNothing (Room Sight : Type 0) (old new : Window) : Type 0 where
-  pub kept : Room → kept_out new.seen.told.refused ≡ kept_out old.seen.told.refused
-  pub seen : Sight → new.seen.told.refused.reads ≡ old.seen.told.refused.reads
-  pub none : Room → Sight → (state_of new).failures ≡ (state_of old).failures
 
 -- ---- an event
 
@@ -87,14 +79,3 @@ HasRoomFor disk event = (length (medium_of disk).outbox + most_sends_of (layout_
 abbrev pub EventRefusesNothing : Disk → Event → Disk → Type 0
 EventRefusesNothing old event new = RefusesNothing (HasRoomFor old event)
     (HoldsLog old × SeesHome old event) (medium_of old) (medium_of new)
-
--- ---- a start
-
--- the first sectors are all before the first home sector, as `opening` reads them
-abbrev pub HoldsImageLog : Window → Type 0
-HoldsImageLog first = recovery.HoldsLog first.near (state_of first).size (state_of first).content
-
--- No start misses: none has a call refused, good or refused itself.
-abbrev pub StartRefusesNothing : Window → Window → Type 0
-StartRefusesNothing first after =
-    RefusesNothing (HasRoomToStart first) (HoldsImageLog first) first after

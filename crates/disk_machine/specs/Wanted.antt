@@ -1,23 +1,19 @@
 -- Which sectors a disk wants to be shown before it takes a packet.
-use Rattle.std.specs.Prelude.{◌≡◌, ℕ, ◌+◌, ◌<◌, ◌≤◌, List, true, max}
+use Rattle.std.specs.Prelude.{ℕ, List}
 use Rattle.scsi_unit.specs.declared.reading.HomeSectors.{HomeSectors}
 use Rattle.bot_machine.specs.Reading.{ReadsHome}
-use Rattle.window.specs.Window.{Window, state_of, is_in_sight}
+use Rattle.window.specs.Window.{Window}
+use Rattle.store_calls.specs.Rooms as rooms
 use Rattle.disk_machine.specs.Seen.{Disk, medium_of}
 
 -- The sectors of a device that are to be shown, of these home sectors: those behind the first ones,
 -- which lie in memory, and not all of them are in sight.
-pub record AreMissing (m : Window) (home : HomeSectors) (first count : ℕ) : Type 0 where
-  pub some : 0 < count
-  pub few : count ≤ 240
-  pub begin : first ≡ max home.first m.near
-  pub end : first + count ≡ home.first + home.count
-  pub on_device : first + count ≤ (state_of m).size
-  pub unseen : m.from ≤ first → m.from + m.held < first + count
+abbrev pub AreMissing : Window → HomeSectors → ℕ → ℕ → Type 0
+AreMissing m home first count = rooms.AreMissing m home.first home.count first count
 
 -- each of these home sectors is in sight
 abbrev pub AreInSight : Window → HomeSectors → Type 0
-AreInSight m home = (s : ℕ) → home.first ≤ s → s < home.first + home.count → is_in_sight m s ≡ true
+AreInSight m home = rooms.AreInSight m home.first home.count
 
 -- the packet has the blocks at some home sectors read, and these of them are missing
 abbrev pub Wants : Disk → List ℕ → ℕ → ℕ → Type 0

@@ -5,10 +5,11 @@ ghost use Rattle.disk_machine.specs.Moves.{begun, state_by, state_of};
 
 use crate::asked::Asked;
 use crate::lack::Lack;
+use crate::play::foresee;
 use crate::waiting::Waiting;
 use bot_machine::Disk;
 use medium::Medium;
-use window::{MachineState, WindowMedium, device_laws};
+use window::{MachineState, WindowMedium};
 
 /// A disk that says what its device is to do next, one call at a time, and takes packets while the
 /// device does it.
@@ -83,7 +84,7 @@ impl DiskMachine {
         ensures serves { ServesAtRest self.now }
         ensures starts { BeginsBehind self.now }
     {
-        let _waiting = self.disk.medium().waiting();
-        device_laws();
+        self.disk.medium();
+        foresee(&self.disk);
     }
 }

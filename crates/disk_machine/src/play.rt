@@ -12,7 +12,7 @@ use window::{WindowMedium, device_laws};
 
 // Does nothing. The laws of the outbox say of all that may come what it is for the device, and that
 // none of it is refused for which there is room.
-fn foresee(disk: &Disk<WindowMedium>)
+pub(crate) fn foresee(disk: &Disk<WindowMedium>)
     ensures { Foresees (medium_of disk.now) }
 {
     let _waiting = disk.medium().waiting();

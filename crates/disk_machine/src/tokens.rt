@@ -5,11 +5,10 @@ ghost use Rattle.disk_machine.specs.Transfers.{GivesPacket};
 
 use crate::codes::{ACK, NAK, STALL};
 use crate::machine::DiskMachine;
-use crate::play::{answer_request, send_packet};
+use crate::play::{answer_request, foresee, send_packet};
 use crate::waiting::Waiting;
 use bot_machine::{Disk, InAnswer};
-use medium::Medium;
-use window::{WindowMedium, device_laws};
+use window::WindowMedium;
 
 impl DiskMachine {
     /// A token to Bulk-In: the packet to send, how many bytes it has, and the number of the answer.
@@ -42,9 +41,7 @@ pub(crate) fn give_packet(disk: &mut Disk<WindowMedium>, to: &mut [u8], size: &m
     ensures { GivesPacket disk.old to.old disk.new to.new size.new result }
 {
     *size = 0;
-    // the laws of the outbox say of all that may come what it is for the device
-    let _waiting = disk.medium().waiting();
-    device_laws();
+    foresee(disk);
     match disk.bulk_in() {
         InAnswer::Data(packet) => {
             to[..packet.len()].copy_from_slice(packet);

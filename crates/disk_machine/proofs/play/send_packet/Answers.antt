@@ -1,4 +1,4 @@
-use Rattle.std.proofs.Common.{◌++◌, List, ℕ, length, drop, refl, ap}
+use Rattle.std.proofs.Common.{refl}
 use Rattle.spec.specs.declared.event.Answer.TheVariants.{Data, Nak, Stall}
 use Rattle.disk_machine.proofs.Rooms.{taken}
 use Rattle.disk_machine.proofs.play.send_packet.Goals as goal
@@ -21,9 +21,5 @@ pub returns-in-Data : goal.returns-in-Data
 returns-in-Data c = (
   Data (record { items = c.in-Data.packet.now }),
   taken _ _ _ c.foresee.ensures c.bulk_in.follows.holds-at-none c.in-Data.ensures.answer,
-  record {
-    code_is = refl;
-    size_is = refl;
-    bytes_are = ap (λ (l : List ℕ). l ++ drop (length c.in-Data.packet.now) c.args.to.now) c.copy_from_slice.ensures.after;
-  },
+  record { code_is = refl; size_is = refl; bytes_are = cc },
 )

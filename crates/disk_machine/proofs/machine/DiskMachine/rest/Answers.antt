@@ -14,7 +14,6 @@ use Rattle.disk_machine.specs.Parts.{CoversParts}
 use Rattle.disk_machine.specs.Plays.{medium_of}
 use Rattle.disk_machine.specs.Machine.{Machine, MayLeave, Keeps, IsCaughtUp}
 use Rattle.disk_machine.specs.Moves.{ServesAtRest, BeginsBehind}
-use Rattle.disk_machine.proofs.Rooms.{foreseen}
 use Rattle.disk_machine.proofs.machine.DiskMachine.rest.Goals as goal
 
 module _ (s : Machine) (parts : (new : Window) → ComesAfter (medium_of s.disk) new → CoversParts (medium_of s.disk) new)
@@ -56,7 +55,4 @@ pub returns-clause-starts : goal.returns-clause-starts
 returns-clause-starts c = begins_behind c.args.self.now
 
 pub returns-clause-serves : goal.returns-clause-serves
-returns-clause-serves c =
-    let says = c.waiting-waiting.ensures in
-    let sees = foreseen _ _ c.medium.ensures.is (omega (arith, says.is, says.most)) c.device_laws.ensures says.device says.served in
-    serves_at_rest c.args.self.now sees.parts c.medium.ensures.at_rest
+returns-clause-serves c = serves_at_rest c.args.self.now c.foresee.ensures.parts c.medium.ensures.at_rest
