@@ -110,7 +110,8 @@ module _ (refused : Bool) (old new : Conversation UnitState) (event : Event) (an
       → (old.unit.book.mark ≤ new.unit.book.mark) × (new.unit.book.mark ≤ length new.unit.book.writes)
   mark_grows most =
       let more = some_since (write_of_event old event) old.unit new.unit writes_grow in
-      grind (arith, most, simp length-append at (ap (λ (l : List Write). length l) more.1), book_laws.mark refused old new event answer step)
+      let longer = simp length-append at (ap (λ (l : List Write). length l) more.1) in
+      grind (arith, most, longer, book_laws.mark refused old new event answer step)
 
   -- ---- what a start finds
 

@@ -21,6 +21,7 @@ use Rattle.window.specs.declared.ask.DeviceRead.{DeviceRead}
 use Rattle.store_calls.specs.Outbox.{without, writes_of, IsRun}
 use Rattle.store_calls.proofs.Handing.{taken_by}
 use Rattle.disk_machine.specs.Asking.{AsksFor, HandsOut}
+use Rattle.disk_machine.specs.Refused.{KeepsRest}
 use Rattle.disk_machine.specs.declared.lack.Lack.{Lack}
 use Rattle.window.specs.declared.ask.DeviceAsk.{DeviceAsk}
 use Rattle.window.specs.declared.ask.DeviceAsk.TheVariants as ask
@@ -201,3 +202,18 @@ asks_safe old new room (ask.Write first count) filled asks =
     handed_safe old new count asks.0 (run_waits (medium_of old.disk) (medium_of new.disk) first count room filled asks.2.run)
 asks_safe old new room ask.Flush filled asks = handed_safe old new 1 asks.0 (some_first (medium_of old.disk).outbox Flush asks.1)
 asks_safe old new room (ask.Read home) filled asks = reads_safe old new home asks.0 asks.3
+
+-- ---- calls leave the outbox of a disk, and nothing else of it changes
+
+pub none_yet : (disk : Disk) → KeepsRest disk disk
+none_yet disk = record { others = refl; fits = λ book fits. fits }
+
+pub one_more : (old mid new : Disk) → KeepsRest old mid → KeepsRest mid new → KeepsRest old new
+one_more old mid new first second = record {
+  others = second.others ∙ ap (λ (d : Disk). record d {
+    unit = record d.unit {
+      store = record d.unit.store { medium = new.unit.store.medium };
+    };
+  }) first.others;
+  fits = λ book f. second.fits book (first.fits book f);
+}

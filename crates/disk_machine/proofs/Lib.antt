@@ -1,5 +1,4 @@
 pub mod Rooms
-pub mod OutboxTaken
 pub mod Handing
 pub mod Hearing
 pub mod Events

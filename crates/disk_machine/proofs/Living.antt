@@ -13,9 +13,8 @@ use Rattle.spec.specs.declared.event.Answer.TheVariants as answer
 use Rattle.bot_machine.specs.Disk.{over}
 use Rattle.bot_machine.specs.Faulting.{faulted_over}
 use Rattle.scsi_unit.specs.Background.{Work, Settle, Ahead, WriteBack}
-use Rattle.disk_machine.specs.Plays.{Disk}
+use Rattle.disk_machine.specs.Plays.{Disk, StepsWhile}
 use Rattle.disk_machine.specs.Asking.{AsksFor, IsDone}
-use Rattle.disk_machine.specs.Steps.{StepsWhile}
 use Rattle.disk_machine.specs.Machine.{Machine, Serves, has_refused}
 use Rattle.disk_machine.specs.Turns.{Turn, played, refusal, TurnsRun, TurnsAreRun, turns_done, ticks, turns_one, turns_in, turns_ahead}
 use Rattle.disk_machine.specs.Turns.{turns_idle, turns_taken, turns_not_taken, turns_before, turns_of_taking, turns_at, turns_sent}

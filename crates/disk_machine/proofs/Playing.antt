@@ -7,12 +7,12 @@ use Rattle.window.specs.declared.call.DeviceCall.{DeviceCall}
 use Rattle.spec.specs.declared.event.Event.{Event}
 use Rattle.spec.specs.declared.event.Answer.{Answer}
 use Rattle.scsi_unit.specs.Background.{Work, Settle, Ahead, WriteBack}
-use Rattle.disk_machine.specs.Plays.{medium_of, PlaysBy, Disk, Plays, AnswersRequest}
+use Rattle.disk_machine.specs.Plays.{medium_of, PlaysBy, Disk, Plays, SendsPacket, AnswersRequest, StepsWhile}
 use Rattle.disk_machine.specs.Room.{room_for}
 use Rattle.disk_machine.specs.Machine.{Machine, under_way, Serves, has_refused}
 use Rattle.disk_machine.specs.Moves.{KeepsGoing, HasRoomBeside, WaitsForDevice, LeavesNoMore, is_behind, ServesAtRest, ServesOn}
 use Rattle.disk_machine.specs.Moves.{ServesEvent, ServesToken}
-use Rattle.disk_machine.specs.Packets.{PlaysOut, waits_for, AnswersSetup, ServesOut}
+use Rattle.disk_machine.specs.Packets.{PlaysOut, waits_for, SendsIn, AnswersSetup, ServesOut}
 use Rattle.disk_machine.specs.declared.asked.Asked.{Asked}
 use Rattle.disk_machine.specs.declared.waiting.Waiting.{Waiting}
 use Rattle.disk_machine.specs.declared.waiting.Waiting.TheVariants as waiting
@@ -32,7 +32,6 @@ use Rattle.disk_machine.proofs.Rooms.{none_sent_by}
 use Rattle.disk_machine.specs.Refusals.{HasRoomFor}
 use Rattle.disk_machine.specs.Idling.{HasGoneAhead, HasStepped}
 use Rattle.disk_machine.specs.PuttingOff.{IsReady}
-use Rattle.disk_machine.specs.Steps.{StepsWhile}
 use Rattle.disk_machine.proofs.Events.{serves_event}
 
 -- ---- nothing waits for a device that is not behind
@@ -192,7 +191,7 @@ module _ (old new : Machine) (answer : Answer) (plays : Plays old.disk event.In 
         rw same at played.3,
       )
 
-  pub token_serves : old.waiting ≡ waiting.Nothing → ServesToken old answer new
+  token_serves : old.waiting ≡ waiting.Nothing → ServesToken old answer new
   token_serves none told book serves =
       let played = one_token told book serves in (
         played.0,
@@ -200,6 +199,13 @@ module _ (old new : Machine) (answer : Answer) (plays : Plays old.disk event.In 
         λ fine. (one_token book.mark book (all_told old told book serves none
             (sym (ap (λ (s : Machine). has_refused s.asked) others) ∙ fine))).1,
       )
+
+pub sends_on : (old : Machine) (disk : Disk) (room filled : List ℕ) (size code : ℕ) → old.waiting ≡ waiting.Nothing
+    → SendsPacket old.disk room disk filled size code → SendsIn old room (record old { disk = disk }) filled size code
+sends_on old disk room filled size code none sends =
+    let new : Machine = record old { disk = disk } in
+    let serves = token_serves old new sends.0 sends.1 refl none in
+    inr (none, (sends.0, sends.1, sends.2, refl, serves, event_goes_on old new _ sends.0 sends.1 refl))
 
 -- ---- a step in the background
 
@@ -234,7 +240,9 @@ further old mid new first last = (
   record {
     room = λ fits. last.1.room (first.1.room fits);
     waits = λ waits. last.1.waits (first.1.waits waits);
-    dead = λ dead. let early = first.1.dead dead in let late = last.1.dead early.1 in (λ image left. early.0 image (late.0 image left), late.1);
+    dead = λ dead.
+        let early = first.1.dead dead in
+        let late = last.1.dead early.1 in (λ image left. early.0 image (late.0 image left), late.1);
   },
 )
 

@@ -11,10 +11,9 @@ use Rattle.bot_machine.specs.Disk.{over}
 use Rattle.bot_machine.specs.Promising.{PromisesNone}
 use Rattle.bot_machine.proofs.UnitLaws.{ahead_fewer, both_empty, plain_quiet}
 use Rattle.window.specs.Window.{state_of}
-use Rattle.disk_machine.specs.Plays.{Disk, medium_of, PlaysBy}
+use Rattle.disk_machine.specs.Plays.{Disk, medium_of, PlaysBy, StepsWhile}
 use Rattle.disk_machine.specs.Refusals.{HasWritten, IsQuietPacket}
 use Rattle.disk_machine.specs.PuttingOff.{MayGoOn, TellsNext, WritesOn}
-use Rattle.disk_machine.specs.Steps.{StepsWhile}
 
 -- a store that lives behind a step lived before it
 still_live : (old new : Disk) → (is_dead old.unit.store.cached ≡ true → is_dead new.unit.store.cached ≡ true)

@@ -9,8 +9,7 @@ use Rattle.window.specs.Window.{device_so_far}
 use Rattle.store_calls.specs.Outbox.{without, IsLongestRun}
 use Rattle.window.specs.declared.ask.DeviceRead.{DeviceRead}
 use Rattle.disk_machine.specs.Plays.{medium_of, Sees}
-use Rattle.disk_machine.specs.Refused.{IsRefused}
-use Rattle.disk_machine.specs.Runs.{KeepsRest}
+use Rattle.disk_machine.specs.Refused.{IsRefused, KeepsRest}
 use Rattle.disk_machine.specs.Machine.{Machine}
 use Rattle.window.specs.declared.ask.DeviceAsk.{DeviceAsk}
 use Rattle.window.specs.declared.ask.DeviceAsk.TheVariants as ask

@@ -1,12 +1,10 @@
 pub mod Codes
-pub mod DiskRow
 pub mod Parts
 pub mod Seen
 pub mod Wanted
 pub mod Refusals
 pub mod Plays
 pub mod Room
-pub mod Runs
 pub mod Refused
 pub mod Layouts
 pub mod Starting
@@ -18,6 +16,5 @@ pub mod Machine
 pub mod Moves
 pub mod Packets
 pub mod PuttingOff
-pub mod Steps
 pub mod Transfers
 pub mod Turns

@@ -1,6 +1,6 @@
 -- What each call does to a disk over a medium that reads on demand.
 use Rattle.std.specs.Prelude.{◌≡◌, ◌≢◌, ◌⊎◌, ◌↔◌, ℕ, ◌+◌, ◌<◌, ◌≤◌, ◌++◌, Bool, true, false}
-use Rattle.std.specs.Prelude.{List, length, drop}
+use Rattle.std.specs.Prelude.{List, length, drop, zero, suc}
 use Rattle.std.specs.List.{list_all}
 use Rattle.medium.specs.Sent.{sent}
 use Rattle.medium.specs.Moments.{IsUnchanged}
@@ -121,3 +121,9 @@ pub record EndsIn (first after : Window) (why : StartFault) : Type 0 where
       → sent (state_of first) + first.room < sent (state_of after)
   pub unseen : why ≡ fault.Read → list_all (is_in_sight first) follows.looks ≡ false
   pub sighted : HoldsImageLog first → why ≢ fault.Read
+
+-- so many steps that work towards this, each made while this holds of the disk
+abbrev pub StepsWhile : (Disk → Type 0) → Work → ℕ → Disk → Disk → Type 0
+StepsWhile Holds work zero old new = new ≡ old
+StepsWhile Holds work (suc count) old new = (mid : Disk) × StepsWhile Holds work count old mid
+    × Holds mid × PlaysBy work mid event.Tick answer.Ticked new

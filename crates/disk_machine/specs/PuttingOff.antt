@@ -7,11 +7,10 @@ use Rattle.scsi_unit.specs.Background.{Work, WriteBack, TellsWork, is_dead, step
 use Rattle.scsi_unit.specs.UnitValue.{IsOfSize}
 use Rattle.bot_machine.specs.Disk.{over}
 use Rattle.bot_machine.specs.Promising.{PromisesIn, PromisesNone}
-use Rattle.disk_machine.specs.Plays.{Disk, medium_of}
+use Rattle.disk_machine.specs.Plays.{Disk, medium_of, StepsWhile}
 use Rattle.disk_machine.specs.Refusals.{IsQuietPacket, HasWritten, NeedsRecordAlone}
 use Rattle.disk_machine.specs.Machine.{Machine}
 use Rattle.disk_machine.specs.Moves.{ServesOn, KeepsGoing}
-use Rattle.disk_machine.specs.Steps.{StepsWhile}
 
 -- it promises nothing, where that is told
 abbrev pub MayBePlain : Machine → List ℕ → Bool → Type 0

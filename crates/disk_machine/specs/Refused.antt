@@ -1,4 +1,5 @@
--- The device refused the call that was handed out last, and the disk is told so.
+-- What calls that leave the outbox keep of a disk; and the device refused the call that was handed
+-- out last, of which the disk is told.
 use Rattle.std.specs.Prelude.{◌≡◌}
 use Rattle.window.specs.Window.{state_of}
 use Rattle.store_calls.specs.Outbox.{IsEmptied}
@@ -6,7 +7,12 @@ use Rattle.spec.specs.Book.{Book}
 use Rattle.bot_machine.specs.Disk.{FitsDisk, IsRearmed, over}
 use Rattle.bot_machine.specs.Faulting.{faulted_disk, faulted_over}
 use Rattle.disk_machine.specs.Plays.{Disk, medium_of}
-use Rattle.disk_machine.specs.Runs.{KeepsRest}
+
+-- calls left the outbox, and nothing else of the disk changes
+pub record KeepsRest (old new : Disk) : Type 0 where
+  pub others : IsRearmed old new
+  pub fits : (book : Book) → FitsDisk (state_of (medium_of old)) old book
+      → FitsDisk (state_of (medium_of new)) new book
 
 -- all that waits leaves the outbox, and nothing else of the disk changes
 pub record IsDrained (old new : Disk) : Type 0 where

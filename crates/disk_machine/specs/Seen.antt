@@ -2,9 +2,16 @@
 use Rattle.journal.specs.Places.{Shape}
 use Rattle.window.specs.Window.{Window}
 use Rattle.scsi_unit.specs.Starting.{layout_of}
-use Rattle.disk_machine.specs.DiskRow.{disk_row}
+use denote.RattleType.{RattleType}
+use Rattle.bot_machine.specs.contracts.disk.Disk as disk
+use Rattle.window.specs.contracts.window.WindowMedium as medium
+use Rattle.window.specs.contracts.window.WindowMediumMedium.TheImpl as impl
 
--- what is seen of the disk
+-- the disk that a handle holds
+abbrev pub disk_row : RattleType
+disk_row = disk.the_row medium.the_row impl.ghosts
+
+-- what is seen of it
 abbrev pub Disk : Type 0
 Disk = disk_row.Denot
 

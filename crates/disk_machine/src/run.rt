@@ -1,7 +1,7 @@
 //! Writes to neighbouring sectors leave the outbox together.
 ghost use Rattle.store_calls.specs.Outbox.{IsLongestRun};
 ghost use Rattle.disk_machine.specs.Plays.{medium_of};
-ghost use Rattle.disk_machine.specs.Runs.{KeepsRest};
+ghost use Rattle.disk_machine.specs.Refused.{KeepsRest};
 
 use bot_machine::Disk;
 use window::WindowMedium;

@@ -1,11 +1,11 @@
-use Rattle.std.proofs.Common.{◌≡◌, ◌∷◌, [], ◌++◌, List, ℕ, ◌<◌, length, drop, refl, sym, ap, ◌∙◌, subst, arith, slice_set}
+use Rattle.std.proofs.Common.{◌≡◌, ◌∷◌, [], ◌++◌, List, ℕ, ◌<◌, length, drop, refl, sym, ap, ◌∙◌, arith, slice_set}
 use Rattle.std.proofs.lemmas.List.{append-nil, drop_all}
 use Rattle.spec.specs.declared.event.Answer.TheVariants.{Ack, Byte, Two, Stall}
 use Rattle.spec.specs.declared.event.Event.{Event}
 use Rattle.spec.specs.declared.event.Answer.{Answer}
 use Rattle.scsi_unit.specs.Background.{Work}
 use Rattle.bot_machine.specs.Disk.{IsStepBy}
-use Rattle.window.specs.Window.{ComesAfter, state_of}
+use Rattle.window.specs.Window.{state_of}
 use Rattle.window.specs.WindowLaws.{comes_after_itself}
 use Rattle.disk_machine.specs.Plays.{Disk, medium_of, Foresees, PlaysBy}
 use Rattle.disk_machine.proofs.Rooms.{played}
@@ -22,38 +22,27 @@ whole bytes to long = sym (ap (λ (l : List ℕ). bytes ++ l) (drop_all (length 
 plays : {work : Work} → (old new : Disk) (event : Event) (answer : Answer) → Foresees (medium_of old)
     → IsStepBy work (state_of (medium_of old)) (state_of (medium_of new)) old event answer new → new ≡ record old { line = new.line }
     → PlaysBy work old event answer new
-plays old new event answer sees step others = played old event answer new sees step
-    (subst (λ (d : Disk). ComesAfter (medium_of old) (medium_of d)) (sym others) (comes_after_itself (medium_of old)))
+plays old new event answer sees step others = played old event answer new sees step (rw others (comes_after_itself (medium_of old)))
 
 pub returns-in-Ack : goal.returns-in-Ack
-returns-in-Ack c = (
-  Ack,
-  plays _ _ _ _ c.foresee.ensures c.in-Ack.ensures.step c.in-Ack.ensures.others,
-  record { code_is = refl; size_is = refl; bytes_are = refl },
-)
+returns-in-Ack c =
+    let plays = plays _ _ _ _ c.foresee.ensures c.in-Ack.ensures.step c.in-Ack.ensures.others in
+    (Ack, plays, record { code_is = refl; size_is = refl; bytes_are = refl })
 
 pub returns-in-Byte : goal.returns-in-Byte
-returns-in-Byte c = (
-  Byte c.in-Byte.byte,
-  plays _ _ _ _ c.foresee.ensures c.in-Byte.ensures.step c.in-Byte.ensures.others,
-  record { code_is = refl; size_is = refl; bytes_are = set_first _ _ (omega (arith, c.told-to)) },
-)
+returns-in-Byte c =
+    let plays = plays _ _ _ _ c.foresee.ensures c.in-Byte.ensures.step c.in-Byte.ensures.others in
+    (Byte c.in-Byte.byte, plays, record { code_is = refl; size_is = refl; bytes_are = set_first _ _ (omega (arith, c.told-to)) })
 
 pub returns-in-Two : goal.returns-in-Two
 returns-in-Two c =
-    let after = c.copy_from_slice.ensures.after in (
-      Two c.in-Two.bytes,
-      plays _ _ _ _ c.foresee.ensures c.in-Two.ensures.step c.in-Two.ensures.others,
-      record {
-        code_is = refl;
-        size_is = sym c.copy_from_slice.array_long ∙ ap (λ (l : List ℕ). length l) after;
-        bytes_are = after ∙ whole _ _ (sym c.copy_from_slice.ensures.len ∙ ap (λ (l : List ℕ). length l) after);
-      },
-    )
+    let plays = plays _ _ _ _ c.foresee.ensures c.in-Two.ensures.step c.in-Two.ensures.others in
+    let after = c.copy_from_slice.ensures.after in
+    let long = ap (λ (l : List ℕ). length l) after in
+    let bytes = after ∙ whole _ _ (sym c.copy_from_slice.ensures.len ∙ long) in
+    (Two c.in-Two.bytes, plays, record { code_is = refl; size_is = sym c.copy_from_slice.array_long ∙ long; bytes_are = bytes })
 
 pub returns-in-Stall : goal.returns-in-Stall
-returns-in-Stall c = (
-  Stall,
-  plays _ _ _ _ c.foresee.ensures c.in-Stall.ensures.step c.in-Stall.ensures.others,
-  record { code_is = refl; size_is = refl; bytes_are = refl },
-)
+returns-in-Stall c =
+    let plays = plays _ _ _ _ c.foresee.ensures c.in-Stall.ensures.step c.in-Stall.ensures.others in
+    (Stall, plays, record { code_is = refl; size_is = refl; bytes_are = refl })

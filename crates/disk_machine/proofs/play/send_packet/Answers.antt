@@ -4,22 +4,16 @@ use Rattle.disk_machine.proofs.Rooms.{taken}
 use Rattle.disk_machine.proofs.play.send_packet.Goals as goal
 
 pub returns-in-Nak : goal.returns-in-Nak
-returns-in-Nak c = (
-  Nak,
-  taken _ _ _ c.foresee.ensures c.bulk_in.follows.holds-at-none c.in-Nak.ensures.answer,
-  record { code_is = refl; size_is = refl; bytes_are = refl },
-)
+returns-in-Nak c =
+    let plays = taken _ _ _ c.foresee.ensures c.bulk_in.follows.holds-at-none c.in-Nak.ensures.answer in
+    (Nak, plays, record { code_is = refl; size_is = refl; bytes_are = refl })
 
 pub returns-in-Stall : goal.returns-in-Stall
-returns-in-Stall c = (
-  Stall,
-  taken _ _ _ c.foresee.ensures c.bulk_in.follows.holds-at-none c.in-Stall.ensures.answer,
-  record { code_is = refl; size_is = refl; bytes_are = refl },
-)
+returns-in-Stall c =
+    let plays = taken _ _ _ c.foresee.ensures c.bulk_in.follows.holds-at-none c.in-Stall.ensures.answer in
+    (Stall, plays, record { code_is = refl; size_is = refl; bytes_are = refl })
 
 pub returns-in-Data : goal.returns-in-Data
-returns-in-Data c = (
-  Data (record { items = c.in-Data.packet.now }),
-  taken _ _ _ c.foresee.ensures c.bulk_in.follows.holds-at-none c.in-Data.ensures.answer,
-  record { code_is = refl; size_is = refl; bytes_are = cc },
-)
+returns-in-Data c =
+    let plays = taken _ _ _ c.foresee.ensures c.bulk_in.follows.holds-at-none c.in-Data.ensures.answer in
+    (Data (record { items = c.in-Data.packet.now }), plays, record { code_is = refl; size_is = refl; bytes_are = cc })

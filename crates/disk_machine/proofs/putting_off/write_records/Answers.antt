@@ -1,6 +1,6 @@
 use Rattle.std.proofs.Common.{suc, add-one}
 use Rattle.disk_machine.specs.PuttingOff.{MayGoOn}
-use Rattle.disk_machine.specs.Steps.{StepsWhile}
+use Rattle.disk_machine.specs.Plays.{StepsWhile}
 use Rattle.disk_machine.proofs.putting_off.write_records.Goals as goal
 
 pub loop-made-preserved : goal.loop-made-preserved

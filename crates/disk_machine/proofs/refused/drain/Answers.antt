@@ -2,7 +2,7 @@ use Rattle.std.proofs.Common.{arith, ap, refl, length}
 use Rattle.window.specs.Window.{Window}
 use Rattle.store_calls.proofs.OutboxTaken as taking
 use Rattle.disk_machine.specs.Plays.{medium_of}
-use Rattle.disk_machine.proofs.OutboxTaken.{none_yet, one_more}
+use Rattle.disk_machine.proofs.Handing.{none_yet, one_more}
 use Rattle.disk_machine.proofs.refused.drain.Goals as goal
 
 pub loop-gone-init : goal.loop-gone-init

@@ -3,7 +3,7 @@ use Rattle.window.specs.OutboxMedium.{first_of}
 use Rattle.window.specs.Window.{Window}
 use Rattle.store_calls.proofs.OutboxTaken.{more}
 use Rattle.disk_machine.specs.Plays.{medium_of}
-use Rattle.disk_machine.proofs.OutboxTaken.{none_yet, one_more}
+use Rattle.disk_machine.proofs.Handing.{none_yet, one_more}
 use Rattle.disk_machine.proofs.run.gather.Goals as goal
 
 pub loop-at-init : goal.loop-at-init

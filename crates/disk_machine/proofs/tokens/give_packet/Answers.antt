@@ -16,4 +16,5 @@ returns-in-Stall c =
 pub returns-in-Data : goal.returns-in-Data
 returns-in-Data c =
     let plays = taken _ _ _ c.foresee.ensures c.bulk_in.follows.holds-at-none c.in-Data.ensures.answer in
-    ((Data (record { items = c.in-Data.packet.now }), plays, record { code_is = refl; size_is = refl; bytes_are = cc }), c.in-Data.ensures.fits)
+    let packet = c.in-Data.packet.now in
+    ((Data (record { items = packet }), plays, record { code_is = refl; size_is = refl; bytes_are = cc }), c.in-Data.ensures.fits)

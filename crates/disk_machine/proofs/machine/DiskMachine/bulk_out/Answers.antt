@@ -1,7 +1,7 @@
-use Rattle.std.proofs.Common.{◌≡◌, ◌∙◌, inl, inr, refl, sym, arith}
+use Rattle.std.proofs.Common.{◌≡◌, ◌≤◌, length, ◌∙◌, inl, inr, refl, sym, arith}
 use Rattle.std.proofs.lemmas.Bool.{false≢true}
 use Rattle.disk_machine.specs.Packets.{HoldsBack}
-use Rattle.disk_machine.specs.PuttingOff.{IsPromise}
+use Rattle.disk_machine.specs.PuttingOff.{IsPromise, PutsOff}
 use Rattle.disk_machine.proofs.Playing.{out_serves}
 use Rattle.disk_machine.proofs.Handing.{reading_safe}
 use Rattle.disk_machine.proofs.machine.DiskMachine.bulk_out.Goals as goal
@@ -26,47 +26,27 @@ play-code-requires-clause-told c =
 
 pub returns-in-None : goal.returns-in-None
 returns-in-None c =
+    let fits : length c.args.packet.now ≤ c.args.self.now.disk.line.packet_size = omega arith in
     let is = same (goal.at.returns-in-None c).Else-put_off in
-    let ready = (c.put_off.ensures.ready c.if-put_off.false).0 in
-    record {
-      one = inr (
-        omega arith,
-        inr (
-          free (goal.at.returns-in-None c).Else-holds_back,
-          inr (inl (rw is at c.in-None.ensures, out_serves _ _ _ _ ready (rw is at c.play-code.ensures) c.rest.ensures.serves)),
-        ),
-      );
-    }
+    let lacks = rw is at c.in-None.ensures in
+    let serves = out_serves _ _ _ _ (c.put_off.ensures.ready c.if-put_off.false).0 (rw is at c.play-code.ensures) c.rest.ensures.serves in
+    record { one = inr (fits, inr (free (goal.at.returns-in-None c).Else-holds_back, inr (inl (lacks, serves)))) }
 
 pub returns-in-Some : goal.returns-in-Some
 returns-in-Some c =
     let is = same (goal.at.returns-in-Some c).Else-put_off in
-    let home = c.in-Some.home in
-    record {
-      one = inr (
-        omega arith,
-        inr (
-          free (goal.at.returns-in-Some c).Else-holds_back,
-          inl (home, rw is at c.in-Some.ensures, refl, rw is refl, rw is (reading_safe c.args.self.now _)),
-        ),
-      );
-    }
+    let lacks = rw is at c.in-Some.ensures in
+    let free = free (goal.at.returns-in-Some c).Else-holds_back in
+    record { one = inr (omega arith, inr (free, inl (c.in-Some.home, lacks, refl, rw is refl, rw is (reading_safe c.args.self.now _)))) }
 
 pub returns-then-put_off : goal.returns-then-put_off
 returns-then-put_off c =
     let off = c.put_off.ensures.put_off c.if-put_off.true in
-    record {
-      one = inr (
-        omega arith,
-        inr (
-          free (goal.at.returns-then-put_off c).Else-holds_back,
-          inr (inr (record {
-            promises = c.promises-promises.result;
-            told = told (goal.at.returns-then-put_off c).After-promises-promises;
-            loud = off.0;
-            code_is = refl;
-            waits = off.1;
-          })),
-        ),
-      );
-    }
+    let puts : PutsOff c.args.self.now c.args.packet.now c.put_off.new.self 1 = record {
+      promises = c.promises-promises.result;
+      told = told (goal.at.returns-then-put_off c).After-promises-promises;
+      loud = off.0;
+      code_is = refl;
+      waits = off.1;
+    } in
+    record { one = inr (omega arith, inr (free (goal.at.returns-then-put_off c).Else-holds_back, inr (inr puts))) }

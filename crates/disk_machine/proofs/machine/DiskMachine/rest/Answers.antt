@@ -1,7 +1,6 @@
 -- A device that has carried out all.
 use Rattle.std.proofs.Common.{◌≡◌, ◌≤◌, inl, true, length, arith, ap, length-append}
 use Rattle.std.specs.Prelude.{List}
-use Rattle.medium.specs.Medium.{Image}
 use Rattle.medium.specs.Moments.{EachCut}
 use Rattle.window.specs.OutboxMedium.{sent}
 use Rattle.window.specs.declared.call.DeviceCall.{DeviceCall}
@@ -12,28 +11,26 @@ use Rattle.scsi_unit.specs.Books.{MayFind}
 use Rattle.bot_machine.specs.Disk.{FitsDisk}
 use Rattle.disk_machine.specs.Parts.{CoversParts}
 use Rattle.disk_machine.specs.Plays.{medium_of}
-use Rattle.disk_machine.specs.Machine.{Machine, MayLeave, Keeps, IsCaughtUp}
+use Rattle.disk_machine.specs.Machine.{Machine, Keeps, IsCaughtUp}
 use Rattle.disk_machine.specs.Moves.{ServesAtRest, BeginsBehind}
 use Rattle.disk_machine.proofs.machine.DiskMachine.rest.Goals as goal
 
 module _ (s : Machine) (parts : (new : Window) → ComesAfter (medium_of s.disk) new → CoversParts (medium_of s.disk) new)
     (at_rest : (book : Book) → FitsDisk (state_of (medium_of s.disk)) s.disk book → book.ours ≡ true
     → EachCut (MayFind (state_of (medium_of s.disk)).size book) (state_of (medium_of s.disk))) where
-  -- it was sent no more than it has carried out
-  no_more : IsCaughtUp s → (image : Image) → (left : MayLeave s image) → length (sent (mirror_of (medium_of s.disk))) ≤ left.count
-  no_more up image left = omega (
-    arith,
-    left.reaches,
-    up.none_under_way,
-    length-append (medium_of s.disk).seen.told.taken (medium_of s.disk).outbox,
-    ap (λ (l : List DeviceCall). length l) up.none_waits,
-  )
-
   keeps_all : IsCaughtUp s → (book : Book) → FitsDisk (state_of (medium_of s.disk)) s.disk book → Keeps s book.mark book
   keeps_all up book fits ours image left =
       let m = medium_of s.disk in
+      -- it was sent no more than it has carried out
+      let no_more : length (sent (mirror_of m)) ≤ left.count = omega (
+        arith,
+        left.reaches,
+        up.none_under_way,
+        length-append m.seen.told.taken m.outbox,
+        ap (λ (l : List DeviceCall). length l) up.none_waits,
+      ) in
       inl (at_rest book fits ours image ((is_sound m).only_now image
-      (parts m (comes_after_itself m) left.count left.done image (no_more up image left) left.are left.cut)))
+      (parts m (comes_after_itself m) left.count left.done image no_more left.are left.cut)))
 
   serves_at_rest : ServesAtRest s
   serves_at_rest up book fits = record {
