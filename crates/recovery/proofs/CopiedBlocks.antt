@@ -17,8 +17,8 @@ use Rattle.journal.specs.Record.{Entry, numbers_of, with_records, home_of, block
 use Rattle.journal.specs.Reading.{data_at, IsRead, IsReadFor}
 use Rattle.journal.specs.Naming.{IsKnown, Learns, naming_place}
 use Rattle.journal.proofs.Wholeness.{with_blocks-copied, with_records-append}
-use Rattle.recovery.specs.Calls.{IsHomeInRecords, freed_at, copy_calls, calls_of, AreCopied}
-use Rattle.recovery.specs.Copying.{CopyView, HoldsCopied, IsNextRecord, HasRead, HasWritten, IsRefusedStep}
+use Rattle.recovery.specs.Calls.{IsHomeOf, IsHomeInRecords, freed_at, copy_calls, calls_of, AreCopied}
+use Rattle.recovery.specs.Copying.{CopyView, HasHome, HoldsCopied, IsNextRecord, HasRead, HasWritten, IsRefusedStep}
 use Rattle.recovery.specs.Copying.{IsTakenOrPassed}
 use Rattle.recovery.specs.declared.copy_step.CopyStep.{CopyStep}
 use Rattle.recovery.proofs.JoinedCalls.{not_in_log, number_of, long_as}
@@ -33,6 +33,11 @@ copy_calls-append format (r ∷ records) entries = grind (arith, copy_calls-appe
 calls_made : (format : LogFormat) (shape : Shape) (image : Image) (stamp : ℕ) (read : Record) (n reads : ℕ)
     → IsReadFor format shape image stamp (Some read) reads → length read.numbers.items ≡ n → reads + 2 * n ≡ calls_of format n
 calls_made format shape image stamp read n reads is long = grind arith
+
+module _ {M : Type 0} {state : M → State} {reader : RecordReader} {step : CopyStep} {had : List ℕ} {view : CopyView M} {m : M} where
+  -- so many records are home, and so many sectors were read of the next
+  with_home : (home reads : ℕ) → HasHome state reader step had view home reads m → HoldsCopied state reader step had view m
+  with_home home reads at = record { home = home; reads = reads; at = at }
 
 module _ {M : Type 0} {state : M → State} {reader : RecordReader} {step : CopyStep} {had : List ℕ} {view : CopyView M} {m : M}
     (held : HoldsCopied state reader step had view m) where
@@ -51,11 +56,7 @@ module _ {M : Type 0} {state : M → State} {reader : RecordReader} {step : Copy
   pub unread : {bytes got : List ℕ} {n : M} {place : ℕ} {e : MediumFault} {next : RecordReader} {after : CopyStep}
       → Performed (Read place) bytes got (Err e) (state m) (state n) → IsRefusedStep reader step next after
       → HoldsCopied state next after got view n
-  unread performed gone = rw gone.reader_stays (record {
-    home = held.home;
-    reads = held.reads;
-    at = grind (arith, performed, held.at);
-  })
+  unread performed gone = rw gone.reader_stays (with_home held.home held.reads (grind (arith, performed, held.at)))
 
   -- the sector that names blocks was read
   module _ {bytes got : List ℕ} {n : M} {place : ℕ}
@@ -72,11 +73,7 @@ module _ {M : Type 0} {state : M → State} {reader : RecordReader} {step : Copy
 
       pub took : {next : RecordReader} {after : CopyStep} → step.i ≡ 0 → step.has_bytes ≡ false
           → IsTakenOrPassed reader step got next after → HoldsCopied state next after got view n
-      took first no_bytes (inl taken) = rw taken.step_stays (record {
-        home = held.home;
-        reads = held.reads + 1;
-        at = grind (arith, performed, held.at, taken, learned taken.learns);
-      })
+      took first no_bytes (inl taken) = rw taken.step_stays (with_home held.home (held.reads + 1) (grind (arith, performed, held.at, taken, learned taken.learns)))
       took first no_bytes (inr passed) =
           -- the record is whole
           let inside : held.home < length view.records = omega (arith, held.at.left_is, due) in
@@ -85,11 +82,7 @@ module _ {M : Type 0} {state : M → State} {reader : RecordReader} {step : Copy
     -- the bytes of a block were read
     pub block_read : {next : RecordReader} {after : CopyStep} → place ≡ data_at (shape_of reader.sizes) reader.stamp step.i
         → step.has_bytes ≡ false → HasRead reader step next after → HoldsCopied state next after got view n
-    block_read is no_bytes has = rw has.reader_stays (record {
-      home = held.home;
-      reads = held.reads;
-      at = grind (arith, performed, held.at, read_of_log);
-    })
+    block_read is no_bytes has = rw has.reader_stays (with_home held.home held.reads (grind (arith, performed, held.at, read_of_log)))
 
   -- ---- a write
   module _ (due : 0 < step.left) (named : reader.stage ≡ Named) (below : step.i < length reader.read.numbers.items) where
@@ -125,15 +118,10 @@ module _ {M : Type 0} {state : M → State} {reader : RecordReader} {step : Copy
       here = rw held.at.sizes_are is
 
       at_home : IsHomeInRecords (shape_of view.sizes) (state view.start).content view.head (length view.records) place
-      at_home = (
-        held.home,
-        inside,
-        (
-          entries,
-          held.at.whole held.home inside,
-          (step.i, omega (arith, below, long, long_as entries (numbers_of entries) refl), rw (← is_read.numbers_are) here),
-        ),
-      )
+      at_home =
+          let at : IsHomeOf shape (numbers_of entries) place =
+          (step.i, omega (arith, below, long, long_as entries (numbers_of entries) refl), rw (← is_read.numbers_are) here) in
+          (held.home, inside, (entries, held.at.whole held.home inside, at))
 
       copied_before : (k : ℕ) → k < step.i → (state n).content (first_home (shape_of view.sizes) + get_or reader.read.numbers.items k 0)
           ≡ block_of (get_or view.records held.home []) k
@@ -158,11 +146,7 @@ module _ {M : Type 0} {state : M → State} {reader : RecordReader} {step : Copy
     unwritten {next = next} {after = after} is performed gone =
         let same = gone.reader_stays in
         let failed = performed.passes.failures_are in
-        rw same (record {
-          home = held.home;
-          reads = held.reads;
-          at = grind (arith, held.at.whole, held.at.known, copied_before is performed, elsewhere is performed, within is performed);
-        })
+        rw same (with_home held.home held.reads (grind (arith, held.at.whole, held.at.known, copied_before is performed, elsewhere is performed, within is performed)))
 
     -- it is written, and there is one more, or none
     module _ {bytes got : List ℕ} {n : M} {place : ℕ}
@@ -191,11 +175,7 @@ module _ {M : Type 0} {state : M → State} {reader : RecordReader} {step : Copy
       pub block_written : {next : RecordReader} {after : CopyStep} → HasWritten reader step next after
           → HoldsCopied state next after got view n
       block_written {next = next} {after = after} has =
-          rw has.reader_stays (record {
-            home = held.home;
-            reads = held.reads;
-            at = grind (arith, performed, held.at, copied_on, others_on, elsewhere is performed, within is performed);
-          })
+          rw has.reader_stays (with_home held.home held.reads (grind (arith, performed, held.at, copied_on, others_on, elsewhere is performed, within is performed)))
 
       pub record_written : {next : RecordReader} {after : CopyStep} → length reader.read.numbers.items ≤ step.i + 1
           → IsNextRecord reader step next after → HoldsCopied state next after got view n
@@ -222,11 +202,7 @@ module _ {M : Type 0} {state : M → State} {reader : RecordReader} {step : Copy
             all,
             copy_calls-append view.sizes.format (take held.home view.records) entries,
           )) in
-          record {
-            home = held.home + 1;
-            reads = 0;
-            at = grind (arith, held.at.whole, goes.unread.knows start, copied, calls, elsewhere is performed, within is performed);
-          }
+          with_home (held.home + 1) 0 (grind (arith, held.at.whole, goes.unread.knows start, copied, calls, elsewhere is performed, within is performed))
 
 -- what holds of each stamp holds of each of a list
 pub gathered : (P : ℕ → List Entry → Type 0) (count : ℕ) → ((j : ℕ) → j < count → (entries : List Entry) × P j entries)
@@ -247,7 +223,7 @@ pub not_copied : {M : Type 0} {state : M → State} (reader : RecordReader) (ste
     → ((k : ℕ) → k < length view.records → IsWhole (shape_of view.sizes) (state view.start).content (view.head + k)
     (get_or view.records k [])) → HoldsCopied state reader step had view view.start
 not_copied {state = state} reader step had view sizes stamp left first no_bytes known whole =
-    record { home = 0; reads = 0; at = grind (arith, known (state view.start).content, whole) }
+    with_home 0 0 (grind (arith, known (state view.start).content, whole))
 
 -- behind the last one
 pub all_copied : {M : Type 0} {state : M → State} {reader : RecordReader} {step : CopyStep} {had : List ℕ} {view : CopyView M} {m : M}

@@ -48,9 +48,6 @@ module _ {K : Image → Type 0} {old new : State} {bytes got : List ℕ} where
 pub flush_only : {old new : State} {bytes got : List ℕ} → Performed Flush bytes got (Ok tt) old new → IsFlushed new
 flush_only performed s c left = performed.done.1 s c left ∙ sym (performed.done.0 s)
 
-more_or_here : {few many : ℕ} → few ≤ many → (few + 1 ≤ many) ⊎ (many ≡ few)
-more_or_here le = grind arith
-
 module _ {plan : ImagePlan} {under : Under} {before image : Image} where
   -- one sector more has zeros
   pub blank_on : {at : ℕ} → at < plan.end → IsBlank plan under at before → Holds at (replicate 512 0) before image

@@ -27,7 +27,7 @@ use Rattle.journal.proofs.Wholeness.{IsWhole-one, IsWhole-same, slot_inside, Car
 use Rattle.journal.proofs.Engine.{rests_found, none_carried}
 use Rattle.journal.proofs.SectorNumbers.{IsHead-one}
 use Rattle.recovery.specs.Calls.{IsHomeOf, IsHomeInRecords, LooksAtLog, Writes, cleared_at, WithOrWithout, IsBetween}
-use Rattle.recovery.specs.Calls.{IsNoneOrNew, ImageLeaves, IsMade, IsWritten, IsNoneOrWritten, WritesImage, ReadsNothing}
+use Rattle.recovery.specs.Calls.{IsNoneOrNew, IsMidway, ImageLeaves, IsMade, IsWritten, IsNoneOrWritten, WritesImage, ReadsNothing}
 use Rattle.recovery.specs.Recovered.{IsFresh, HasNoneWaiting}
 
 -- what a cut may leave in one sector an image has there that it may leave
@@ -225,12 +225,15 @@ image_made {shape = shape} {end = end} {old = old} {new = new} {result = result}
     let new_or_none : (image : Image) → IsNoneOrWritten shape end old.content image → IsNoneOrNew old.size shape array image =
     λ image either. ⊎_elim inl (λ is. inr (ours _ image fits is)) either in (
       on_ok_weaker result (λ done. search (rules, ours new.size new.content (omega (arith, fits, size)) done.0)) wrote.done,
-      record {
-        cuts = weaker _ _ _ _ (λ image either. ⊎_elim inl (λ is. inr (new_or_none image is)) either) wrote.writes.moments;
-        after_flush = λ more image since. new_or_none image (wrote.after_flush more image since);
-        spares = wrote.writes.spares;
-        looked_stays = wrote.writes.reads.looked_stays;
-      },
+      grind (
+        arith,
+        weaker _ (IsMidway shape array old) _ _ (λ image either. ⊎_elim inl (λ is. inr (new_or_none image is)) either)
+            wrote.writes.moments,
+        new_or_none,
+        wrote.after_flush,
+        wrote.writes.spares,
+        wrote.writes.reads,
+      ),
     )
 
 -- the last one was refused, where it did not come to its end

@@ -15,7 +15,7 @@ use Rattle.medium.proofs.SectorsRead.{no_looks, looks_joined}
 use Rattle.medium.proofs.Driving.{not_driven, driven_call, driven_refused}
 use Rattle.medium.proofs.Tallies.{calls_most, none_made}
 use Rattle.journal.specs.declared.super_sector.Super.{Super}
-use Rattle.journal.specs.Places.{sectors_of}
+use Rattle.journal.specs.Places.{Shape, sectors_of}
 use Rattle.journal.specs.Formats.{shape_of}
 use Rattle.journal.specs.Standing.{HasShape}
 use Rattle.journal.specs.Reading.{MakesReadsAlone}
@@ -23,7 +23,7 @@ use Rattle.journal.proofs.SectorNumbers.{IsSuper-one}
 use Rattle.recovery.specs.Calls.{HoldsLog}
 use Rattle.recovery.specs.Causes.{SurveysAtMost, IsRefusalBy, IsSuperCause, AreCounts, AreTries, IsLookCause}
 use Rattle.recovery.specs.Surveying.{HoldsSurveyed, IsSurveyStep}
-use Rattle.recovery.specs.Starting.{IsReadFirst, FindsSuper, FindsHead, IsNewSurvey, CanStart, CanLook}
+use Rattle.recovery.specs.Starting.{IsReadFirst, FindsSuper, FindsHead, IsNewSurvey, CanStart, CanLook, IsStarting}
 use Rattle.recovery.specs.HoldsStart.{HoldsLook, HasLooked, HasReadFirst, HasFound, HasBegun, IsSurveyedSoFar, TellsSurvey}
 use Rattle.recovery.specs.declared.surveying.Surveying.{Surveying}
 use Rattle.recovery.specs.declared.start_fault.StartFault.{StartFault}
@@ -99,6 +99,13 @@ module _ {M : Type 0} (state : M → State) (sound : (m : M) → IsSound (state 
   look_begun size goes = grind (arith, unread (state mid), quiet_start (state mid))
 
   module _ {m n : M} {had bytes got : List ℕ} where
+    -- a call was made, and so much is known then
+    looked : {at next : StartStage} {call : Call} → HoldsLook state least at had mid m → IsStarting at
+        → Performed call bytes got (Ok tt) (state m) (state n) → SurveysAtMost (state mid) (state n) → HasLooked state least next got mid n
+        → HoldsLook state least next got mid n
+    looked held live performed reads midway =
+        record { reads = reads; well = λ on. performed.passes.failures_are ∙ held.well live; midway = midway }
+
     -- a read was refused
     pub look_refused : {at : StartStage} {call : Call} {e : MediumFault} → HoldsLook state least at had mid m
         → Performed call bytes got (Err e) (state m) (state n) → fault_of call ≡ medium.Read → SurveysAtMost (state mid) (state n)
@@ -138,44 +145,25 @@ module _ {M : Type 0} (state : M → State) (sound : (m : M) → IsSound (state 
           let has = held.midway.has in
           let seen = head_seen performed in
           let same : got ≡ (state mid).content 1 = performed.done ∙ held.midway.read.quiet.content_stays 1 in
-          let refused = λ (f : StartFault) (cause : HasLooked state least (stage.Refused f) got mid n).
-          let is : HoldsLook state least (stage.Refused f) got mid n =
-          record { reads = head_read performed; well = λ live. absurd live; midway = cause } in is in
-          ⊎_elim (λ none. rw none.1 (refused fault.BadHead
-          (((shape_of sizes, has, λ stamp is. none.0 stamp (rw same is)), seen.quiet), λ e. cc e)))
-          (λ found. ⊎_elim (λ small. rw small.1 (refused fault.LogTooSmall (
-            (
-              record {
-                shape = shape_of sizes;
-                has = has;
-                head = found.0;
-                head_is = rw same at found.1;
-                one = small.0.0;
-                few = small.0.1;
-              },
-              seen.quiet,
-            ),
-            λ e. cc e,
-          )))
-          (λ goes. rw goes.3 (record {
-            reads = head_read performed;
-            well = λ live. performed.passes.failures_are ∙ held.well tt;
-            midway = (
-              record {
-                sizes = sizes;
-                began = n;
-                found = record { read = seen; has = has };
-                head_is = rw same at found.1;
-                room = λ few.
-                    let one = IsSuper-one few.shape (shape_of sizes) ((state mid).content 0) few.has.super has.super in
-                    goes.0 (rw one at few.one, rw one at few.few);
-                first = goes.1;
-                first_had = got;
-                new = goes.2;
-              },
-              not_driven (λ s had m view holds image cut x. holds.quiet.sets_shrink x (image x) (cut x)) goes.1 got n (sound n),
-            );
-          })) found.2) finds
+          let one = λ (other : Shape) (its : HasShape (state mid).size other (state mid).content).
+          IsSuper-one other (shape_of sizes) ((state mid).content 0) its.super has.super in
+          looked held tt performed (head_read performed) (⊎_elim
+          (λ none. rw none.1 (((shape_of sizes, has, λ stamp is. none.0 stamp (rw same is)), seen.quiet), λ e. cc e))
+          (λ found. let head = rw same at found.1 in ⊎_elim
+          (λ small. rw small.1 ((search (rules, has, head, small.0), seen.quiet), λ e. cc e))
+          (λ goes. rw goes.3 (
+            record {
+              sizes = sizes;
+              began = n;
+              found = record { read = seen; has = has };
+              head_is = head;
+              room = λ few. let is = one few.shape few.has in goes.0 (rw is at few.one, rw is at few.few);
+              first = goes.1;
+              first_had = got;
+              new = goes.2;
+            },
+            not_driven (λ s had m view holds image cut x. holds.quiet.sets_shrink x (image x) (cut x)) goes.1 got n (sound n),
+          )) found.2) finds)
 
   module _ {head : ℕ} {survey : Surveying} {had : List ℕ} {m : M} (held : HoldsLook state least (stage.Survey head survey) had mid m) where
     abbrev at : HasBegun state least head mid

@@ -31,58 +31,35 @@ module _ (least : ℕ) where
   pub reads_leave : {old mid now : State} → IsFlushedFirst old mid → SurveysAtMost mid now → LeavesAtLeast least old now
   reads_leave f reads = survey_leaves least (surveyed_by f reads)
 
-  -- what the flush leaves, made or refused
-  pub flush_leaves_all : {old new : State} {bytes got : List ℕ} {result : Result (Unit {0}) MediumFault} → IsSound old → IsSound new
-      → Performed Flush bytes got result old new → LeavesAtLeast least old new
-  flush_leaves_all {new = new} {result = result} sound after performed = survey_leaves least {mid = new} {result = result}
-      (grind (arith, sound, after, performed.passes, performed.changes, performed.adds, unread new))
-
   -- the image has this fault, or the medium refused a call
   pub ended_by : {old new : State} (fault : StartFault) → LeavesAtLeast least old new → IsRefusalBy least WritesNothing old new fault
       → EndsStart least old new (Err fault)
   ended_by fault leaves cause = grind arith
 
-  module _ {M : Type 0} (state : M → State) where
-    -- a refused call ends it
-    pub refused_start : {start m n : M} {had got bytes : List ℕ} {at : StartStage} {call : Call} {e : MediumFault}
-        → HoldsStart state least at had start m → Performed call bytes got (Err e) (state m) (state n)
-        → LeavesAtLeast least (state start) (state n)
-        → HoldsStart state least (stage.Refused (start_fault_of (fault_of call))) got start n
-    refused_start {call = call} held performed leaves =
-        let moments = held.leaves.moments in
-        grind (arith, leaves, moments.refused_stay (fault_of call), performed.passes.failures_are, performed.passes.refused_are)
-
-    -- a fault of the image ends it
-    pub faulted_start : {start n : M} {got : List ℕ} (fault : StartFault) → LeavesAtLeast least (state start) (state n)
-        → IsRefusalBy least WritesNothing (state start) (state n) fault
-        → HoldsStart state least (stage.Refused fault) got start n
-    faulted_start fault leaves cause = grind (arith, ended_by fault leaves cause)
+-- what a start leaves behind a call, and what is so before the next one
+abbrev pub Goes : {M : Type 0} → (M → State) → ℕ → StartStage → List ℕ → M → M → Type 0
+Goes state least at had start m = LeavesAtLeast least (state start) (state m) × IsMidstart state least at had start m
 
 module _ {M : Type 0} (state : M → State) (least : ℕ) {start mid n : M} {got : List ℕ}
     (flushed : IsFlushedFirst (state start) (state mid)) where
-  looking : {at : StartStage} → HoldsLook state least at got mid n → (state n).failures ≡ (state mid).failures
-      → IsMidstart state least at got start n → HoldsStart state least at got start n
-  looking held well midway = grind (arith, reads_leave least flushed held.reads, midway, flushed.passes.failures_are)
-
   -- it looks behind a good flush
-  pub looked_start : (at : StartStage) → HoldsLook state least at got mid n → HoldsStart state least at got start n
-  looked_start (stage.Refused fault) held = faulted_start least state fault (reads_leave least flushed held.reads)
-      (refusal least (surveyed_by flushed held.reads) fault held.midway.0)
-  looked_start at held = grind (arith, looking held, held, flushed)
+  pub looked_start : (at : StartStage) → HoldsLook state least at got mid n → Goes state least at got start n
+  looked_start (stage.Refused fault) held =
+      let leaves = reads_leave least flushed held.reads in
+      (leaves, ended_by least fault leaves (refusal least (surveyed_by flushed held.reads) fault held.midway.0))
+  looked_start at held = grind (arith, reads_leave least flushed held.reads, held, flushed)
 
-module _ {M : Type 0} (state : M → State) (sound : (m : M) → IsSound (state m)) (least : ℕ) {start m n : M} {had bytes got : List ℕ} where
-  -- the first flush
-  pub flushed_first : {result : Result (Unit {0}) MediumFault} (held : HoldsStart state least stage.FlushFirst had start m)
-      → Performed Flush bytes got result (state m) (state n) → LeavesAtLeast least (state start) (state n)
-  flushed_first held performed = rw held.midway at (flush_leaves_all least (sound m) (sound n) performed)
+module _ {M : Type 0} (state : M → State) (sound : (m : M) → IsSound (state m)) (least : ℕ) {m n : M} {bytes got : List ℕ} where
+  -- the first flush, made or refused
+  pub flushed_first : {result : Result (Unit {0}) MediumFault} → Performed Flush bytes got result (state m) (state n)
+      → LeavesAtLeast least (state m) (state n)
+  flushed_first {result} performed = survey_leaves least {mid = state n} {result = result}
+      (grind (arith, sound m, sound n, performed.passes, performed.changes, performed.adds, unread (state n)))
 
-  pub first_made : {sectors : ℕ} {next : StartStage} → sectors ≡ (state m).size → HoldsStart state least stage.FlushFirst had start m
-      → Performed Flush bytes got (Ok tt) (state m) (state n) → IsReadFirst sectors next
-      → HoldsStart state least next got start n
-  first_made {sectors} {next} size held performed goes =
-      let performed : Performed Flush bytes got (Ok tt) (state start) (state n) = rw held.midway at performed in
-      let size : sectors ≡ (state start).size = rw held.midway at size in
-      looked_start state least (grind (arith, sound start, sound n, performed.passes, performed.changes, performed.adds, performed.done.1))
+  pub first_made : {sectors : ℕ} {next : StartStage} → sectors ≡ (state m).size → Performed Flush bytes got (Ok tt) (state m) (state n)
+      → IsReadFirst sectors next → Goes state least next got m n
+  first_made {next = next} size performed goes =
+      looked_start state least (grind (arith, sound m, sound n, performed.passes, performed.changes, performed.adds, performed.done.1))
       next (look_begun state sound least (omega (arith, size, performed.passes.size_stays)) goes)
 
 -- where it is, and what it knows there
@@ -98,7 +75,7 @@ module _ {M : Type 0} (state : M → State) (machine : Starting) {here : StartPo
       → fault_of call ≡ start_kind (at_point machine here)
       → ((m n start : M) (got : List ℕ) (least : ℕ) (next : StartStage) → machine.sectors ≡ (state m).size
       → HoldsStart state least (at_point machine here) had start m → Performed call bytes got (Ok tt) (state m) (state n)
-      → IsStartStep machine.sectors least (at_point machine here) got next → HoldsStart state least next got start n)
+      → IsStartStep machine.sectors least (at_point machine here) got next → Goes state least next got start n)
       → ((m n start : M) (got : List ℕ) (least : ℕ) (e : MediumFault) → HoldsStart state least (at_point machine here) had start m
       → Performed call bytes got (Err e) (state m) (state n) → LeavesAtLeast least (state start) (state n))
       → (rest : Tally) → start_left (at_point machine here) ≡ one_more rest (fault_of call)
@@ -114,15 +91,16 @@ module _ {M : Type 0} (state : M → State) (machine : Starting) {here : StartPo
     due = rw is live;
     within = within;
     looks = looks;
-    made = λ m n got view next fits held performed after. (
-      after.1 ∙ held.0,
-      made m n view.start got view.least (stage_of next) fits (rw is at held.1) performed (rw (is, held.0) at after.2),
-    );
+    made = λ m n got view next fits held performed after.
+        let h = rw is at held.1 in
+        let goes = made m n view.start got view.least (stage_of next) fits h performed (rw (is, held.0) at after.2) in
+        (after.1 ∙ held.0, record { leaves = goes.0; well = λ on. performed.passes.failures_are ∙ h.well live; midway = goes.1 });
     refused = λ m n got view next e fits held performed gone.
-        let h = rw is at held.1 in (
+        let h = rw is at held.1 in
+        let moments = h.leaves.moments in
+        let all = leaves m n view.start got view.least e h performed in (
           gone.1 ∙ held.0,
-          rw (gone.2, is, ← kind)
-              (refused_start view.least state h performed (leaves m n view.start got view.least e h performed)),
+          rw (gone.2, is, ← kind) (grind (arith, all, moments.refused_stay (fault_of call), performed.passes)),
         );
     rest = rest;
     pays = rw is pays;

@@ -24,7 +24,7 @@ use Rattle.recovery.proofs.JoinedCalls.{quiet_after}
 use Rattle.recovery.proofs.CopiedBlocks.{gathered, not_copied, all_copied}
 use Rattle.recovery.proofs.Tallies.{most_copies, most_writes}
 use Rattle.recovery.proofs.JoinedCalls.{refused_call}
-use Rattle.recovery.proofs.StartBegins.{surveyed_by, reads_leave, faulted_start, looked_start}
+use Rattle.recovery.proofs.StartBegins.{surveyed_by, reads_leave, ended_by, looked_start, Goes}
 use Rattle.recovery.proofs.WholeRecovery.{copies_leave, refusal}
 use Rattle.recovery.proofs.Looks.{counted_at_end}
 use Rattle.journal.proofs.StandingLaws.{count_stands}
@@ -90,21 +90,11 @@ module _ {M : Type 0} (state : M → State) (sound : (m : M) → IsSound (state 
 
   -- records are copied, or all are home
   pub copied_on : {copying : Copying} {had : List ℕ} {n : M} {next : StartStage} → IsCopying state least found copying had start n
-      → (state n).failures ≡ (state start).failures → IsCopiedOn found copying next → HoldsStart state least next had start n
-  copied_on at well goes =
-      let leaves = copies_leave_so_far at.0.surveyed at.0.new at.1 in
-      ⊎_elim (λ some. rw some.1 (record { leaves = leaves; well = λ live. well; midway = at }))
-      (λ none. rw none.1 (record { leaves = leaves; well = λ live. well; midway = all_home at.0.surveyed at.0.new at.1 none.0 })) goes
-
-  -- the copying begins
-  pub copy_begun : {copying : Copying} {got : List ℕ} {n : M} {next : StartStage} → HasSurveyed state least found start n
-      → (state n).failures ≡ (state start).failures → IsNewCopying found copying → IsCopiedOn found copying next
-      → HoldsStart state least next got start n
-  copy_begun {copying = copying} {got = got} {n = n} surveyed well new goes =
-      copied_on (
-        record { seen = n; surveyed = surveyed; sound = sound n; first = copying; first_had = got; new = new },
-        not_driven (λ s had m view holds image cut x. holds.at.within x (image x) (cut x)) copying got n (sound n),
-      ) well goes
+      → IsCopiedOn found copying next → Goes state least next had start n
+  copied_on at goes = (
+    copies_leave_so_far at.0.surveyed at.0.new at.1,
+    ⊎_elim (λ some. rw some.1 at) (λ none. rw none.1 (all_home at.0.surveyed at.0.new at.1 none.0)) goes,
+  )
 
   module _ {copying : Copying} {had bytes : List ℕ} {m : M} {call : Call}
       (at : IsCopying state least found copying had start m) (tells : TellsCopy state copying had call bytes) where
@@ -112,10 +102,9 @@ module _ {M : Type 0} (state : M → State) (sound : (m : M) → IsSound (state 
     fits_first = rw at.0.new.sizes_are (fits_seen at.0.surveyed)
 
     -- a call of it is made
-    pub copy_made : {n : M} {got : List ℕ} {after : Copying} {next : StartStage} → (state m).failures ≡ (state start).failures
-        → Performed call bytes got (Ok tt) (state m) (state n) → IsCopyStep copying.reader copying.step got after.reader after.step
-        → IsCopiedOn found after next → HoldsStart state least next got start n
-    copy_made {after = after} well performed step goes =
+    pub copy_made : {n : M} {got : List ℕ} {after : Copying} {next : StartStage} → Performed call bytes got (Ok tt) (state m) (state n)
+        → IsCopyStep copying.reader copying.step got after.reader after.step → IsCopiedOn found after next → Goes state least next got start n
+    copy_made {after = after} performed step goes =
         copied_on (
           at.0,
           driven_call (λ s had m view holds image cut x. holds.at.within x (image x) (cut x)) fits_first at.1 tells performed
@@ -124,7 +113,7 @@ module _ {M : Type 0} (state : M → State) (sound : (m : M) → IsSound (state 
                 ends_stay = rw moved.sizes_stay refl;
                 fits_still = λ size fits. rw moved.sizes_stay fits;
               }),
-        ) (performed.passes.failures_are ∙ well) goes
+        ) goes
 
     -- or refused
     pub copy_refused : {n : M} {got : List ℕ} {e : MediumFault} → Performed call bytes got (Err e) (state m) (state n)
@@ -155,17 +144,21 @@ module _ {M : Type 0} (state : M → State) (sound : (m : M) → IsSound (state 
 
   -- none is
   survey_used_up : survey.left ≡ 0 → 2 ^ 63 ≤ head + length survey.waiting.items + 1
-      → HoldsStart state least (stage.Refused fault.StampsUsedUp) got start n
+      → Goes state least (stage.Refused fault.StampsUsedUp) got start n
   survey_used_up none used =
       let has = at.found.has in
       let stood = count_stands (state mid).size (shape_of at.sizes) (state mid).content head (length survey.waiting.items) has.fits
       has.super at.head_is (counted_at_end state sound least held none).1.is in
-      faulted_start least state fault.StampsUsedUp (reads_leave least flushed held.reads)
-      (refusal least (surveyed_by flushed held.reads) fault.StampsUsedUp
-      (at.room, (shape_of at.sizes, stood.array, _, stood.stands, used), held.reads.only.quiet))
+      let leaves = reads_leave least flushed held.reads in (
+        leaves,
+        ended_by least fault.StampsUsedUp leaves (refusal least (surveyed_by flushed held.reads) fault.StampsUsedUp
+            (at.room, (shape_of at.sizes, stood.array, _, stood.stands, used), held.reads.only.quiet)),
+      )
 
-  -- the survey goes on, or it came to its end
-  pub survey_on : {next : StartStage} → IsSurveyedOn head survey next → HoldsStart state least next got start n
+  -- the survey goes on, or it came to its end: then the copying begins
+  pub survey_on : {next : StartStage} → IsSurveyedOn head survey next → Goes state least next got start n
   survey_on goes = ⊎_elim (λ some. rw some.1 (looked_start state least flushed (stage.Survey head survey) held))
-      (λ none. ⊎_elim (λ used. rw used.1 (survey_used_up none.0 used.0))
-      (λ on. copy_begun state sound least (survey_done none.0 on.0) (held.well tt ∙ flushed.passes.failures_are) on.2 on.3) none.1) goes
+      (λ none. ⊎_elim (λ used. rw used.1 (survey_used_up none.0 used.0)) (λ on. copied_on state sound least (
+        record { seen = n; surveyed = survey_done none.0 on.0; sound = sound n; first = on.1; first_had = got; new = on.2 },
+        not_driven (λ s had m view holds image cut x. holds.at.within x (image x) (cut x)) on.1 got n (sound n),
+      ) on.3) none.1) goes

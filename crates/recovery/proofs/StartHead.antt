@@ -15,7 +15,7 @@ use Rattle.recovery.specs.HoldsStart.{HoldsStart, HasCopied, IsMovingHead, IsFlu
 use Rattle.recovery.specs.declared.found.Found.{Found}
 use Rattle.recovery.specs.Stages as stage
 use Rattle.recovery.proofs.JoinedCalls.{flush_writes, writes_on, none_waits}
-use Rattle.recovery.proofs.StartBegins.{surveyed_by}
+use Rattle.recovery.proofs.StartBegins.{surveyed_by, Goes}
 use Rattle.recovery.proofs.WholeRecovery.{moves_leave, recovery_done}
 
 -- what a cut leaves while the head is moved
@@ -51,79 +51,72 @@ module _ {M : Type 0} (state : M → State) (sound : (m : M) → IsSound (state 
   moved_leave few has moves = moves_leave least (surveyed_by has.surveyed.flushed has.surveyed.reads) has.surveyed.is has.sound has.copies
       has.done few moves
 
-  module _ {m n : M} {bytes got : List ℕ} {result : Result (Unit {0}) MediumFault} where
-    pub copies_flush_leaves : {had : List ℕ} → HoldsStart state least (stage.FlushCopies found) had start m
-        → Performed Flush bytes got result (state m) (state n) → LeavesAtLeast least (state start) (state n)
-    copies_flush_leaves held performed = moved_leave (omega arith) held.midway (copies_flushed found (sound m) performed)
+  -- one call more
+  moved_on : {m n : M} {count : ℕ} {Now : Found → State → State → Type 0} {result : Result (Unit {0}) MediumFault}
+      (at : IsMovingHead state least count Now found start m)
+      → (EachCut (Moved found (state at.copied)) (state m) → Writes (Moved found (state at.copied)) 2 1 (state m) (state n) result)
+      → (state n).calls ≡ (state m).calls + 1
+      → Writes {X = Unit {0}} (Moved found (state at.copied)) 2 (count + 1) (state at.copied) (state n) (Ok tt)
+  moved_on {m} {result = result} at last one =
+      let each = at_exit (Moved found (state at.copied)) (state at.copied) (state m) (sound m) at.moves.moments in
+      writes_on {X = Unit {0}} {Y = Unit {0}} {Z = Unit {0}} {one = Ok tt} {two = result} {result = Ok tt} at.moves (last each)
+      (omega arith) tt (omega (arith, at.moves.exact, one))
 
-    -- the head is written
-    head_written : (at : IsMovingHead state least 1 IsFlushedAgain found start m)
-        → IsHead (found.head + found.count + 1) bytes → Performed (Write 1) bytes got result (state m) (state n)
-        → Writes {X = Unit {0}} (Moved found (state at.copied)) 2 2 (state at.copied) (state n) (Ok tt)
-    head_written at head performed =
-        let each = at_exit (Moved found (state at.copied)) (state at.copied) (state m) (sound m) at.moves.moments in
-        let last = as_made (head_writes found (state at.copied) (sound m) at.now each head performed) performed.passes.calls_are in
-        writes_on {X = Unit {0}} {Y = Unit {0}} {Z = Unit {0}} {one = Ok tt} {two = Ok tt} {result = Ok tt} at.moves last (omega arith) tt
-        (omega (arith, at.moves.exact, last.exact))
+  module _ {m n : M} {bytes got : List ℕ} where
+    module _ {result : Result (Unit {0}) MediumFault} where
+      pub copies_flush_leaves : HasCopied state least found start m → Performed Flush bytes got result (state m) (state n)
+          → LeavesAtLeast least (state start) (state n)
+      copies_flush_leaves has performed = moved_leave (omega arith) has (copies_flushed found (sound m) performed)
 
-    pub head_write_leaves : {had : List ℕ} → HoldsStart state least (stage.WriteHead found) had start m
-        → IsHead (found.head + found.count + 1) bytes → Performed (Write 1) bytes got result (state m) (state n)
-        → LeavesAtLeast least (state start) (state n)
-    head_write_leaves held head performed =
-        moved_leave (omega arith) held.midway.has (head_written held.midway head performed)
+      -- the head is written
+      head_written : (at : IsMovingHead state least 1 IsFlushedAgain found start m)
+          → IsHead (found.head + found.count + 1) bytes → Performed (Write 1) bytes got result (state m) (state n)
+          → Writes {X = Unit {0}} (Moved found (state at.copied)) 2 2 (state at.copied) (state n) (Ok tt)
+      head_written at head performed =
+          moved_on at (λ each. head_writes found (state at.copied) (sound m) at.now each head performed) performed.passes.calls_are
 
-    -- and flushed
-    head_flushed : (at : IsMovingHead state least 2 HasMovedHead found start m) → Performed Flush bytes got result (state m) (state n)
-        → Writes {X = Unit {0}} (Moved found (state at.copied)) 2 3 (state at.copied) (state n) (Ok tt)
-    head_flushed at performed =
-        let each = at_exit (Moved found (state at.copied)) (state at.copied) (state m) (sound m) at.moves.moments in
-        let last = as_made (flush_writes (sound m) performed.passes performed.changes performed.adds each) performed.passes.calls_are in
-        writes_on {X = Unit {0}} {Y = Unit {0}} {Z = Unit {0}} {one = Ok tt} {two = Ok tt} {result = Ok tt} at.moves last (omega arith) tt
-        (omega (arith, at.moves.exact, last.exact))
+      pub head_write_leaves : IsMovingHead state least 1 IsFlushedAgain found start m → IsHead (found.head + found.count + 1) bytes
+          → Performed (Write 1) bytes got result (state m) (state n) → LeavesAtLeast least (state start) (state n)
+      head_write_leaves at head performed = moved_leave (omega arith) at.has (head_written at head performed)
 
-    pub head_flush_leaves : {had : List ℕ} → HoldsStart state least (stage.FlushHead found) had start m
-        → Performed Flush bytes got result (state m) (state n) → LeavesAtLeast least (state start) (state n)
-    head_flush_leaves held performed = moved_leave (omega arith) held.midway.has (head_flushed held.midway performed)
+      -- and flushed
+      head_flushed : (at : IsMovingHead state least 2 HasMovedHead found start m) → Performed Flush bytes got result (state m) (state n)
+          → Writes {X = Unit {0}} (Moved found (state at.copied)) 2 3 (state at.copied) (state n) (Ok tt)
+      head_flushed at performed = moved_on at
+          (λ each. flush_writes (sound m) performed.passes performed.changes performed.adds each) performed.passes.calls_are
 
-  module _ {m n : M} {had bytes got : List ℕ} where
-    pub copies_flush_made : HoldsStart state least (stage.FlushCopies found) had start m
-        → Performed Flush bytes got (Ok tt) (state m) (state n) → HoldsStart state least (stage.WriteHead found) got start n
-    copies_flush_made held performed = record {
-      leaves = copies_flush_leaves held performed;
-      well = λ live. performed.passes.failures_are ∙ held.well tt;
-      midway = record { copied = m; has = held.midway; moves = copies_flushed found (sound m) performed; now = performed.done };
-    }
+      pub head_flush_leaves : IsMovingHead state least 2 HasMovedHead found start m
+          → Performed Flush bytes got result (state m) (state n) → LeavesAtLeast least (state start) (state n)
+      head_flush_leaves at performed = moved_leave (omega arith) at.has (head_flushed at performed)
 
-    pub head_write_made : HoldsStart state least (stage.WriteHead found) had start m → IsHead (found.head + found.count + 1) bytes
-        → Performed (Write 1) bytes got (Ok tt) (state m) (state n) → HoldsStart state least (stage.FlushHead found) got start n
-    head_write_made held head performed =
-        let at = held.midway in
-        record {
-          leaves = head_write_leaves held head performed;
-          well = λ live. performed.passes.failures_are ∙ held.well tt;
-          midway = record {
-            copied = at.copied;
-            has = at.has;
-            moves = head_written at head performed;
-            now = grind (arith, performed.done, head, at.now);
-          };
-        }
+    pub copies_flush_made : HasCopied state least found start m → Performed Flush bytes got (Ok tt) (state m) (state n)
+        → Goes state least (stage.WriteHead found) got start n
+    copies_flush_made has performed = (
+      copies_flush_leaves has performed,
+      record { copied = m; has = has; moves = copies_flushed found (sound m) performed; now = performed.done },
+    )
 
-    pub head_flush_made : HoldsStart state least (stage.FlushHead found) had start m
-        → Performed Flush bytes got (Ok tt) (state m) (state n)
-        → HoldsStart state least (stage.Started (answer_of found)) got start n
-    head_flush_made held performed =
-        let at = held.midway in
+    pub head_write_made : IsMovingHead state least 1 IsFlushedAgain found start m → IsHead (found.head + found.count + 1) bytes
+        → Performed (Write 1) bytes got (Ok tt) (state m) (state n) → Goes state least (stage.FlushHead found) got start n
+    head_write_made at head performed = (
+      head_write_leaves at head performed,
+      record {
+        copied = at.copied;
+        has = at.has;
+        moves = head_written at head performed;
+        now = grind (arith, performed.done, head, at.now);
+      },
+    )
+
+    pub head_flush_made : IsMovingHead state least 2 HasMovedHead found start m → Performed Flush bytes got (Ok tt) (state m) (state n)
+        → Goes state least (stage.Started (answer_of found)) got start n
+    head_flush_made at performed =
         let has = at.has in
         let stays = performed.done.0 in
-        let leaves = head_flush_leaves held performed in
+        let leaves = head_flush_leaves at performed in
         let both = recovery_done least (surveyed_by has.surveyed.flushed has.surveyed.reads) has.surveyed.is has.sound has.copies has.done
         (state n) (grind (arith, stays, at.now)) (λ s c left. performed.done.1 s c left ∙ sym (stays s))
         (head_flushed at performed).exact in
         let clean = λ (shape : _) (array : _) (next : ℕ) (ours : IsOurs (state start).size shape (state start).content array next).
         none_waits (both.2 shape array next ours (state n).content (sound n).holds_content) in
-        record {
-          leaves = leaves;
-          well = λ live. absurd live;
-          midway = search (rules, both, leaves, clean);
-        }
+        (leaves, search (rules, both, leaves, clean))

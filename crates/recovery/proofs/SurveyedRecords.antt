@@ -1,5 +1,5 @@
 -- Records are tried, call by call.
-use Rattle.std.proofs.Common.{◌≡◌, ◌<◌, ◌≤◌, ◌+◌, ◌++◌, ◌∷◌, ℕ, List, [], length, inl, inr, ◌∙◌, sym, refl}
+use Rattle.std.proofs.Common.{◌≡◌, ◌<◌, ◌≤◌, ◌+◌, ◌*◌, ◌%◌, ◌++◌, ◌∷◌, ℕ, List, [], length, inl, inr, ◌∙◌, sym, refl}
 use Rattle.std.proofs.Common.{arith, Ok, Err, Result, Some, below_more, min, subst}
 use Rattle.std.proofs.lemmas.List.{length-append}
 use Rattle.medium.specs.Medium.{State, Image}
@@ -13,18 +13,30 @@ use Rattle.journal.specs.declared.record.Record.{Record}
 use Rattle.journal.specs.declared.reader.RecordReader.{RecordReader}
 use Rattle.journal.specs.declared.naming_stage.NamingStage.{NamingStage}
 use Rattle.journal.specs.declared.naming_stage.NamingStage.TheVariants.{Named}
-use Rattle.journal.specs.Places.{Shape, first_home}
+use Rattle.journal.specs.Places.{Shape, first_home, first_data_of, limit_of}
+use Rattle.journal.specs.declared.super_sector.Super.{Super}
 use Rattle.journal.specs.Layout.{slot_at}
 use Rattle.journal.specs.Format2.{format2}
-use Rattle.journal.specs.Formats.{shape_of, HasWhole}
-use Rattle.journal.specs.Reading.{HasPlace, HasPlaces, ReadsUpToBad}
+use Rattle.journal.specs.Formats.{shape_of, layout_of, HasWhole}
+use Rattle.journal.specs.Reading.{HasPlace, HasPlaces, ReadsUpToBad, data_at}
 use Rattle.journal.specs.Naming.{IsKnown, IsFound, Learns, naming_place}
-use Rattle.journal.proofs.SectorsRead.{stamped_whole}
+use Rattle.journal.proofs.SectorsRead.{stamped_whole, place_before}
+use Rattle.std.proofs.lemmas.Nat.{mod_below}
 use Rattle.recovery.specs.Causes.{IsTryOf, HasCount, AreTries}
 use Rattle.recovery.specs.Surveying.{SurveyView, HoldsSurveyed, IsTrying, IsCounted}
 use Rattle.recovery.specs.Surveying.{TakesName, TakesPlace, IsRefusedSurvey}
 use Rattle.recovery.proofs.JoinedCalls.{long_as}
 use Rattle.recovery.proofs.Tries.{try_missed, try_read, each_pushed, tries_more, no_tries}
+
+-- a data place is in the log
+pub data_place : (sizes : Super) (stamp i : ℕ) {slot place : ℕ} → slot ≡ stamp % sizes.slots
+    → place ≡ 2 + (layout_of sizes.format).slot_sectors * slot + first_data_of sizes.format + i → i < limit_of sizes.format
+    → (place ≡ data_at (shape_of sizes) stamp i) × (place < first_home (shape_of sizes))
+data_place sizes stamp i slot_is is few =
+    let is = rw slot_is at is in
+    let low = place_before sizes.format sizes.slots sizes.home (stamp % sizes.slots) i sizes.home_is
+    (mod_below stamp sizes.slots sizes.some_slots) few in
+    (is, omega (arith, is, low))
 
 module _ {M : Type 0} {state : M → State} {reader : RecordReader} {left place : ℕ} {waiting : List ℕ} {view : SurveyView M} {m : M}
     (held : HoldsSurveyed state reader left place waiting view m) (due : 0 < left) where

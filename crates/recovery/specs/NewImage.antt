@@ -1,7 +1,7 @@
 -- What a new image and a medium hold while it is written, and while sectors are cleared.
 use Rattle.std.specs.Prelude.{◌≡◌, ◌≢◌, ◌⊎◌, ℕ, ◌+◌, ◌-◌, ◌≤◌, ◌<◌, false}
 use Rattle.std.specs.Prelude.{if◌then◌else◌, replicate, List, [], ◌∷◌}
-use Rattle.std.proofs.Common.{inl, inr}
+use Rattle.std.proofs.Common.{arith}
 use Rattle.medium.specs.Medium.{State, Image, CutLeaves, Holds, Stays, Within}
 use Rattle.medium.specs.Moments.{EachCut, IsFlushed}
 use Rattle.medium.specs.Tally.{Tally, none, of_all}
@@ -98,14 +98,7 @@ module _ (plan : ImagePlan) (under : Under) where
   -- that is one of these
   pub each_midway : (at : ImageStage) (old : State) (image : Image) → MidwayImage at old image
       → MayBeImage old image
-  each_midway stage.Wipe old image is = inl (inl is)
-  each_midway stage.FlushWipe old image is = inl is
-  each_midway (stage.Zeros at flush) old image is = inr (inl is)
-  each_midway stage.FlushHead old image is = inr (inl is)
-  each_midway stage.Super old image is = inr (inl is.1)
-  each_midway stage.FlushSuper old image is = inr is
-  each_midway stage.Made old image is = inr (inr is)
-  each_midway stage.Refused old image is = is
+  each_midway at old image is = grind arith
 
 -- the calls that are left: zeros and a flush, zeros, perhaps a flush, the head and a flush, the
 -- super and a flush
@@ -117,8 +110,7 @@ image_left (stage.Zeros at flush) end =
 image_left stage.FlushHead end = record { reads = 0; writes = 1; flushes = 2 }
 image_left stage.Super end = record { reads = 0; writes = 1; flushes = 1 }
 image_left stage.FlushSuper end = record { reads = 0; writes = 0; flushes = 1 }
-image_left stage.Made end = none
-image_left stage.Refused end = none
+image_left at end = none
 
 -- in their order
 abbrev pub calls_ahead : ImageStage → ℕ → List Call
@@ -128,19 +120,12 @@ calls_ahead (stage.Zeros at flush) end = zeros_and_head at flush end
 calls_ahead stage.FlushHead end = Flush ∷ Write 0 ∷ Flush ∷ []
 calls_ahead stage.Super end = Write 0 ∷ Flush ∷ []
 calls_ahead stage.FlushSuper end = Flush ∷ []
-calls_ahead stage.Made end = []
-calls_ahead stage.Refused end = []
+calls_ahead at end = []
 
 -- no call was refused
 abbrev pub IsLive : ImageStage → Type 0
-IsLive stage.Wipe = Unit {0}
-IsLive stage.FlushWipe = Unit {0}
-IsLive (stage.Zeros at flush) = Unit {0}
-IsLive stage.FlushHead = Unit {0}
-IsLive stage.Super = Unit {0}
-IsLive stage.FlushSuper = Unit {0}
-IsLive stage.Made = Unit {0}
 IsLive stage.Refused = ⊥
+IsLive at = Unit {0}
 
 -- the call is made
 abbrev pub IsAfter : ImageStage → ℕ → ImageStage → Type 0
@@ -151,8 +136,7 @@ IsAfter (stage.Zeros at flush) end next = (at < end → next ≡ stage.Zeros (at
 IsAfter stage.FlushHead end next = next ≡ stage.Super
 IsAfter stage.Super end next = next ≡ stage.FlushSuper
 IsAfter stage.FlushSuper end next = next ≡ stage.Made
-IsAfter stage.Made end next = ⊥
-IsAfter stage.Refused end next = ⊥
+IsAfter at end next = ⊥
 
 -- what the two hold
 pub record HoldsImage {M : Type 0} (state : M → State) (at : ImageStage) (plan : ImagePlan)

@@ -103,8 +103,7 @@ start_left (stage.Copy found copying) = both (copies_left copying.reader copying
 start_left (stage.FlushCopies found) = head_calls
 start_left (stage.WriteHead found) = record { reads = 0; writes = 1; flushes = 1 }
 start_left (stage.FlushHead found) = record { reads = 0; writes = 0; flushes = 1 }
-start_left (stage.Started answer) = none
-start_left (stage.Refused fault) = none
+start_left at = none
 
 -- ---- what the machine holds, whatever it read, on a medium of so many sectors
 
@@ -217,8 +216,7 @@ answer_of found = record { sizes = found.sizes; next = found.head + found.count 
 
 -- the next call was made, which left these bytes in the lent sector
 abbrev pub IsStartStep : ℕ → ℕ → StartStage → List ℕ → StartStage → Type 0
-IsStartStep sectors least stage.FlushFirst got next =
-    IsReadFirst sectors next
+IsStartStep sectors least stage.FlushFirst got next = IsReadFirst sectors next
 IsStartStep sectors least stage.ReadSuper got next = FindsSuper sectors got next
 IsStartStep sectors least (stage.ReadHead sizes) got next = FindsHead least sizes got next
 IsStartStep sectors least (stage.Survey head survey) got next = (after : Surveying)
@@ -231,8 +229,7 @@ IsStartStep sectors least (stage.FlushCopies found) got next = next ≡ stage.Wr
 IsStartStep sectors least (stage.WriteHead found) got next = next ≡ stage.FlushHead found
 IsStartStep sectors least (stage.FlushHead found) got next =
     next ≡ stage.Started (answer_of found)
-IsStartStep sectors least (stage.Started answer) got next = ⊥
-IsStartStep sectors least (stage.Refused fault) got next = ⊥
+IsStartStep sectors least at got next = ⊥
 
 -- the kind of the next call
 abbrev pub start_kind : StartStage → MediumFault

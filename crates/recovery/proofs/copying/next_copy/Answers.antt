@@ -1,14 +1,12 @@
-use Rattle.std.proofs.Common.{◌≡◌, ◌<◌, ◌≤◌, ◌+◌, ◌*◌, ◌%◌, ◌++◌, ℕ, [], length, drop, get_or, ap, refl, ◌∙◌, arith}
+use Rattle.std.proofs.Common.{◌≡◌, ◌<◌, ◌≤◌, ◌+◌, ◌++◌, [], length, drop, get_or, refl, arith}
 use Rattle.std.proofs.Common.{true, false, ⊎_elim, Bool}
-use Rattle.std.proofs.lemmas.Nat.{mod_below}
 use Rattle.journal.specs.declared.naming_stage.NamingStage.TheVariants.{Named}
-use Rattle.journal.specs.Places.{first_home, first_data_of, limit_of}
-use Rattle.journal.specs.Formats.{layout_of, shape_of}
-use Rattle.journal.specs.Reading.{data_at}
-use Rattle.journal.proofs.SectorsRead.{place_before}
+use Rattle.journal.specs.Places.{first_home, limit_of}
+use Rattle.journal.specs.Formats.{shape_of}
 use Rattle.journal.specs.declared.reader.RecordReader.{RecordReader}
 use Rattle.recovery.specs.declared.copy_step.CopyStep.{CopyStep}
 use Rattle.recovery.specs.Copying.{IsBlockStep}
+use Rattle.recovery.proofs.SurveyedRecords.{data_place}
 use Rattle.recovery.proofs.CopiedBlocks.{unread, took, block_read, unwritten, block_written, record_written}
 use Rattle.recovery.proofs.Tallies.{read_pays, write_pays, naming_due, naming_left, block_due, block_left, home_due, home_left}
 use Rattle.recovery.proofs.copying.next_copy.Goals as goal
@@ -46,18 +44,13 @@ returns-then-not-step-clause-told g c =
     let below = c.requires.named named in
     let inside : length reader.read.numbers.items ≤ limit_of reader.sizes.format = (reader.reads.named named).few in
     let no_bytes : step.has_bytes ≡ false = c.if-not-step.true in
-    let is : c.copy_place.result ≡ data_at (shape_of reader.sizes) reader.stamp step.i = c.copy_place.ensures
-    ∙ ap (λ (k : ℕ). 2 + (layout_of reader.sizes.format).slot_sectors * k + first_data_of reader.sizes.format + step.i)
-    c.slot_of-slot.ensures in
-    let low = place_before reader.sizes.format reader.sizes.slots reader.sizes.home (reader.stamp % reader.sizes.slots) step.i
-    reader.sizes.home_is (mod_below reader.stamp reader.sizes.slots reader.sizes.some_slots) (omega (arith, below, inside)) in
-    let lies : c.copy_place.result < first_home (shape_of reader.sizes) = omega (arith, is, low) in
+    let lies = data_place reader.sizes reader.stamp step.i c.slot_of-slot.ensures c.copy_place.ensures (omega (arith, below, inside)) in
     record {
       due = due;
-      within = omega (arith, lies);
-      looks = lies;
+      within = omega (arith, lies.1);
+      looks = lies.1;
       made = λ m n got view next fits held performed after.
-          block_read held performed due lies is no_bytes (stepped reader step next.reader next.step no_bytes (after.copying named));
+          block_read held performed due lies.1 lies.0 no_bytes (stepped reader step next.reader next.step no_bytes (after.copying named));
       refused = λ m n got view next e fits held performed gone. unread held performed gone;
       rest = _;
       pays = read_pays _ (block_due reader step due named below no_bytes);

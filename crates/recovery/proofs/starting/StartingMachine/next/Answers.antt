@@ -23,8 +23,9 @@ returns-in-FlushFirst g c =
     let S = g.M.Medium.state in
     let sound = g.met.M.Medium.sound in
     told S c.args.self.now c.in-FlushFirst.is tt tt tt refl
-    (λ m n start got least next fits held performed after. first_made S sound least fits held performed after)
-    (λ m n start got least e held performed. flushed_first S sound least held performed)
+    (λ m n start got least next fits held performed after.
+    rw (← held.midway) (first_made S sound least fits performed after))
+    (λ m n start got least e held performed. rw (← held.midway) (flushed_first S sound least performed))
     (all_calls 2 Two 64) refl (λ got next after. first_left after)
 
 pub returns-in-ReadSuper : goal.returns-in-ReadSuper
@@ -85,7 +86,7 @@ returns-in-Copy g c =
     told S s c.in-Copy.is tt (grind (arith, fits_here, tells.within))
     (grind (arith, fits_here, tells.looks)) both_tell.1
     (λ m n start got least next fits held performed after.
-    copy_made S sound least held.midway tells (held.well tt) performed after.1 after.2)
+    copy_made S sound least held.midway tells performed after.1 after.2)
     (λ m n start got least e held performed. copy_refused S sound least held.midway tells performed)
     (both tells.rest head_calls)
     (ap (λ (t : Tally). both t head_calls) tells.pays ∙ both_more tells.rest head_calls (fault_of call))
@@ -98,8 +99,8 @@ returns-in-FlushCopies g c =
     let S = g.M.Medium.state in
     let sound = g.met.M.Medium.sound in
     told S c.args.self.now c.in-FlushCopies.is tt tt tt refl
-    (λ m n start got least next fits held performed after. rw after (copies_flush_made S sound least held performed))
-    (λ m n start got least e held performed. copies_flush_leaves S sound least held performed)
+    (λ m n start got least next fits held performed after. rw after (copies_flush_made S sound least held.midway performed))
+    (λ m n start got least e held performed. copies_flush_leaves S sound least held.midway performed)
     (record { reads = 0; writes = 1; flushes = 1 }) refl
     (λ got next after. rw after (few_left (omega arith) (omega arith) (omega arith)))
 
@@ -112,8 +113,8 @@ returns-in-WriteHead g c =
     let found = c.in-WriteHead.found in
     let some : 1 < s.sectors = omega (arith, (s.goes.move found c.in-WriteHead.is).fits, found.sizes.home_is.0) in
     told S s c.in-WriteHead.is tt some tt refl
-    (λ m n start got least next fits held performed after. rw after (head_write_made S sound least held c.put_head.ensures performed))
-    (λ m n start got least e held performed. head_write_leaves S sound least held c.put_head.ensures performed)
+    (λ m n start got least next fits held performed after. rw after (head_write_made S sound least held.midway c.put_head.ensures performed))
+    (λ m n start got least e held performed. head_write_leaves S sound least held.midway c.put_head.ensures performed)
     (record { reads = 0; writes = 0; flushes = 1 }) refl
     (λ got next after. rw after (few_left (omega arith) (omega arith) (omega arith)))
 
@@ -123,6 +124,6 @@ returns-in-FlushHead g c =
     let S = g.M.Medium.state in
     let sound = g.met.M.Medium.sound in
     told S c.args.self.now c.in-FlushHead.is tt tt tt refl
-    (λ m n start got least next fits held performed after. rw after (head_flush_made S sound least held performed))
-    (λ m n start got least e held performed. head_flush_leaves S sound least held performed)
+    (λ m n start got least next fits held performed after. rw after (head_flush_made S sound least held.midway performed))
+    (λ m n start got least e held performed. head_flush_leaves S sound least held.midway performed)
     none refl (λ got next after. rw after none_left_of)

@@ -1,15 +1,12 @@
-use Rattle.std.proofs.Common.{◌≡◌, ◌<◌, ◌≤◌, ◌+◌, ◌*◌, ◌%◌, ℕ, length, ap, ◌∙◌, arith}
-use Rattle.std.proofs.lemmas.Nat.{mod_below}
+use Rattle.std.proofs.Common.{◌≡◌, ◌<◌, ◌≤◌, ◌+◌, ℕ, length, arith}
 use Rattle.medium.specs.Medium.{State, IsSound}
 use Rattle.journal.specs.declared.naming_stage.NamingStage.TheVariants.{Named}
-use Rattle.journal.specs.Places.{first_home, first_data_of, sectors_of}
+use Rattle.journal.specs.Places.{first_home, sectors_of}
 use Rattle.journal.specs.Layout.{slot_at}
 use Rattle.journal.specs.Format2.{format2}
-use Rattle.journal.specs.Formats.{layout_of, shape_of}
-use Rattle.journal.specs.Reading.{data_at}
-use Rattle.journal.proofs.SectorsRead.{place_before}
+use Rattle.journal.specs.Formats.{shape_of}
 use Rattle.recovery.specs.Surveying.{HoldsSurveyed, SurveyView}
-use Rattle.recovery.proofs.SurveyedRecords.{untried, named_taken, place_taken}
+use Rattle.recovery.proofs.SurveyedRecords.{untried, named_taken, place_taken, data_place}
 use Rattle.recovery.proofs.Tallies.{read_pays, name_due, name_left, place_due, place_left}
 use Rattle.journal.specs.declared.reader.RecordReader.{RecordReader}
 use Rattle.recovery.proofs.surveying.SurveyingMachine.next.Goals as goal
@@ -54,17 +51,12 @@ returns g c =
     let two = s.goes.two due named in
     let below = s.goes.named due named in
     let few = (s.reader.reads.named named).few in
-    let is : c.copy_place.result ≡ data_at (shape_of r.sizes) r.stamp s.place = c.copy_place.ensures
-    ∙ ap (λ (k : ℕ). 2 + (layout_of r.sizes.format).slot_sectors * k + first_data_of r.sizes.format + s.place)
-    c.slot_of-slot.ensures in
-    let low = place_before r.sizes.format r.sizes.slots r.sizes.home (r.stamp % r.sizes.slots) s.place r.sizes.home_is
-    (mod_below r.stamp r.sizes.slots r.sizes.some_slots) (omega (arith, below, few)) in
-    let lies : c.copy_place.result < first_home (shape_of r.sizes) = omega (arith, is, low) in
-    let here : c.copy_place.result ≡ slot_at format2 (shape_of r.sizes) r.stamp + (8 + s.place) = omega (arith, rw two at is) in
+    let lies = data_place r.sizes r.stamp s.place c.slot_of-slot.ensures c.copy_place.ensures (omega (arith, below, few)) in
+    let here : c.copy_place.result ≡ slot_at format2 (shape_of r.sizes) r.stamp + (8 + s.place) = omega (arith, rw two at lies.0) in
     record {
       due = due;
-      within = omega (arith, lies);
-      looks = lies;
+      within = omega (arith, lies.1);
+      looks = lies.1;
       made = λ m n got view next fits held performed after.
           place_taken held due (all_sized held (g.met.M.Medium.sound m) fits) performed named two below here after.sizes_stay
           (after.placed named);
