@@ -1,6 +1,6 @@
 -- The calls that write a new image, and what each leaves of what was shown before it.
 use Rattle.std.proofs.Common.{◌≡◌, ◌≢◌, ◌<◌, ◌≤◌, ◌⊎◌, ◌+◌, ℕ, List, ◌∷◌, Ok, Err, OnOk, Result, refl, ◌∙◌, sym, ap, ⊎_elim}
-use Rattle.std.proofs.Common.{arith, replicate}
+use Rattle.std.proofs.Common.{arith, rules, replicate}
 use Rattle.medium.specs.Medium.{State, Image, Holds, IsSound, Passes}
 use Rattle.medium.specs.Moments.{EachCut, IsFlushed}
 use Rattle.medium.specs.Machine.{TellsCall, Driven, Tallied}
@@ -208,23 +208,21 @@ image_driven {first = first} {m = m} {result = result} P count since under drove
     counted may =
     let run = drove.runs
     (record { start = m; plan = first.plan; under = under; since = since; calls = calls_ahead first.stage first.plan.end })
-    (record {
-      plan_is = refl;
-      shows = shows;
-      flushed = λ e. absurd (begins e);
-      calls = λ still. omega (arith, counted, counts);
-      order = λ still k all. all;
-      after_flush = λ more. absurd (omega (arith, more, later));
-    }) in (
-      record {
-        moments = weaker _ P _ _ may run.0;
-        spares = drove.spares;
-        calls = omega (arith, calls_most drove.tallied, counts);
-        exact = on_ok_weaker result (λ end. omega (arith, calls_all end.1 tt refl, counts)) done;
-        sent = omega (arith, sends_most drove.tallied, no_read, counts);
-        reads = none_read drove.tallied no_read drove.looks;
-        cause = refused_call result drove.tallied;
-      },
+    (grind (arith, shows, begins, counted, counts, later)) in
+    let exact = on_ok_weaker result (λ end. calls_all end.1 tt refl) done in (
+      search (
+        rules,
+        arith,
+        weaker _ P _ _ may run.0,
+        drove.spares,
+        calls_most drove.tallied,
+        counts,
+        exact,
+        sends_most drove.tallied,
+        no_read,
+        none_read drove.tallied no_read drove.looks,
+        refused_call result drove.tallied,
+      ),
       on_ok_weaker result (λ is. (rw run.1.plan_is is.0, is.1, is.2))
           (image_ended result (on_ok_weaker result (λ on. (on.0.fits_still _ (fits, live)).1) drove.on)
           (on_ok_weaker result (λ end. end.0) done) run.1),

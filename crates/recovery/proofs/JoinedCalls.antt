@@ -111,12 +111,10 @@ copies_ours {shape = shape} {start = start} {array = array} {next = next} ours h
       whole = λ j below. whole _ _ (ours.stands.keeps.whole j below);
       blocks = λ b below. home b ∙ ours.stands.keeps.blocks b below;
     } in
+    let back = λ (es : List Entry). whole_same shape image start (ours.stands.head + length records) es super.some_slots super.home_is
+    (λ x below. sym (log x below)) in
     let ends_there = λ (less : length records < shape.slots) (w : HasWhole shape image (ours.stands.head + length records)).
-    ours.stands.ends less (
-      w.0,
-      whole_same shape image start _ w.0 super.some_slots super.home_is
-          (λ x below. sym (log x below)) w.1,
-    ) in
+    ours.stands.ends less (w.0, back w.0 w.1) in
     let carries = CarriesBelow-agree (layout_of shape.format) (laws_of shape.format) shape start image next
     (λ x low high. log x (omega (arith, ends))) ours.carries in
     search (rules, keeps, ours.stands.few, ends_there, ours.stands.next_is, ours.stands.fits, carries)
@@ -247,7 +245,4 @@ refused_call (Err e) t = let counts = refusal_counts (Err e) t in record { grew 
 pub none_read : {Exact : Type 0} {left rest : Tally} {old new : State} {result : Result (Unit {0}) MediumFault}
     → Tallied Exact left rest result old new
     → of_kind left Read ≡ 0 → LooksOnly (λ s. s < 0) old new → ReadsNothing old new
-none_read t none_left looks = record {
-  no_read = record { made_stays = none_made t Read none_left; refused_stays = none_refused t Read none_left };
-  looked_stays = nothing_looked _ _ looks;
-}
+none_read t none_left looks = grind (arith, none_made t Read none_left, none_refused t Read none_left, nothing_looked _ _ looks)

@@ -92,7 +92,7 @@ module _ {M : Type 0} (state : M → State) {first : Surveying} {had now_had : L
       let looks = looked_on (shape_of sizes) _ _ _ found.has found.read.looks (rw new.sizes_are at so_far.looks) in
       grind (arith, quiet, reads_alone so_far.tallied, found.read, one, looks, calls_most so_far.tallied, most, sizes.most_slots)
 
-module _ {M : Type 0} (state : M → State) (sound : (m : M) → IsSound (state m)) (least : ℕ) {mid : M} where
+module _ {M : Type 0} {state : M → State} (sound : (m : M) → IsSound (state m)) {least : ℕ} {mid : M} where
   -- it begins: there are sectors, or none
   pub look_begun : {sectors : ℕ} {next : StartStage} {got : List ℕ} → sectors ≡ (state mid).size → IsReadFirst sectors next
       → HoldsLook state least next got mid mid

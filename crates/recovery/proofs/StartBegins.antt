@@ -40,7 +40,7 @@ module _ (least : ℕ) where
 abbrev pub Goes : {M : Type 0} → (M → State) → ℕ → StartStage → List ℕ → M → M → Type 0
 Goes state least at had start m = LeavesAtLeast least (state start) (state m) × IsMidstart state least at had start m
 
-module _ {M : Type 0} (state : M → State) (least : ℕ) {start mid n : M} {got : List ℕ}
+module _ {M : Type 0} {state : M → State} {least : ℕ} {start mid n : M} {got : List ℕ}
     (flushed : IsFlushedFirst (state start) (state mid)) where
   -- it looks behind a good flush
   pub looked_start : (at : StartStage) → HoldsLook state least at got mid n → Goes state least at got start n
@@ -59,8 +59,8 @@ module _ {M : Type 0} (state : M → State) (sound : (m : M) → IsSound (state 
   pub first_made : {sectors : ℕ} {next : StartStage} → sectors ≡ (state m).size → Performed Flush bytes got (Ok tt) (state m) (state n)
       → IsReadFirst sectors next → Goes state least next got m n
   first_made {next = next} size performed goes =
-      looked_start state least (grind (arith, sound m, sound n, performed.passes, performed.changes, performed.adds, performed.done.1))
-      next (look_begun state sound least (omega (arith, size, performed.passes.size_stays)) goes)
+      looked_start (grind (arith, sound m, sound n, performed.passes, performed.changes, performed.adds, performed.done.1))
+      next (look_begun sound (omega (arith, size, performed.passes.size_stays)) goes)
 
 -- where it is, and what it knows there
 abbrev pub at_point : Starting → StartPoint → StartStage
@@ -69,7 +69,7 @@ at_point s here = stage_at here s.survey s.step
 abbrev pub stage_of : Starting → StartStage
 stage_of s = at_point s s.stage
 
-module _ {M : Type 0} (state : M → State) (machine : Starting) {here : StartPoint} {call : Call} {had bytes : List ℕ} where
+module _ {M : Type 0} {state : M → State} (machine : Starting) {here : StartPoint} {call : Call} {had bytes : List ℕ} where
   -- a start tells this call there
   pub told : machine.stage ≡ here → IsStarting (at_point machine here) → IsWithin machine.sectors call → ReadsBefore machine.sectors call
       → fault_of call ≡ start_kind (at_point machine here)
@@ -115,13 +115,6 @@ told_by found ends some is = grind (arith, ends, some)
 pub both_told : {X : Type 0} (A : Type 0) (B D : X → Type 0) (found : Option X) → MatchOption found A B → IfSome found D
     → MatchOption found A (λ x. B x × D x)
 both_told A B D found is kind = grind arith
-
--- a call is left of a start, or none; and so of a look
-pub ended_or_not : (at : StartStage) → (start_left at ≡ none) ⊎ IsStarting at
-ended_or_not at = grind arith
-
-pub looked_or_not : (at : StartStage) → (look_left at ≡ none) ⊎ IsStarting at
-looked_or_not at = grind arith
 
 -- it was driven to its end, or a call was refused, which ends it
 pub at_end : {Exact : Type 0} {cost left rest : Tally} {Live : Type 0} (A : Type 0) {old new : State}

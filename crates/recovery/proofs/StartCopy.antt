@@ -31,7 +31,7 @@ use Rattle.journal.proofs.StandingLaws.{count_stands}
 use Rattle.recovery.specs.declared.start_fault.StartFault.TheVariants as fault
 use Rattle.recovery.specs.Stages as stage
 
-module _ {M : Type 0} (state : M → State) (sound : (m : M) → IsSound (state m)) (least : ℕ) {start : M} {found : Found} where
+module _ {M : Type 0} {state : M → State} (sound : (m : M) → IsSound (state m)) {least : ℕ} {start : M} {found : Found} where
   module _ {seen : M} (surveyed : HasSurveyed state least found start seen) where
     whole_seen : (j : ℕ) → j < found.count → HasWhole (shape_of found.sizes) (state seen).content (found.head + j)
     whole_seen j below = quiet_after (λ n i. HasWhole (shape_of found.sizes) i (found.head + j)) (state surveyed.mid) (state seen)
@@ -63,14 +63,17 @@ module _ {M : Type 0} (state : M → State) (sound : (m : M) → IsSound (state 
           let run = rw all.1 at (ran all.0 (sym all.1) (λ k below. all.2 k (omega (arith, below, all.1)))) in
           let most = most_copies first.reader first.step new.sizes_are new.left_is in
           let writes = most_writes first.reader first.step new.sizes_are new.left_is in
-          record {
-            elsewhere = rw all.1 at run.1.at.elsewhere;
-            moments = run.0;
-            calls = omega (arith, calls_most so_far.tallied, most);
-            sent = omega (arith, sends_most so_far.tallied, writes);
-            looks = rw new.sizes_are at so_far.looks;
-            cause = refused_call result so_far.tallied;
-          }
+          grind (
+            arith,
+            rw all.1 at run.1.at.elsewhere,
+            run.0,
+            calls_most so_far.tallied,
+            most,
+            sends_most so_far.tallied,
+            writes,
+            rw new.sizes_are at so_far.looks,
+            refused_call result so_far.tallied,
+          )
 
       pub copies_leave_so_far : LeavesAtLeast least (state start) (state n)
       copies_leave_so_far =
@@ -124,7 +127,7 @@ module _ {M : Type 0} (state : M → State) (sound : (m : M) → IsSound (state 
         fits_first at.1 tells performed e refl gone
         (record { reader_stays = refl; left_stays = refl; i_stays = refl; no_bytes = refl }))
 
-module _ {M : Type 0} (state : M → State) (sound : (m : M) → IsSound (state m)) (least : ℕ) {start mid n : M} {head : ℕ}
+module _ {M : Type 0} {state : M → State} (sound : (m : M) → IsSound (state m)) {least : ℕ} {start mid n : M} {head : ℕ}
     {survey : Surveying} {got : List ℕ} (flushed : IsFlushedFirst (state start) (state mid))
     (held : HoldsLook state least (stage.Survey head survey) got mid n) where
   abbrev at : HasBegun state least head mid
@@ -134,7 +137,7 @@ module _ {M : Type 0} (state : M → State) (sound : (m : M) → IsSound (state 
   survey_done : survey.left ≡ 0 → head + length survey.waiting.items + 1 < 2 ^ 63
       → HasSurveyed state least (found_by head survey) start n
   survey_done none left =
-      let counted = counted_at_end state sound least held none in
+      let counted = counted_at_end sound held none in
       record {
         mid = mid;
         flushed = flushed;
@@ -148,7 +151,7 @@ module _ {M : Type 0} (state : M → State) (sound : (m : M) → IsSound (state 
   survey_used_up none used =
       let has = at.found.has in
       let stood = count_stands (state mid).size (shape_of at.sizes) (state mid).content head (length survey.waiting.items) has.fits
-      has.super at.head_is (counted_at_end state sound least held none).1.is in
+      has.super at.head_is (counted_at_end sound held none).1.is in
       let leaves = reads_leave least flushed held.reads in (
         leaves,
         ended_by least fault.StampsUsedUp leaves (refusal least (surveyed_by flushed held.reads) fault.StampsUsedUp
@@ -157,8 +160,8 @@ module _ {M : Type 0} (state : M → State) (sound : (m : M) → IsSound (state 
 
   -- the survey goes on, or it came to its end: then the copying begins
   pub survey_on : {next : StartStage} → IsSurveyedOn head survey next → Goes state least next got start n
-  survey_on goes = ⊎_elim (λ some. rw some.1 (looked_start state least flushed (stage.Survey head survey) held))
-      (λ none. ⊎_elim (λ used. rw used.1 (survey_used_up none.0 used.0)) (λ on. copied_on state sound least (
+  survey_on goes = ⊎_elim (λ some. rw some.1 (looked_start flushed (stage.Survey head survey) held))
+      (λ none. ⊎_elim (λ used. rw used.1 (survey_used_up none.0 used.0)) (λ on. copied_on sound (
         record { seen = n; surveyed = survey_done none.0 on.0; sound = sound n; first = on.1; first_had = got; new = on.2 },
         not_driven (λ s had m view holds image cut x. holds.at.within x (image x) (cut x)) on.1 got n (sound n),
       ) on.3) none.1) goes

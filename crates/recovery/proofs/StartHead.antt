@@ -43,7 +43,7 @@ copies_flushed : (found : Found) {old new : State} {bytes got : List ℕ} {resul
 copies_flushed found sound performed =
     as_made (flush_writes sound performed.passes performed.changes performed.adds (λ image cut. inl cut)) performed.passes.calls_are
 
-module _ {M : Type 0} (state : M → State) (sound : (m : M) → IsSound (state m)) (least : ℕ) {start : M} {found : Found} where
+module _ {M : Type 0} {state : M → State} (sound : (m : M) → IsSound (state m)) {least : ℕ} {start : M} {found : Found} where
   -- what so few calls behind the copies leave
   moved_leave : {copied n : M} {count : ℕ} → count ≤ 3 → HasCopied state least found start copied
       → Writes {X = Unit {0}} (Moved found (state copied)) 2 count (state copied) (state n) (Ok tt)

@@ -42,9 +42,6 @@ pub few_left : {left rest : Tally} → left.reads ≤ rest.reads → left.writes
     → IsLeft ⊥ left rest
 few_left reads writes flushes = grind arith
 
-pub none_left_of : {rest : Tally} → IsLeft ⊥ none rest
-none_left_of = few_left (omega arith) (omega arith) (omega arith)
-
 -- how many sectors that name blocks are left
 names_few : (shape : Shape) (at : NamingStage) (read : Record) → IsReader shape at read → IsReading at
     → (1 ≤ names_left at) × (names_left at ≤ record_reads_of shape.format)

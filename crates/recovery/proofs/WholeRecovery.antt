@@ -222,14 +222,14 @@ module _ (least : ℕ) {old mid seen : State} {result : Result (Unit {0}) Medium
     stood =
         count_stands old.size shape old.content found.head found.count at_old.shape.fits at_old.shape.super at_old.head at_old.count
 
+    -- a survey follows a good flush
+    begun : old.calls + 2 ≤ seen.calls
+    begun = let exact = survey.exact in grind (arith, exact, known.passes.calls_are)
+
     -- the head and the count are those of all for which they stand
     matches : {array : Array} {next : ℕ} (s : StandsFor old.size shape old.content array next)
         → (found.head ≡ s.head) × (found.count ≡ length s.records)
     matches s = (sym stood.head_is ∙ heads _ _ _ _ _ _ _ _ stood.stands s, sym stood.count_is ∙ counts _ _ _ _ _ _ _ _ stood.stands s)
-
-    -- a survey follows a good flush
-    begun : old.calls + 2 ≤ seen.calls
-    begun = let exact = survey.exact in grind (arith, exact, known.passes.calls_are)
 
     -- each sector is as it was, or is the home of a block that is copied
     copied_ours : {array : Array} {next : ℕ} → IsOurs old.size shape old.content array next
@@ -346,20 +346,12 @@ module _ (least : ℕ) {old mid seen : State} {result : Result (Unit {0}) Medium
             )
 
 -- a recovery is a part of a migration
-start_migrates : (format : LogFormat) (slots old new : ℕ) → new ≤ old + most_start_sends format slots
-    → new ≤ old + most_migration_sends format slots
-start_migrates format slots old new most = grind arith
-
--- also where no record waits
-clean_migrates : (format : LogFormat) (slots old new : ℕ)
-    → new ≤ old + (most_start_sends format slots - limit_of format * slots)
-    → new ≤ old + (most_migration_sends format slots - limit_of format * slots)
-clean_migrates format slots old new most = grind arith
+start_migrates : (format : LogFormat) (slots : ℕ) → most_start_sends format slots ≤ most_migration_sends format slots
+start_migrates format slots = grind arith
 
 -- what a recovery leaves
 pub recovery_leaves : (old new : State) → LeavesAtLeast 5 old new → MigrationLeaves old new
 recovery_leaves old new leaves =
-    let cuts = λ (each : EachCut (IsOursForSome old.size) old). weaker (StandsForOneOf old)
-    (StandsForSome IsOursInEither old) old new
+    let cuts = λ (each : EachCut (IsOursForSome old.size) old). weaker (StandsForOneOf old) (StandsForSome IsOursInEither old) old new
     (λ image o. search (rules, o)) (leaves.cuts each) in
-    grind (arith, cuts, leaves, start_migrates, clean_migrates)
+    grind (arith, cuts, leaves, start_migrates)

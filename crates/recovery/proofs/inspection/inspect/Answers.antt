@@ -1,7 +1,8 @@
 -- An inspection is a look whose reads are made.
+use Rattle.std.proofs.Common.{arith}
 use Rattle.recovery.specs.Starting.{look_at}
 use Rattle.recovery.specs.HoldsStart.{HoldsLook}
-use Rattle.recovery.proofs.StartBegins.{looked_or_not, at_end}
+use Rattle.recovery.proofs.StartBegins.{at_end}
 use Rattle.recovery.proofs.inspection.inspect.Goals as goal
 use Rattle.recovery.proofs.inspection.inspect.Goals.{After-drive}
 
@@ -11,7 +12,7 @@ held g c = (c.drive.ensures.driven.runs c.args.m.now (c.begin-inspecting.ensures
 
 pub end-requires : goal.end-requires
 end-requires g c = at_end _ c.drive.result c.drive.ensures.driven.tallied c.drive.ensures.done
-    (looked_or_not (look_at c.drive.new.machine.stage c.drive.new.machine.survey)) (held g (goal.at.end-requires g c).After-drive).well
+    (grind arith) (held g (goal.at.end-requires g c).After-drive).well
 
 pub returns : goal.returns
 returns g c =

@@ -75,12 +75,7 @@ made g c =
     (stays_fresh old refl refl c.requires.flushed refl two (rw (← c.new.ensures) at fresh) may)) in (
       d.0,
       on_ok_weaker c.drive.result (λ is. (
-        record {
-          flushed = is.1;
-          super = rw two at is.0.super;
-          head = rw c.new.ensures at is.0.head;
-          zeros = is.0.zeros;
-        },
+        search (rules, is.1, rw two at is.0.super, rw c.new.ensures at is.0.head, is.0.zeros),
         is.2,
       )) d.1,
     )

@@ -1,6 +1,7 @@
 -- A recovery is a start whose calls are made.
+use Rattle.std.proofs.Common.{arith}
 use Rattle.recovery.specs.HoldsStart.{HoldsStart}
-use Rattle.recovery.proofs.StartBegins.{stage_of, ended_or_not, at_end}
+use Rattle.recovery.proofs.StartBegins.{stage_of, at_end}
 use Rattle.recovery.proofs.recovery.recover_at_least.Goals as goal
 use Rattle.recovery.proofs.recovery.recover_at_least.Goals.{After-drive}
 
@@ -11,7 +12,7 @@ held g c = ((c.drive.ensures.driven.runs (record { start = c.args.m.now; least =
     (c.begin_at_least-starting.ensures.of.1, c.begin_at_least-starting.ensures.held c.args.m.now _)).1).1
 
 pub end-requires : goal.end-requires
-end-requires g c = at_end _ c.drive.result c.drive.ensures.driven.tallied c.drive.ensures.done (ended_or_not (stage_of c.drive.new.machine))
+end-requires g c = at_end _ c.drive.result c.drive.ensures.driven.tallied c.drive.ensures.done (grind arith)
     (held g (goal.at.end-requires g c).After-drive).well
 
 pub returns : goal.returns

@@ -43,7 +43,7 @@ returns-in-Survey g c start m had held =
     let head = c.in-Survey.head in
     let h : HoldsLook g.M.Medium.state 0 (stage.Survey head survey) had start m = rw c.in-Survey.is at held in
     let none = no_tries_left survey.reader survey.left survey.place survey.goes (rw c.in-Survey.is at c.requires) in
-    let counted = counted_at_end g.M.Medium.state g.met.M.Medium.sound 0 h none in
+    let counted = counted_at_end g.met.M.Medium.sound h none in
     record {
       ok = inspected (g.M.Medium.state start) _ (rw counted.0 at h.midway.0.found.has) h.midway.0.head_is (rw counted.0 at counted.1);
       err = tt;

@@ -12,7 +12,6 @@ use Rattle.recovery.proofs.inspecting.InspectingMachine.next.Goals as goal
 
 pub returns-in-ReadSuper : goal.returns-in-ReadSuper
 returns-in-ReadSuper g c =
-    let S = g.M.Medium.state in
     let sound = g.met.M.Medium.sound in
     let is = c.in-ReadSuper.is in
     let some = c.args.self.now.goes.super is in
@@ -21,10 +20,10 @@ returns-in-ReadSuper g c =
       within = some;
       looks = some;
       made = λ m n got view next fits held performed after.
-          super_looked S sound 0 fits some (rw is at held) performed (rw is at after.1);
+          super_looked sound fits some (rw is at held) performed (rw is at after.1);
       refused = λ m n got view next e fits held performed gone.
           let h = rw is at held in
-          rw gone.1 (look_refused S sound 0 h performed refl (super_read S sound 0 h performed));
+          rw gone.1 (look_refused sound h performed refl (super_read sound h performed));
       rest = all_calls 1 Two 64;
       pays = rw is refl;
       rests = λ got next after. left_through (look_few _) (super_left (rw is at after.1));
@@ -32,7 +31,6 @@ returns-in-ReadSuper g c =
 
 pub returns-in-ReadHead : goal.returns-in-ReadHead
 returns-in-ReadHead g c =
-    let S = g.M.Medium.state in
     let sound = g.met.M.Medium.sound in
     let is = c.in-ReadHead.is in
     let sizes = c.in-ReadHead.field-0 in
@@ -41,10 +39,10 @@ returns-in-ReadHead g c =
       due = rw is tt;
       within = some;
       looks = some;
-      made = λ m n got view next fits held performed after. head_looked S sound 0 (rw is at held) performed (rw is at after.1);
+      made = λ m n got view next fits held performed after. head_looked sound (rw is at held) performed (rw is at after.1);
       refused = λ m n got view next e fits held performed gone.
           let h = rw is at held in
-          rw gone.1 (look_refused S sound 0 h performed refl (head_read S sound 0 h performed));
+          rw gone.1 (look_refused sound h performed refl (head_read sound h performed));
       rest = all_calls 0 sizes.format sizes.slots;
       pays = rw is (all_more 0 sizes.format sizes.slots);
       rests = λ got next after. left_through (look_few _) (head_left (rw is at after.1));
@@ -53,7 +51,6 @@ returns-in-ReadHead g c =
 -- each read of the survey
 pub returns-in-Survey : goal.returns-in-Survey
 returns-in-Survey g c =
-    let S = g.M.Medium.state in
     let sound = g.met.M.Medium.sound in
     let s = c.args.self.now in
     let is = c.in-Survey.is in
@@ -67,10 +64,10 @@ returns-in-Survey g c =
       looks = grind (arith, inside, tells.looks);
       made = λ m n got view next fits held performed after.
           let step = rw is at after.1 in
-          rw step.2 (survey_looked S sound 0 (rw is at held) tells performed step.1);
+          rw step.2 (survey_looked sound (rw is at held) tells performed step.1);
       refused = λ m n got view next e fits held performed gone.
           let h = rw is at held in
-          rw gone.1 (look_refused S sound 0 h performed kind (survey_read S sound 0 h tells performed));
+          rw gone.1 (look_refused sound h performed kind (survey_read sound h tells performed));
       rest = tells.rest;
       pays = rw is tells.pays;
       rests = λ got next after. let step = rw is at after.1 in rw step.2 (tells.rests got step.0 step.1);

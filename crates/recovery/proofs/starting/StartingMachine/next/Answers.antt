@@ -7,74 +7,61 @@ use Rattle.journal.specs.Formats.{shape_of}
 use Rattle.recovery.specs.Starting.{head_calls, all_calls, home_calls, both}
 use Rattle.recovery.proofs.Looks.{super_read, super_looked, head_read, head_looked, survey_read, survey_looked}
 use Rattle.recovery.proofs.StartBegins.{flushed_first, first_made, looked_start, reads_leave}
-use Rattle.recovery.proofs.StartCopy.{survey_on}
-use Rattle.recovery.proofs.StartCopy.{copy_made, copy_refused}
+use Rattle.recovery.proofs.StartCopy.{survey_on, copy_made, copy_refused}
 use Rattle.recovery.proofs.StartHead.{copies_flush_made, copies_flush_leaves, head_write_made, head_write_leaves, head_flush_made}
 use Rattle.recovery.proofs.StartHead.{head_flush_leaves}
-use Rattle.recovery.proofs.Tallies.{all_more, first_left, super_left, head_left, few_left, none_left_of, both_more, both_left}
-use Rattle.recovery.proofs.Tallies.{left_through, survey_goes_left, copied_left}
+use Rattle.recovery.proofs.Tallies.{all_more, first_left, super_left, head_left, few_left, both_more, both_left}
+use Rattle.recovery.proofs.Tallies.{no_tries_left, none_left, left_through, survey_goes_left, copied_left}
 use Rattle.recovery.proofs.StartBegins.{told, told_by, both_told}
-use Rattle.recovery.proofs.Tallies.{no_tries_left}
-use Rattle.recovery.proofs.Tallies.{none_left}
 use Rattle.recovery.proofs.starting.StartingMachine.next.Goals as goal
 
 pub returns-in-FlushFirst : goal.returns-in-FlushFirst
 returns-in-FlushFirst g c =
-    let S = g.M.Medium.state in
-    let sound = g.met.M.Medium.sound in
-    told S c.args.self.now c.in-FlushFirst.is tt tt tt refl
+    told c.args.self.now c.in-FlushFirst.is tt tt tt refl
     (λ m n start got least next fits held performed after.
-    rw (← held.midway) (first_made S sound least fits performed after))
-    (λ m n start got least e held performed. rw (← held.midway) (flushed_first S sound least performed))
+    rw (← held.midway) (first_made g.M.Medium.state g.met.M.Medium.sound least fits performed after))
+    (λ m n start got least e held performed. rw (← held.midway) (flushed_first g.M.Medium.state g.met.M.Medium.sound least performed))
     (all_calls 2 Two 64) refl (λ got next after. first_left after)
 
 pub returns-in-ReadSuper : goal.returns-in-ReadSuper
 returns-in-ReadSuper g c =
-    let S = g.M.Medium.state in
-    let sound = g.met.M.Medium.sound in
     let some = c.args.self.now.goes.super c.in-ReadSuper.is in
-    told S c.args.self.now c.in-ReadSuper.is tt some some refl
-    (λ m n start got least next fits held performed after. looked_start S least held.midway.1 next
-    (super_looked S sound least fits some held.midway.2 performed after))
-    (λ m n start got least e held performed. reads_leave least held.midway.1 (super_read S sound least held.midway.2 performed))
+    told c.args.self.now c.in-ReadSuper.is tt some some refl
+    (λ m n start got least next fits held performed after. looked_start held.midway.1 next
+    (super_looked g.met.M.Medium.sound fits some held.midway.2 performed after))
+    (λ m n start got least e held performed. reads_leave least held.midway.1 (super_read g.met.M.Medium.sound held.midway.2 performed))
     (all_calls 1 Two 64) refl (λ got next after. super_left after)
 
 pub returns-in-ReadHead : goal.returns-in-ReadHead
 returns-in-ReadHead g c =
-    let S = g.M.Medium.state in
-    let sound = g.met.M.Medium.sound in
     let s = c.args.self.now in
     let sizes = c.in-ReadHead.field-0 in
     let some : 1 < s.sectors = omega (arith, s.goes.head sizes c.in-ReadHead.is, sizes.home_is.0) in
-    told S s c.in-ReadHead.is tt some some refl
-    (λ m n start got least next fits held performed after. looked_start S least held.midway.1 next
-    (head_looked S sound least held.midway.2 performed after))
-    (λ m n start got least e held performed. reads_leave least held.midway.1 (head_read S sound least held.midway.2 performed))
+    told s c.in-ReadHead.is tt some some refl
+    (λ m n start got least next fits held performed after. looked_start held.midway.1 next
+    (head_looked g.met.M.Medium.sound held.midway.2 performed after))
+    (λ m n start got least e held performed. reads_leave least held.midway.1 (head_read g.met.M.Medium.sound held.midway.2 performed))
     (all_calls 0 sizes.format sizes.slots) (all_more 0 sizes.format sizes.slots) (λ got next after. head_left after)
 
 -- each call of the survey
 pub returns-in-Survey : goal.returns-in-Survey
 returns-in-Survey g c =
-    let S = g.M.Medium.state in
-    let sound = g.met.M.Medium.sound in
     let s = c.args.self.now in
     let survey = s.survey in
     let can = s.goes.survey_goes c.in-Survey.field-0 c.in-Survey.is in
     let others = home_calls survey.reader.sizes.format survey.reader.sizes.slots in
     let ends = no_tries_left survey.reader survey.left survey.place survey.goes in
-    told_by c.next.result (λ none. absurd (omega (arith, can.due, ends none.0))) (λ call tells. told S s c.in-Survey.is tt
+    told_by c.next.result (λ none. absurd (omega (arith, can.due, ends none.0))) (λ call tells. told s c.in-Survey.is tt
     (grind (arith, can.fits, tells.within)) (grind (arith, can.fits, tells.looks)) (grind (arith, tells.pays))
     (λ m n start got least next fits held performed after.
-    survey_on S sound least held.midway.1 (survey_looked S sound least held.midway.2 tells performed after.1) after.2)
-    (λ m n start got least e held performed. reads_leave least held.midway.1 (survey_read S sound least held.midway.2 tells performed))
+    survey_on g.met.M.Medium.sound held.midway.1 (survey_looked g.met.M.Medium.sound held.midway.2 tells performed after.1) after.2)
+    (λ m n start got least e held performed. reads_leave least held.midway.1 (survey_read g.met.M.Medium.sound held.midway.2 tells performed))
     (both tells.rest others) (ap (λ (t : Tally). both t others) tells.pays ∙ both_more tells.rest others (fault_of call))
     (λ got next after. survey_goes_left after.1.sizes_stay after.2 (tells.rests got after.0 after.1))) c.next.ensures
 
 -- and of the copying
 pub returns-in-Copy : goal.returns-in-Copy
 returns-in-Copy g c =
-    let S = g.M.Medium.state in
-    let sound = g.met.M.Medium.sound in
     let s = c.args.self.now in
     let reader = s.survey.reader in
     let can = s.goes.copy c.in-Copy.field-0 c.in-Copy.is in
@@ -83,11 +70,11 @@ returns-in-Copy g c =
     told_by c.next_copy.result (λ none. absurd (omega (arith, can.due, ends none.0)))
     (λ call both_tell.
     let tells = both_tell.0 in
-    told S s c.in-Copy.is tt (grind (arith, fits_here, tells.within))
+    told s c.in-Copy.is tt (grind (arith, fits_here, tells.within))
     (grind (arith, fits_here, tells.looks)) both_tell.1
     (λ m n start got least next fits held performed after.
-    copy_made S sound least held.midway tells performed after.1 after.2)
-    (λ m n start got least e held performed. copy_refused S sound least held.midway tells performed)
+    copy_made g.met.M.Medium.sound held.midway tells performed after.1 after.2)
+    (λ m n start got least e held performed. copy_refused g.met.M.Medium.sound held.midway tells performed)
     (both tells.rest head_calls)
     (ap (λ (t : Tally). both t head_calls) tells.pays ∙ both_more tells.rest head_calls (fault_of call))
     (λ got next after. left_through (copied_left after.2) (both_left head_calls (tells.rests got after.0 after.1))))
@@ -96,34 +83,28 @@ returns-in-Copy g c =
 -- the flush of the copies
 pub returns-in-FlushCopies : goal.returns-in-FlushCopies
 returns-in-FlushCopies g c =
-    let S = g.M.Medium.state in
-    let sound = g.met.M.Medium.sound in
-    told S c.args.self.now c.in-FlushCopies.is tt tt tt refl
-    (λ m n start got least next fits held performed after. rw after (copies_flush_made S sound least held.midway performed))
-    (λ m n start got least e held performed. copies_flush_leaves S sound least held.midway performed)
+    told c.args.self.now c.in-FlushCopies.is tt tt tt refl
+    (λ m n start got least next fits held performed after. rw after (copies_flush_made g.met.M.Medium.sound held.midway performed))
+    (λ m n start got least e held performed. copies_flush_leaves g.met.M.Medium.sound held.midway performed)
     (record { reads = 0; writes = 1; flushes = 1 }) refl
     (λ got next after. rw after (few_left (omega arith) (omega arith) (omega arith)))
 
 -- the head
 pub returns-in-WriteHead : goal.returns-in-WriteHead
 returns-in-WriteHead g c =
-    let S = g.M.Medium.state in
-    let sound = g.met.M.Medium.sound in
     let s = c.args.self.now in
     let found = c.in-WriteHead.found in
     let some : 1 < s.sectors = omega (arith, (s.goes.move found c.in-WriteHead.is).fits, found.sizes.home_is.0) in
-    told S s c.in-WriteHead.is tt some tt refl
-    (λ m n start got least next fits held performed after. rw after (head_write_made S sound least held.midway c.put_head.ensures performed))
-    (λ m n start got least e held performed. head_write_leaves S sound least held.midway c.put_head.ensures performed)
+    told s c.in-WriteHead.is tt some tt refl
+    (λ m n start got least next fits held performed after. rw after (head_write_made g.met.M.Medium.sound held.midway c.put_head.ensures performed))
+    (λ m n start got least e held performed. head_write_leaves g.met.M.Medium.sound held.midway c.put_head.ensures performed)
     (record { reads = 0; writes = 0; flushes = 1 }) refl
     (λ got next after. rw after (few_left (omega arith) (omega arith) (omega arith)))
 
 -- its flush
 pub returns-in-FlushHead : goal.returns-in-FlushHead
 returns-in-FlushHead g c =
-    let S = g.M.Medium.state in
-    let sound = g.met.M.Medium.sound in
-    told S c.args.self.now c.in-FlushHead.is tt tt tt refl
-    (λ m n start got least next fits held performed after. rw after (head_flush_made S sound least held.midway performed))
-    (λ m n start got least e held performed. head_flush_leaves S sound least held.midway performed)
-    none refl (λ got next after. rw after none_left_of)
+    told c.args.self.now c.in-FlushHead.is tt tt tt refl
+    (λ m n start got least next fits held performed after. rw after (head_flush_made g.met.M.Medium.sound held.midway performed))
+    (λ m n start got least e held performed. head_flush_leaves g.met.M.Medium.sound held.midway performed)
+    none refl (λ got next after. rw after (few_left (omega arith) (omega arith) (omega arith)))
