@@ -49,21 +49,6 @@ pub flush_only : {old new : State} {bytes got : List ℕ} → Performed Flush by
 flush_only performed s c left = performed.done.1 s c left ∙ sym (performed.done.0 s)
 
 module _ {plan : ImagePlan} {under : Under} {before image : Image} where
-  -- one sector more has zeros
-  pub blank_on : {at : ℕ} → at < plan.end → IsBlank plan under at before → Holds at (replicate 512 0) before image
-      → IsBlank plan under (at + 1) image
-  blank_on {at = at} below is holds = grind (arith, is.zeros, is.elsewhere, holds.elsewhere)
-
-  -- all have, and the head is there
-  pub headed : {at : ℕ} {head : List ℕ} → plan.end ≤ at → IsHead plan.head.stamp head → IsBlank plan under at before
-      → Holds 1 head before image → IsHeaded plan under image
-  headed full head is holds = grind (arith, under.most, under.some, is.zeros, is.elsewhere, holds.elsewhere)
-
-  -- the super is there too
-  pub written : {super : List ℕ} → 2 ≤ plan.end → IsSuper (shape_of plan.sizes) super → IsHeaded plan under before
-      → Holds 0 super before image → IsNew plan under image
-  written long super is holds = grind (arith, is.zeros, is.elsewhere, holds.elsewhere)
-
   -- what is a part stays one where this sector is one
   pub part_on : {place : ℕ} {bytes : List ℕ} → IsPart plan under before → Holds place bytes before image
       → IsPartAt plan under image place → IsPart plan under image

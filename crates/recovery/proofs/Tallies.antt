@@ -142,10 +142,6 @@ all_more first format slots = grind arith
 pub left_through : {few some many : Tally} → IsLeft ⊥ few some → IsLeft ⊥ some many → IsLeft ⊥ few many
 left_through a b = record { most = λ kind. omega (arith, a.most kind, b.most kind); exact = λ e. absurd e }
 
--- a super is read, or not
-pub first_left : {sectors : ℕ} {next : StartStage} → IsReadFirst sectors next → IsLeft ⊥ (start_left next) (all_calls 2 Two 64)
-first_left goes = grind arith
-
 -- the head is read
 pub super_left : {sectors : ℕ} {got : List ℕ} {next : StartStage} → FindsSuper sectors got next
     → IsLeft ⊥ (start_left next) (all_calls 1 Two 64)
@@ -155,11 +151,6 @@ super_left finds = grind arith
 pub head_left : {least : ℕ} {sizes : Super} {got : List ℕ} {next : StartStage} → FindsHead least sizes got next
     → IsLeft ⊥ (start_left next) (all_calls 0 sizes.format sizes.slots)
 head_left {sizes = sizes} finds = grind arith
-
--- records are copied
-pub copied_left : {found : Found} {copying : Copying} {next : StartStage} → IsCopiedOn found copying next
-    → IsLeft ⊥ (start_left next) (both (copies_left copying.reader copying.step) head_calls)
-copied_left goes = grind arith
 
 -- they are found
 found_left : {found : Found} {next : StartStage} {slots : ℕ} → found.count ≤ slots → IsFoundOn found next

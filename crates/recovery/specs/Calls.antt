@@ -133,16 +133,10 @@ abbrev pub IsHomeOf : Shape → List ℕ → ℕ → Type 0
 IsHomeOf shape numbers x = (i : ℕ) × (i < length numbers)
     × (x ≡ first_home shape + slice_index numbers i)
 
--- a block of the whole record of this stamp is at home in the sector
-abbrev pub IsHomeInRecord : Shape → Image → ℕ → ℕ → Type 0
-IsHomeInRecord shape image stamp x =
-    (entries : List Entry) × IsWhole shape image stamp entries
-    × IsHomeOf shape (numbers_of entries) x
-
 -- a block of one of count whole records from this stamp on is at home in sector x
 abbrev pub IsHomeInRecords : Shape → Image → ℕ → ℕ → ℕ → Type 0
-IsHomeInRecords shape image head count x = (j : ℕ) × (j < count)
-    × IsHomeInRecord shape image (head + j) x
+IsHomeInRecords shape image head count x = (j : ℕ) × (j < count) × ((entries : List Entry)
+    × IsWhole shape image (head + j) entries × IsHomeOf shape (numbers_of entries) x)
 
 -- how many calls it takes to read again what names the n blocks of a record, which are its
 -- descriptors and its commit, and to read and write each block

@@ -52,19 +52,16 @@ abbrev pub writes_spent : LogFormat → NamingStage → ℕ → ℕ → ℕ
 writes_spent format stage.Named n i = limit_of format - (n - i)
 writes_spent format at n i = 0
 
--- what is left of the calls of this many records
-abbrev pub calls_left : LogFormat → ℕ → ℕ → ℕ → Tally
-calls_left format left reads writes = record {
-  reads = (record_reads_of format + limit_of format) * left - reads;
-  writes = limit_of format * left - writes;
+-- what is left of the calls of these records
+abbrev pub copies_left : RecordReader → CopyStep → Tally
+copies_left reader step = record {
+  reads = (record_reads_of reader.sizes.format + limit_of reader.sizes.format) * step.left
+      - reads_spent reader.sizes.format reader.stage (length reader.read.numbers.items) step.i
+      step.has_bytes;
+  writes = limit_of reader.sizes.format * step.left
+      - writes_spent reader.sizes.format reader.stage (length reader.read.numbers.items) step.i;
   flushes = 0;
 }
-
-abbrev pub copies_left : RecordReader → CopyStep → Tally
-copies_left reader step = calls_left reader.sizes.format step.left
-    (reads_spent reader.sizes.format reader.stage (length reader.read.numbers.items) step.i
-    step.has_bytes)
-    (writes_spent reader.sizes.format reader.stage (length reader.read.numbers.items) step.i)
 
 -- the record is home, and the next one is to be read
 pub record IsNextRecord (reader : RecordReader) (step : CopyStep) (next : RecordReader)

@@ -115,16 +115,12 @@ module _ {M : Type 0} (state : M → State) (least : ℕ) where
     pub first_had : List ℕ
     pub new : IsNewSurvey sizes head first
 
-  -- and goes on
-  abbrev pub IsSurveying : ℕ → Surveying → List ℕ → M → M → Type 0
-  IsSurveying head survey had mid m = (b : HasBegun head mid)
-      × IsSurveyedSoFar state b.first b.first_had b.began (Ok tt) survey had m
-
   -- what is so before the next read of a look, or why it was refused
   abbrev pub HasLooked : StartStage → List ℕ → M → M → Type 0
   HasLooked stage.ReadSuper had mid m = m ≡ mid
   HasLooked (stage.ReadHead sizes) had mid m = HasFound sizes 1 (state mid) (state m)
-  HasLooked (stage.Survey head survey) had mid m = IsSurveying head survey had mid m
+  HasLooked (stage.Survey head survey) had mid m = (b : HasBegun head mid)
+      × IsSurveyedSoFar state b.first b.first_had b.began (Ok tt) survey had m
   HasLooked (stage.Refused fault) had mid m =
       IsRefusalBy least IsQuiet (state mid) (state m) fault × (fault ≢ StampsUsedUp)
   HasLooked at had mid m = ⊥
@@ -135,11 +131,6 @@ module _ {M : Type 0} (state : M → State) (least : ℕ) where
     pub reads : SurveysAtMost (state mid) (state m)
     pub well : IsStarting at → (state m).failures ≡ (state mid).failures
     pub midway : HasLooked at had mid m
-
-  -- behind a good flush it looks
-  abbrev pub LooksBehind : StartStage → List ℕ → M → M → Type 0
-  LooksBehind at had start m =
-      (mid : M) × IsFlushedFirst (state start) (state mid) × HoldsLook at had mid m
 
   -- the survey came to its end, and found this
   pub record HasSurveyed (found : Found) (start seen : M) : Type 0 where
@@ -199,7 +190,9 @@ module _ {M : Type 0} (state : M → State) (least : ℕ) where
       EndsStart least (state start) (state m) (Ok answer)
   IsMidstart (stage.Refused fault) had start m =
       EndsStart least (state start) (state m) (Err fault)
-  IsMidstart at had start m = LooksBehind at had start m
+  -- behind a good flush it looks
+  IsMidstart at had start m =
+      (mid : M) × IsFlushedFirst (state start) (state mid) × HoldsLook at had mid m
 
   -- What a start and a medium hold, which stood so when it began: at each moment so far a cut has
   -- left what a recovery promises, and no call was refused while one is left.

@@ -34,13 +34,13 @@ abbrev pub tries_spent : LogFormat → NamingStage → ℕ → ℕ → ℕ
 tries_spent format stage.Named n place = most_reads_of format - (n - place)
 tries_spent format at n place = record_reads_of format - names_left at
 
-abbrev pub tries_left : LogFormat → ℕ → ℕ → Tally
-tries_left format left spent =
-    record { reads = most_reads_of format * left - spent; writes = 0; flushes = 0 }
-
 abbrev pub surveys_left : RecordReader → ℕ → ℕ → Tally
-surveys_left reader left place = tries_left reader.sizes.format left
-    (tries_spent reader.sizes.format reader.stage (length reader.read.numbers.items) place)
+surveys_left reader left place = record {
+  reads = most_reads_of reader.sizes.format * left
+      - tries_spent reader.sizes.format reader.stage (length reader.read.numbers.items) place;
+  writes = 0;
+  flushes = 0;
+}
 
 -- the record is whole and counted, and that of the next stamp is to be tried
 pub record IsCounted (reader : RecordReader) (left : ℕ) (next : RecordReader) (less place : ℕ)

@@ -26,14 +26,11 @@ module _ {plan : ImagePlan} {under : Under} {shape : Shape} {array : Array} {ima
   apart : (x : ℕ) → x ≢ 1 → (image x ≡ under.image x) ⊎ (IsBetween 2 (first_home shape) x × (image x ≡ replicate 512 0))
   apart x not = grind (arith, part.each x)
 
-  outside : (x : ℕ) → x ≢ 1 → ¬ IsBetween 2 (first_home shape) x → image x ≡ under.image x
-  outside x not between = grind (arith, apart x not)
-
   -- so no record waits in a part of the new image either
   still_fresh : IsFresh shape array plan.head.stamp image
   still_fresh =
       let carries = λ (slot o stamp : ℕ). (laws_of shape.format).zeros o stamp in
-      grind (arith, outside, apart, fresh, part.each 1, carries, log_ends shape fresh.super.home_is, plan.head.least)
+      grind (arith, apart, fresh, part.each 1, carries, log_ends shape fresh.super.home_is, plan.head.least)
 
 -- and none in the new image
 new_fresh : {shape sizes : Shape} {array : Array} {stamp : ℕ} {before image : Image} → sizes ≡ migrated shape

@@ -1,16 +1,15 @@
 use Rattle.std.proofs.Common.{◌≡◌, true, false, ◌≤◌, ◌+◌, ◌-◌, inl, inr, refl, suc, ◌∙◌, sym, arith}
 use Rattle.std.proofs.lemmas.Bool.{cases_eq}
 use Rattle.recovery.specs.declared.image_stage.ImageStage.TheVariants as stage
-use Rattle.recovery.proofs.ImageCalls.{tells_write, tells_flush, blank_on, headed, written, part_on}
+use Rattle.recovery.proofs.ImageCalls.{tells_write, tells_flush, part_on}
 use Rattle.recovery.proofs.new_image.NewImageMachine.next.Goals as goal
 
 pub returns-in-Wipe : goal.returns-in-Wipe
 returns-in-Wipe g c =
     let s = c.args.self.now in
     let long : 2 ≤ s.plan.end = omega (arith, s.plan.sizes.home_is.0, s.plan.long) in
-    let one : s.plan.end + 2 ≡ s.plan.end + 1 + 1 = omega arith in
     tells_write g.met.M.Medium.sound s stage.Wipe stage.FlushWipe c.in-Wipe.is tt (λ t is. is) (omega arith) 0 (omega (arith, long))
-    (λ e. cc e) (rw one refl) refl (λ view now has. (
+    (λ e. cc e) (grind arith) refl (λ view now has. (
       λ image holds. grind (arith, has.1.here, has.1.elsewhere, holds.elsewhere),
       λ image cut. inl cut,
       λ before image cut holds. inr (before, cut, rw has.1.here holds),
@@ -20,9 +19,8 @@ pub returns-in-FlushWipe : goal.returns-in-FlushWipe
 returns-in-FlushWipe g c =
     let s = c.args.self.now in
     let long : 2 ≤ s.plan.end = omega (arith, s.plan.sizes.home_is.0, s.plan.long) in
-    let one : s.plan.end + 1 ≡ s.plan.end - 1 + 2 = omega (arith, long) in
     tells_flush g.met.M.Medium.sound s stage.FlushWipe (stage.Zeros 1 false) c.in-FlushWipe.is tt (λ t is. is) (omega arith)
-    (rw one refl) refl (λ view now has cut. (
+    (grind arith) refl (λ view now has cut. (
       grind (arith, long, has.1, view.under.some),
       record { each = λ x. inl (has.1 x) },
     )) tt
@@ -32,11 +30,10 @@ returns-in-Zeros g c =
     let s = c.args.self.now in
     let at = c.in-Zeros.at in
     let below = c.if-at-self.true in
-    let one : s.plan.end - at + 2 ≡ s.plan.end - (at + 1) + 2 + 1 = omega (arith, below) in
     let more : s.plan.end - at ≡ suc (s.plan.end - (at + 1)) = omega (arith, below) in
     tells_write g.met.M.Medium.sound s (stage.Zeros at c.in-Zeros.field-1) (stage.Zeros (at + 1) c.in-Zeros.field-1) c.in-Zeros.is tt
-    (λ t is. is.0 below) (omega arith) at below (λ e. cc e) (rw one refl) (rw more refl) (λ view now has. (
-      λ image holds. blank_on below has holds,
+    (λ t is. is.0 below) (omega arith) at below (λ e. cc e) (grind arith) (rw more refl) (λ view now has. (
+      λ image holds. grind (arith, below, has.zeros, has.elsewhere, holds.elsewhere, holds.here, has.some),
       λ image is. is,
       λ before image is holds. part_on is holds (inr (inl ((has.some, below), holds.here))),
     ))
@@ -60,7 +57,7 @@ returns-in-Zeros-3 g c =
     let none : s.plan.end - at ≡ 0 = omega (arith, full) in
     tells_write g.met.M.Medium.sound s (stage.Zeros at false) stage.FlushHead is tt (λ t is. is.1 full) (omega arith) 1
     (omega (arith, long)) (λ e. cc e) (rw none refl) (rw none refl) (λ view now has. (
-      λ image holds. headed full c.encode.ensures has holds,
+      λ image holds. grind (arith, full, c.encode.ensures, view.under.most, view.under.some, has.zeros, has.elsewhere, holds.elsewhere),
       λ image is. is,
       λ before image is holds. part_on is holds (inr (inr (refl, rw holds.here c.encode.ensures))),
     ))
@@ -77,9 +74,9 @@ returns-in-Super g c =
     let super = c.encode-in-Super.ensures in
     tells_write g.met.M.Medium.sound s stage.Super stage.FlushSuper c.in-Super.is tt (λ t is. is) (omega arith) 0 (omega (arith, long))
     (λ e. cc e) refl refl (λ view now has. (
-      λ image holds. written long super has holds,
+      λ image holds. grind (arith, long, super, has.zeros, has.elsewhere, holds.elsewhere),
       λ image is. inl is.1,
-      λ before image is holds. inr (written long super is.0 holds),
+      λ before image is holds. inr (grind (arith, long, super, is.0.zeros, is.0.elsewhere, holds.elsewhere)),
     ))
 
 pub returns-in-FlushSuper : goal.returns-in-FlushSuper

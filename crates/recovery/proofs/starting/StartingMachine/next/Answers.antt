@@ -10,8 +10,8 @@ use Rattle.recovery.proofs.StartBegins.{flushed_first, first_made, looked_start,
 use Rattle.recovery.proofs.StartCopy.{survey_on, copy_made, copy_refused}
 use Rattle.recovery.proofs.StartHead.{copies_flush_made, copies_flush_leaves, head_write_made, head_write_leaves, head_flush_made}
 use Rattle.recovery.proofs.StartHead.{head_flush_leaves}
-use Rattle.recovery.proofs.Tallies.{all_more, first_left, super_left, head_left, few_left, both_more, both_left}
-use Rattle.recovery.proofs.Tallies.{no_tries_left, none_left, left_through, survey_goes_left, copied_left}
+use Rattle.recovery.proofs.Tallies.{all_more, super_left, head_left, few_left, both_more, both_left}
+use Rattle.recovery.proofs.Tallies.{no_tries_left, none_left, left_through, survey_goes_left}
 use Rattle.recovery.proofs.StartBegins.{told, told_by, both_told}
 use Rattle.recovery.proofs.starting.StartingMachine.next.Goals as goal
 
@@ -21,7 +21,7 @@ returns-in-FlushFirst g c =
     (λ m n start got least next fits held performed after.
     rw (← held.midway) (first_made g.M.Medium.state g.met.M.Medium.sound least fits performed after))
     (λ m n start got least e held performed. rw (← held.midway) (flushed_first g.M.Medium.state g.met.M.Medium.sound least performed))
-    (all_calls 2 Two 64) refl (λ got next after. first_left after)
+    (all_calls 2 Two 64) refl (λ got next after. grind (arith, after))
 
 pub returns-in-ReadSuper : goal.returns-in-ReadSuper
 returns-in-ReadSuper g c =
@@ -77,7 +77,7 @@ returns-in-Copy g c =
     (λ m n start got least e held performed. copy_refused g.met.M.Medium.sound held.midway tells performed)
     (both tells.rest head_calls)
     (ap (λ (t : Tally). both t head_calls) tells.pays ∙ both_more tells.rest head_calls (fault_of call))
-    (λ got next after. left_through (copied_left after.2) (both_left head_calls (tells.rests got after.0 after.1))))
+    (λ got next after. left_through (grind (arith, after.2)) (both_left head_calls (tells.rests got after.0 after.1))))
     (both_told _ _ _ c.next_copy.result c.next_copy.ensures.told c.next_copy.ensures.kind)
 
 -- the flush of the copies
