@@ -47,10 +47,6 @@ module _ {M : Type 0} {state : M → State} {reader : RecordReader} {step : Copy
   abbrev start : Image
   start = (state view.start).content
 
-  -- the log is as it was
-  pub same_log : (x : ℕ) → x < first_home (shape_of view.sizes) → (state m).content x ≡ (state view.start).content x
-  same_log x below = held.at.elsewhere x (not_in_log shape start view.head (length view.records) x below)
-
   -- ---- a read
   -- it was refused
   pub unread : {bytes got : List ℕ} {n : M} {place : ℕ} {e : MediumFault} {next : RecordReader} {after : CopyStep}
@@ -63,7 +59,8 @@ module _ {M : Type 0} {state : M → State} {reader : RecordReader} {step : Copy
       (performed : Performed (Read place) bytes got (Ok tt) (state m) (state n)) (due : 0 < step.left)
       (low : place < first_home (shape_of reader.sizes)) where
     read_of_log : got ≡ (state view.start).content place
-    read_of_log = performed.done ∙ same_log place (rw held.at.sizes_are low)
+    read_of_log = performed.done
+        ∙ held.at.elsewhere place (not_in_log shape start view.head (length view.records) place (rw held.at.sizes_are low))
 
     module _ (is : place ≡ naming_place (shape_of reader.sizes) reader.stamp reader.stage) where
       learned : {stage : _} {read : Record} → Learns (shape_of reader.sizes) reader.stamp reader.stage reader.read got stage read

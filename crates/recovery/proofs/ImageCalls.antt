@@ -45,15 +45,6 @@ module _ {K : Image → Type 0} {old new : State} {bytes got : List ℕ} where
         cuts = λ image cut. let is : image ≡ old.content = λ i s. performed.done.1 s (image s) (cut s) i in rw is both.1;
       }
 
-pub flush_only : {old new : State} {bytes got : List ℕ} → Performed Flush bytes got (Ok tt) old new → IsFlushed new
-flush_only performed s c left = performed.done.1 s c left ∙ sym (performed.done.0 s)
-
-module _ {plan : ImagePlan} {under : Under} {before image : Image} where
-  -- what is a part stays one where this sector is one
-  pub part_on : {place : ℕ} {bytes : List ℕ} → IsPart plan under before → Holds place bytes before image
-      → IsPartAt plan under image place → IsPart plan under image
-  part_on is holds here = grind (arith, is.each, holds.elsewhere)
-
 -- once less is left than behind the first good flush there is a part of the new image, or it
 late : (plan : ImagePlan) (under : Under) (at : ImageStage) (old : State) (image : Image) → IsLive at
     → of_all (image_left at plan.end) ≤ plan.end + 3 → MidwayImage plan under at old image → IsPartOrNew plan under image
@@ -148,7 +139,7 @@ module _ {M : Type 0} {state : M → State} (sound : (m : M) → IsSound (state 
         rw (after.0, leads t.stage (rw is at after.1)) (moved (sound m) h live performed.passes next lives
         (omega (arith, ap of_all one)) (omega (arith, ap of_all one))
         (flush_shows (HasImage s.plan view.under next) (MidwayImage s.plan view.under next (state view.start)) (sound m) h.shows performed
-        (becomes view (state m).content)) (λ e. flush_only performed) (λ k rest. rw ahead (n, bytes, got, performed, rest)));
+        (becomes view (state m).content)) (λ e s c left. performed.done.1 s c left ∙ sym (performed.done.0 s)) (λ k rest. rw ahead (n, bytes, got, performed, rest)));
     refused = λ m n got view t e fits held performed gone.
         let h = rw is at held in
         rw (gone.0, gone.1) (stopped (sound m) h live performed.passes at live (omega arith)

@@ -12,7 +12,7 @@ use Rattle.journal.specs.Places.{sectors_of, first_home, limit_of}
 use Rattle.journal.specs.Formats.{shape_of, IsWhole, HasWhole}
 use Rattle.journal.specs.Record.{Entry}
 use Rattle.recovery.specs.Calls.{Copies, IsHomeInRecords, freed_at, most_calls_of}
-use Rattle.recovery.specs.Copying.{Copying, HoldsCopied, IsCopyStep, TellsCopy}
+use Rattle.recovery.specs.Copying.{Copying, copies_left, HoldsCopied, IsCopyStep, TellsCopy}
 use Rattle.recovery.specs.Recovered.{LeavesAtLeast}
 use Rattle.recovery.specs.Starting.{IsNewCopying, IsCopiedOn, IsSurveyedOn, found_by}
 use Rattle.recovery.specs.HoldsStart.{HoldsStart, IsCopiedSoFar, IsCopying, HasSurveyed, HasCopied, HoldsLook, IsFlushedFirst, HasBegun}
@@ -22,7 +22,7 @@ use Rattle.recovery.specs.Causes.{IsSurvey}
 use Rattle.recovery.specs.declared.surveying.Surveying.{Surveying}
 use Rattle.recovery.proofs.JoinedCalls.{quiet_after}
 use Rattle.recovery.proofs.CopiedBlocks.{gathered, not_copied, all_copied}
-use Rattle.recovery.proofs.Tallies.{most_copies, most_writes}
+use Rattle.medium.specs.Tally.{of_all}
 use Rattle.recovery.proofs.JoinedCalls.{refused_call}
 use Rattle.recovery.proofs.StartBegins.{surveyed_by, reads_leave, ended_by, looked_start, Goes}
 use Rattle.recovery.proofs.WholeRecovery.{copies_leave, refusal}
@@ -36,9 +36,6 @@ module _ {M : Type 0} {state : M → State} (sound : (m : M) → IsSound (state 
     whole_seen : (j : ℕ) → j < found.count → HasWhole (shape_of found.sizes) (state seen).content (found.head + j)
     whole_seen j below = quiet_after (λ n i. HasWhole (shape_of found.sizes) i (found.head + j)) (state surveyed.mid) (state seen)
         surveyed.reads.only.quiet (surveyed.is.count.whole j below)
-
-    fits_seen : sectors_of (shape_of found.sizes) ≤ (state seen).size
-    fits_seen = omega (arith, surveyed.is.shape.fits, surveyed.reads.only.quiet.size_stays)
 
     module _ {first now : Copying} {had now_had : List ℕ} {n : M} {result : Result (Unit {0}) MediumFault} (new : IsNewCopying found first)
         (so_far : IsCopiedSoFar state first had seen result now now_had n) where
@@ -61,8 +58,8 @@ module _ {M : Type 0} {state : M → State} (sound : (m : M) → IsSound (state 
           let all = gathered (λ j entries. IsWhole (shape_of found.sizes) (state seen).content (found.head + j) entries) found.count
           whole_seen in
           let run = rw all.1 at (ran all.0 (sym all.1) (λ k below. all.2 k (omega (arith, below, all.1)))) in
-          let most = most_copies first.reader first.step new.sizes_are new.left_is in
-          let writes = most_writes first.reader first.step new.sizes_are new.left_is in
+          let most : of_all (copies_left first.reader first.step) ≤ most_calls_of found.sizes.format * found.count =
+          rw (← new.sizes_are, ← new.left_is) (grind arith) in
           grind (
             arith,
             rw all.1 at run.1.at.elsewhere,
@@ -70,7 +67,8 @@ module _ {M : Type 0} {state : M → State} (sound : (m : M) → IsSound (state 
             calls_most so_far.tallied,
             most,
             sends_most so_far.tallied,
-            writes,
+            new.sizes_are,
+            new.left_is,
             rw new.sizes_are at so_far.looks,
             refused_call result so_far.tallied,
           )
@@ -102,7 +100,7 @@ module _ {M : Type 0} {state : M → State} (sound : (m : M) → IsSound (state 
   module _ {copying : Copying} {had bytes : List ℕ} {m : M} {call : Call}
       (at : IsCopying state least found copying had start m) (tells : TellsCopy state copying had call bytes) where
     fits_first : sectors_of (shape_of at.0.first.reader.sizes) ≤ (state at.0.seen).size
-    fits_first = rw at.0.new.sizes_are (fits_seen at.0.surveyed)
+    fits_first = rw at.0.new.sizes_are (omega (arith, at.0.surveyed.is.shape.fits, at.0.surveyed.reads.only.quiet.size_stays))
 
     -- a call of it is made
     pub copy_made : {n : M} {got : List ℕ} {after : Copying} {next : StartStage} → Performed call bytes got (Ok tt) (state m) (state n)

@@ -22,11 +22,6 @@ use Rattle.recovery.proofs.WholeRecovery.{moves_leave, recovery_done}
 abbrev Moved : Found → State → Image → Type 0
 Moved found copied image = CutLeaves copied.may_leave image ⊎ HasNewHead (found.head + found.count + 1) copied.content image
 
--- a refused call is counted as one that is made
-as_made : {P : Image → Type 0} {end count : ℕ} {old new : State} {result : Result (Unit {0}) MediumFault}
-    → Writes P end count old new result → new.calls ≡ old.calls + count → Writes {X = Unit {0}} P end count old new (Ok tt)
-as_made w all = grind arith
-
 -- the head is written over contents that are flushed
 head_writes : (found : Found) (copied : State) {old new : State} {bytes got : List ℕ} {result : Result (Unit {0}) MediumFault} → IsSound old
     → IsFlushedAgain found copied old → EachCut (Moved found copied) old → IsHead (found.head + found.count + 1) bytes
@@ -40,8 +35,9 @@ head_writes found copied {old = old} {new = new} {bytes = bytes} sound flushed e
 -- the copies are flushed
 copies_flushed : (found : Found) {old new : State} {bytes got : List ℕ} {result : Result (Unit {0}) MediumFault} → IsSound old
     → Performed Flush bytes got result old new → Writes {X = Unit {0}} (Moved found old) 2 1 old new (Ok tt)
-copies_flushed found sound performed =
-    as_made (flush_writes sound performed.passes performed.changes performed.adds (λ image cut. inl cut)) performed.passes.calls_are
+copies_flushed found {old = old} sound performed =
+    let made = flush_writes {P = Moved found old} {end = 2} sound performed.passes performed.changes performed.adds (λ image cut. inl cut) in
+    grind (arith, made, performed.passes.calls_are)
 
 module _ {M : Type 0} {state : M → State} (sound : (m : M) → IsSound (state m)) {least : ℕ} {start : M} {found : Found} where
   -- what so few calls behind the copies leave

@@ -31,12 +31,6 @@ less_read t = record t { reads = t.reads - 1 }
 abbrev pub less_write : Tally → Tally
 less_write t = record t { writes = t.writes - 1 }
 
-pub read_pays : (t : Tally) → 0 < t.reads → t ≡ one_more (less_read t) Read
-read_pays t some = grind arith
-
-pub write_pays : (t : Tally) → 0 < t.writes → t ≡ one_more (less_write t) Write
-write_pays t some = grind arith
-
 -- no more of each kind
 pub few_left : {left rest : Tally} → left.reads ≤ rest.reads → left.writes ≤ rest.writes → left.flushes ≤ rest.flushes
     → IsLeft ⊥ left rest
@@ -51,8 +45,8 @@ names_few shape stage read reads is = grind (arith, reads.one, reads.behind_one,
 -- ---- a copying
 module _ (reader : RecordReader) (step : CopyStep) (due : 0 < step.left) where
   module _ (is : IsReading reader.stage) where
-    pub naming_due : 0 < (copies_left reader step).reads
-    naming_due = grind (arith, names_few _ reader.stage reader.read reader.reads is)
+    pub naming_pays : copies_left reader step ≡ one_more (less_read (copies_left reader step)) Read
+    naming_pays = grind (arith, names_few _ reader.stage reader.read reader.reads is)
 
     pub naming_left : {got : List ℕ} {next : RecordReader} {after : CopyStep} → next.sizes ≡ reader.sizes
         → IsTakenOrPassed reader step got next after → IsLeft ⊥ (copies_left next after) (less_read (copies_left reader step))
@@ -62,15 +56,15 @@ module _ (reader : RecordReader) (step : CopyStep) (due : 0 < step.left) where
     inside : length reader.read.numbers.items ≤ limit_of reader.sizes.format
     inside = (reader.reads.named is).few
 
-    pub block_due : step.has_bytes ≡ false → 0 < (copies_left reader step).reads
-    block_due no_bytes = grind (arith, inside)
+    pub block_pays : step.has_bytes ≡ false → copies_left reader step ≡ one_more (less_read (copies_left reader step)) Read
+    block_pays no_bytes = grind (arith, inside)
 
     pub block_left : {next : RecordReader} {after : CopyStep} → step.has_bytes ≡ false → HasRead reader step next after
         → IsLeft ⊥ (copies_left next after) (less_read (copies_left reader step))
     block_left no_bytes has = grind (arith, inside)
 
-    pub home_due : 0 < (copies_left reader step).writes
-    home_due = grind (arith, inside)
+    pub home_pays : copies_left reader step ≡ one_more (less_write (copies_left reader step)) Write
+    home_pays = grind (arith, inside)
 
     pub home_left : {next : RecordReader} {after : CopyStep} → step.has_bytes ≡ true → next.sizes ≡ reader.sizes
         → IsBlockStep true reader step next after → IsLeft ⊥ (copies_left next after) (less_write (copies_left reader step))
@@ -79,21 +73,13 @@ module _ (reader : RecordReader) (step : CopyStep) (due : 0 < step.left) where
 -- where no call is left no record is
 pub none_left : (reader : RecordReader) (step : CopyStep) → CanCopy reader step → copies_left reader step ≡ none → step.left ≡ 0
 none_left reader step goes none_is =
-    grind (arith, goes.there, goes.named, inside reader step, naming_due reader step, block_due reader step, home_due reader step)
-
-pub most_copies : (reader : RecordReader) (step : CopyStep) {sizes : Super} {left : ℕ} → reader.sizes ≡ sizes → step.left ≡ left
-    → of_all (copies_left reader step) ≤ most_calls_of sizes.format * left
-most_copies reader step same count = rw (← same, ← count) (grind arith)
-
-pub most_writes : (reader : RecordReader) (step : CopyStep) {sizes : Super} {left : ℕ} → reader.sizes ≡ sizes → step.left ≡ left
-    → (copies_left reader step).writes ≤ limit_of sizes.format * left
-most_writes reader step same count = rw (← same, ← count) (omega arith)
+    grind (arith, goes.there, goes.named, inside reader step, names_few _ reader.stage reader.read reader.reads)
 
 -- ---- a survey
 module _ (reader : RecordReader) (left place : ℕ) (due : 0 < left) where
   module _ (is : IsReading reader.stage) where
-    pub name_due : 0 < (surveys_left reader left place).reads
-    name_due = grind (arith, names_few _ reader.stage reader.read reader.reads is)
+    pub name_pays : surveys_left reader left place ≡ one_more (less_read (surveys_left reader left place)) Read
+    name_pays = grind (arith, names_few _ reader.stage reader.read reader.reads is)
 
     -- the stage behind has spent one more
     pub name_left : {waiting got counts : List ℕ} {next : RecordReader} {less after : ℕ} → next.sizes ≡ reader.sizes
@@ -107,8 +93,8 @@ module _ (reader : RecordReader) (left place : ℕ) (due : 0 < left) where
     many : length reader.read.numbers.items ≤ 240
     many = rw two at (reader.reads.named is).few
 
-    pub place_due : 0 < (surveys_left reader left place).reads
-    place_due = grind (arith, many)
+    pub place_pays : surveys_left reader left place ≡ one_more (less_read (surveys_left reader left place)) Read
+    place_pays = grind (arith, many)
 
     pub place_left : {waiting got counts : List ℕ} {next : RecordReader} {less after : ℕ} → next.sizes ≡ reader.sizes
         → TakesPlace reader left place waiting got next less after counts
@@ -119,38 +105,19 @@ module _ (reader : RecordReader) (left place : ℕ) (due : 0 < left) where
 pub no_tries_left : (reader : RecordReader) (left place : ℕ) {counted : ℕ} → CanSurvey reader left place counted
     → surveys_left reader left place ≡ none → left ≡ 0
 no_tries_left reader left place goes none_is =
-    grind (arith, goes.there, goes.named, goes.two, name_due reader left place, place_due reader left place)
+    grind (arith, goes.there, goes.named, goes.two, many reader left place, names_few _ reader.stage reader.read reader.reads)
 
 pub most_tries : (reader : RecordReader) (left place : ℕ) {sizes : Super} {slots : ℕ} → reader.sizes ≡ sizes → left ≡ slots
     → of_all (surveys_left reader left place) ≤ most_reads_of sizes.format * slots
 most_tries reader left place same count = rw (← same, ← count) (omega arith)
 
 -- ---- a start
--- one of some calls is one of those and others
-pub both_more : (some others : Tally) (kind : MediumFault) → both (one_more some kind) others ≡ one_more (both some others) kind
-both_more some others kind = grind arith
-
 -- what is left of some, and the others
 pub both_left : {some rest : Tally} (others : Tally) → IsLeft ⊥ some rest → IsLeft ⊥ (both some others) (both rest others)
 both_left others is = few_left (omega (arith, is.most Read)) (omega (arith, is.most Write)) (omega (arith, is.most Flush))
 
--- one read of those
-pub all_more : (first : ℕ) (format : LogFormat) (slots : ℕ)
-    → all_calls (first + 1) format slots ≡ one_more (all_calls first format slots) Read
-all_more first format slots = grind arith
-
 pub left_through : {few some many : Tally} → IsLeft ⊥ few some → IsLeft ⊥ some many → IsLeft ⊥ few many
 left_through a b = record { most = λ kind. omega (arith, a.most kind, b.most kind); exact = λ e. absurd e }
-
--- the head is read
-pub super_left : {sectors : ℕ} {got : List ℕ} {next : StartStage} → FindsSuper sectors got next
-    → IsLeft ⊥ (start_left next) (all_calls 1 Two 64)
-super_left finds = grind arith
-
--- the survey begins
-pub head_left : {least : ℕ} {sizes : Super} {got : List ℕ} {next : StartStage} → FindsHead least sizes got next
-    → IsLeft ⊥ (start_left next) (all_calls 0 sizes.format sizes.slots)
-head_left {sizes = sizes} finds = grind arith
 
 -- they are found
 found_left : {found : Found} {next : StartStage} {slots : ℕ} → found.count ≤ slots → IsFoundOn found next
@@ -164,7 +131,3 @@ pub survey_goes_left : {head : ℕ} {survey : Surveying} {sizes : Super} {rest :
 survey_goes_left {survey = survey} same goes is = rw (← same) (⊎_elim (λ some. rw some.1 (both_left _ is))
     (λ none. left_through (found_left {slots = survey.reader.sizes.slots} (omega (arith, survey.goes.room)) none.1)
     (few_left (omega arith) (omega arith) (omega arith))) goes)
-
--- a look makes no more calls than a start that stands there
-pub look_few : (at : StartStage) → IsLeft ⊥ (look_left at) (start_left at)
-look_few at = grind arith

@@ -165,9 +165,6 @@ module _ (least : ℕ) {old mid seen : State} {result : Result (Unit {0}) Medium
   one_sent : SendsUpTo 1 old seen
   one_sent = omega (arith, flush_sends old mid known.passes, none_sent mid seen known.reads.only.reads)
 
-  wrote_nothing : WritesNothing old seen
-  wrote_nothing = search (rules, quiet, known.reads.only.reads, known.passes.others_made, known.passes.made_is)
-
   -- from the first good flush up to the first write there is one image
   seen_after : Only old.content mid.may_leave → (shape : Shape) (array : Array) (next : ℕ)
       → IsOurs old.size shape old.content array next
@@ -204,6 +201,8 @@ module _ (least : ℕ) {old mid seen : State} {result : Result (Unit {0}) Medium
       let same = λ (f : image.ImageFault). back (λ n i. image.HasFault n i f) in
       let few = back (λ n i. HasFewSlots least n i) in
       let enough = back (λ n i. ¬ HasFewSlots least n i) in
+      let wrote_nothing : WritesNothing old seen =
+      search (rules, quiet, known.reads.only.reads, known.passes.others_made, known.passes.made_is) in
       search (rules, same, few, enough, back (λ n i. image.HasNoStampLeft n i), wrote_nothing)
 
   module _ {copied : State} {found : _} {copies : Result (Unit {0}) MediumFault}

@@ -8,7 +8,7 @@ use Rattle.recovery.specs.declared.copy_step.CopyStep.{CopyStep}
 use Rattle.recovery.specs.Copying.{IsBlockStep}
 use Rattle.recovery.proofs.SurveyedRecords.{data_place}
 use Rattle.recovery.proofs.CopiedBlocks.{unread, took, block_read, unwritten, block_written, record_written}
-use Rattle.recovery.proofs.Tallies.{read_pays, write_pays, naming_due, naming_left, block_due, block_left, home_due, home_left}
+use Rattle.recovery.proofs.Tallies.{naming_pays, naming_left, block_pays, block_left, home_pays, home_left}
 use Rattle.recovery.proofs.copying.next_copy.Goals as goal
 
 -- by whether the bytes of a block were read
@@ -31,7 +31,7 @@ returns-in-Some-clause-told g c =
           took held performed due asked.1 asked.2 first.0 first.1 (after.reading asked.0);
       refused = λ m n got view next e fits held performed gone. unread held performed gone;
       rest = _;
-      pays = read_pays _ (naming_due reader step due asked.0);
+      pays = naming_pays reader step due asked.0;
       rests = λ got next after. naming_left reader step due asked.0 after.sizes_stay (after.reading asked.0);
     }
 
@@ -53,7 +53,7 @@ returns-then-not-step-clause-told g c =
           block_read held performed due lies.1 lies.0 no_bytes (stepped reader step next.reader next.step no_bytes (after.copying named));
       refused = λ m n got view next e fits held performed gone. unread held performed gone;
       rest = _;
-      pays = read_pays _ (block_due reader step due named below no_bytes);
+      pays = block_pays reader step due named below no_bytes;
       rests = λ got next after.
           block_left reader step due named below no_bytes (stepped reader step next.reader next.step no_bytes (after.copying named));
     }
@@ -83,7 +83,7 @@ returns-clause-told g c =
           (stepped reader step next.reader next.step full (after.copying named));
       refused = λ m n got view next e fits held performed gone. unwritten held due named below is performed gone;
       rest = _;
-      pays = write_pays _ (home_due reader step due named below);
+      pays = home_pays reader step due named below;
       rests = λ got next after.
           home_left reader step due named below full after.sizes_stay
           (stepped reader step next.reader next.step full (after.copying named));

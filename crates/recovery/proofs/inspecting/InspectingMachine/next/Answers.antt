@@ -6,7 +6,6 @@ use Rattle.journal.specs.Places.{sectors_of, first_home}
 use Rattle.journal.specs.Formats.{shape_of}
 use Rattle.recovery.specs.Starting.{all_calls}
 use Rattle.recovery.proofs.Looks.{look_refused, super_read, super_looked, head_read, head_looked, survey_read, survey_looked}
-use Rattle.recovery.proofs.Tallies.{all_more, super_left, head_left, look_few, left_through}
 use Rattle.recovery.proofs.StartBegins.{told_by}
 use Rattle.recovery.proofs.inspecting.InspectingMachine.next.Goals as goal
 
@@ -26,7 +25,7 @@ returns-in-ReadSuper g c =
           rw gone.1 (look_refused sound h performed refl (super_read sound h performed));
       rest = all_calls 1 Two 64;
       pays = rw is refl;
-      rests = λ got next after. left_through (look_few _) (super_left (rw is at after.1));
+      rests = λ got next after. grind (arith, rw is at after.1);
     }
 
 pub returns-in-ReadHead : goal.returns-in-ReadHead
@@ -44,8 +43,8 @@ returns-in-ReadHead g c =
           let h = rw is at held in
           rw gone.1 (look_refused sound h performed refl (head_read sound h performed));
       rest = all_calls 0 sizes.format sizes.slots;
-      pays = rw is (all_more 0 sizes.format sizes.slots);
-      rests = λ got next after. left_through (look_few _) (head_left (rw is at after.1));
+      pays = rw is (grind arith);
+      rests = λ got next after. grind (arith, rw is at after.1);
     }
 
 -- each read of the survey

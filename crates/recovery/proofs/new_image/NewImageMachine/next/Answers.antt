@@ -1,7 +1,7 @@
 use Rattle.std.proofs.Common.{◌≡◌, true, false, ◌≤◌, ◌+◌, ◌-◌, inl, inr, refl, suc, ◌∙◌, sym, arith}
 use Rattle.std.proofs.lemmas.Bool.{cases_eq}
 use Rattle.recovery.specs.declared.image_stage.ImageStage.TheVariants as stage
-use Rattle.recovery.proofs.ImageCalls.{tells_write, tells_flush, part_on}
+use Rattle.recovery.proofs.ImageCalls.{tells_write, tells_flush}
 use Rattle.recovery.proofs.new_image.NewImageMachine.next.Goals as goal
 
 pub returns-in-Wipe : goal.returns-in-Wipe
@@ -35,7 +35,7 @@ returns-in-Zeros g c =
     (λ t is. is.0 below) (omega arith) at below (λ e. cc e) (grind arith) (rw more refl) (λ view now has. (
       λ image holds. grind (arith, below, has.zeros, has.elsewhere, holds.elsewhere, holds.here, has.some),
       λ image is. is,
-      λ before image is holds. part_on is holds (inr (inl ((has.some, below), holds.here))),
+      λ before image is holds. grind (arith, is.each, holds, has.some, below),
     ))
 
 pub returns-in-Zeros-2 : goal.returns-in-Zeros-2
@@ -59,7 +59,7 @@ returns-in-Zeros-3 g c =
     (omega (arith, long)) (λ e. cc e) (rw none refl) (rw none refl) (λ view now has. (
       λ image holds. grind (arith, full, c.encode.ensures, view.under.most, view.under.some, has.zeros, has.elsewhere, holds.elsewhere),
       λ image is. is,
-      λ before image is holds. part_on is holds (inr (inr (refl, rw holds.here c.encode.ensures))),
+      λ before image is holds. grind (arith, is.each, holds, c.encode.ensures),
     ))
 
 pub returns-in-FlushHead : goal.returns-in-FlushHead

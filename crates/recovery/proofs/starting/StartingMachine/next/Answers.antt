@@ -10,7 +10,7 @@ use Rattle.recovery.proofs.StartBegins.{flushed_first, first_made, looked_start,
 use Rattle.recovery.proofs.StartCopy.{survey_on, copy_made, copy_refused}
 use Rattle.recovery.proofs.StartHead.{copies_flush_made, copies_flush_leaves, head_write_made, head_write_leaves, head_flush_made}
 use Rattle.recovery.proofs.StartHead.{head_flush_leaves}
-use Rattle.recovery.proofs.Tallies.{all_more, super_left, head_left, few_left, both_more, both_left}
+use Rattle.recovery.proofs.Tallies.{few_left, both_left}
 use Rattle.recovery.proofs.Tallies.{no_tries_left, none_left, left_through, survey_goes_left}
 use Rattle.recovery.proofs.StartBegins.{told, told_by, both_told}
 use Rattle.recovery.proofs.starting.StartingMachine.next.Goals as goal
@@ -30,7 +30,7 @@ returns-in-ReadSuper g c =
     (λ m n start got least next fits held performed after. looked_start held.midway.1 next
     (super_looked g.met.M.Medium.sound fits some held.midway.2 performed after))
     (λ m n start got least e held performed. reads_leave least held.midway.1 (super_read g.met.M.Medium.sound held.midway.2 performed))
-    (all_calls 1 Two 64) refl (λ got next after. super_left after)
+    (all_calls 1 Two 64) refl (λ got next after. grind (arith, after))
 
 pub returns-in-ReadHead : goal.returns-in-ReadHead
 returns-in-ReadHead g c =
@@ -41,7 +41,7 @@ returns-in-ReadHead g c =
     (λ m n start got least next fits held performed after. looked_start held.midway.1 next
     (head_looked g.met.M.Medium.sound held.midway.2 performed after))
     (λ m n start got least e held performed. reads_leave least held.midway.1 (head_read g.met.M.Medium.sound held.midway.2 performed))
-    (all_calls 0 sizes.format sizes.slots) (all_more 0 sizes.format sizes.slots) (λ got next after. head_left after)
+    (all_calls 0 sizes.format sizes.slots) (grind arith) (λ got next after. grind (arith, after))
 
 -- each call of the survey
 pub returns-in-Survey : goal.returns-in-Survey
@@ -56,7 +56,7 @@ returns-in-Survey g c =
     (λ m n start got least next fits held performed after.
     survey_on g.met.M.Medium.sound held.midway.1 (survey_looked g.met.M.Medium.sound held.midway.2 tells performed after.1) after.2)
     (λ m n start got least e held performed. reads_leave least held.midway.1 (survey_read g.met.M.Medium.sound held.midway.2 tells performed))
-    (both tells.rest others) (ap (λ (t : Tally). both t others) tells.pays ∙ both_more tells.rest others (fault_of call))
+    (both tells.rest others) (ap (λ (t : Tally). both t others) tells.pays ∙ grind arith)
     (λ got next after. survey_goes_left after.1.sizes_stay after.2 (tells.rests got after.0 after.1))) c.next.ensures
 
 -- and of the copying
@@ -76,7 +76,7 @@ returns-in-Copy g c =
     copy_made g.met.M.Medium.sound held.midway tells performed after.1 after.2)
     (λ m n start got least e held performed. copy_refused g.met.M.Medium.sound held.midway tells performed)
     (both tells.rest head_calls)
-    (ap (λ (t : Tally). both t head_calls) tells.pays ∙ both_more tells.rest head_calls (fault_of call))
+    (ap (λ (t : Tally). both t head_calls) tells.pays ∙ grind arith)
     (λ got next after. left_through (grind (arith, after.2)) (both_left head_calls (tells.rests got after.0 after.1))))
     (both_told _ _ _ c.next_copy.result c.next_copy.ensures.told c.next_copy.ensures.kind)
 

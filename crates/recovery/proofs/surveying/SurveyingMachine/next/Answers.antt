@@ -7,7 +7,7 @@ use Rattle.journal.specs.Format2.{format2}
 use Rattle.journal.specs.Formats.{shape_of}
 use Rattle.recovery.specs.Surveying.{HoldsSurveyed, SurveyView}
 use Rattle.recovery.proofs.SurveyedRecords.{untried, named_taken, place_taken, data_place}
-use Rattle.recovery.proofs.Tallies.{read_pays, name_due, name_left, place_due, place_left}
+use Rattle.recovery.proofs.Tallies.{name_pays, name_left, place_pays, place_left}
 use Rattle.journal.specs.declared.reader.RecordReader.{RecordReader}
 use Rattle.recovery.proofs.surveying.SurveyingMachine.next.Goals as goal
 
@@ -35,7 +35,7 @@ returns-in-Some g c =
           (after.reading asked.0);
       refused = λ m n got view next e fits held performed gone. untried held due performed gone;
       rest = _;
-      pays = read_pays _ (name_due s.reader s.left s.place due asked.0);
+      pays = name_pays s.reader s.left s.place due asked.0;
       rests = λ got next after.
           name_left s.reader s.left s.place due asked.0 after.sizes_stay (λ some is.
           let two = next.goes.two some is in
@@ -62,6 +62,6 @@ returns g c =
           (after.placed named);
       refused = λ m n got view next e fits held performed gone. untried held due performed gone;
       rest = _;
-      pays = read_pays _ (place_due s.reader s.left s.place due named below two);
+      pays = place_pays s.reader s.left s.place due named below two;
       rests = λ got next after. place_left s.reader s.left s.place due named below two after.sizes_stay (after.placed named);
     }
