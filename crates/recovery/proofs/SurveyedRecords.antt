@@ -102,16 +102,8 @@ module _ {M : Type 0} {state : M → State} {reader : RecordReader} {left place 
     -- it is not whole
     missed : Try → ¬ HasWhole shape image reader.stamp → {next : RecordReader} {less after : ℕ} {counts : List ℕ}
         → next.sizes ≡ reader.sizes → less ≡ 0 → counts ≡ waiting → HoldsSurveyed state next less after counts view n
-    missed was not sizes none same = rw (none, same) (record {
-      sizes_are = held.sizes_are ∙ sym sizes;
-      quiet = quiet performed;
-      few = omega (arith, held.few);
-      each = held.each;
-      going = λ some. absurd (omega (arith, some));
-      ended = λ none.
-          let all : length waiting + 1 ≡ min (length waiting + 1) view.sizes.slots = omega (arith, going.to.left_is, due) in
-          record { ends = λ less. rw (← going.to.stamp_is) not; calls = λ none. rw (← all) (tried was none) };
-    })
+    missed was not sizes none same =
+        rw (none, same) (grind (arith, held.sizes_are, sizes, quiet performed, held.few, held.each, going.to, tried was, not, due))
 
     -- it is whole
     counted : Try → {count : ℕ} → HasCount shape image reader.stamp count → {next : RecordReader} {less after : ℕ} {counts : List ℕ}
@@ -131,13 +123,7 @@ module _ {M : Type 0} {state : M → State} {reader : RecordReader} {left place 
             before = (state n).calls;
             to = grind (arith, going.to, goes, long, goes.unread.knows image, held.sizes_are, tries);
           };
-          ended = λ none.
-              let all : length waiting + 1 ≡ min (length (waiting ++ count ∷ []) + 1) view.sizes.slots =
-              omega (arith, long, none, goes.left_is, going.to.left_is) in
-              record {
-                ends = λ below. absurd (omega (arith, below, long, none, goes.left_is, going.to.left_is));
-                calls = λ good. rw (← all) (tries good);
-              };
+          ended = λ none. grind (arith, long, none, goes.left_is, going.to.left_is, tries);
         })
 
     -- ---- a sector that names blocks

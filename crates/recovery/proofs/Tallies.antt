@@ -31,11 +31,6 @@ less_read t = record t { reads = t.reads - 1 }
 abbrev pub less_write : Tally → Tally
 less_write t = record t { writes = t.writes - 1 }
 
--- no more of each kind
-pub few_left : {left rest : Tally} → left.reads ≤ rest.reads → left.writes ≤ rest.writes → left.flushes ≤ rest.flushes
-    → IsLeft ⊥ left rest
-few_left reads writes flushes = grind arith
-
 -- how many sectors that name blocks are left
 names_few : (shape : Shape) (at : NamingStage) (read : Record) → IsReader shape at read → IsReading at
     → (1 ≤ names_left at) × (names_left at ≤ record_reads_of shape.format)
@@ -114,7 +109,7 @@ most_tries reader left place same count = rw (← same, ← count) (omega arith)
 -- ---- a start
 -- what is left of some, and the others
 pub both_left : {some rest : Tally} (others : Tally) → IsLeft ⊥ some rest → IsLeft ⊥ (both some others) (both rest others)
-both_left others is = few_left (omega (arith, is.most Read)) (omega (arith, is.most Write)) (omega (arith, is.most Flush))
+both_left others is = grind (arith, is.most Read, is.most Write, is.most Flush)
 
 pub left_through : {few some many : Tally} → IsLeft ⊥ few some → IsLeft ⊥ some many → IsLeft ⊥ few many
 left_through a b = record { most = λ kind. omega (arith, a.most kind, b.most kind); exact = λ e. absurd e }
@@ -130,4 +125,4 @@ pub survey_goes_left : {head : ℕ} {survey : Surveying} {sizes : Super} {rest :
     → IsLeft ⊥ (start_left next) (both rest (home_calls sizes.format sizes.slots))
 survey_goes_left {survey = survey} same goes is = rw (← same) (⊎_elim (λ some. rw some.1 (both_left _ is))
     (λ none. left_through (found_left {slots = survey.reader.sizes.slots} (omega (arith, survey.goes.room)) none.1)
-    (few_left (omega arith) (omega arith) (omega arith))) goes)
+    (grind arith)) goes)

@@ -10,7 +10,7 @@ use Rattle.recovery.proofs.StartBegins.{flushed_first, first_made, looked_start,
 use Rattle.recovery.proofs.StartCopy.{survey_on, copy_made, copy_refused}
 use Rattle.recovery.proofs.StartHead.{copies_flush_made, copies_flush_leaves, head_write_made, head_write_leaves, head_flush_made}
 use Rattle.recovery.proofs.StartHead.{head_flush_leaves}
-use Rattle.recovery.proofs.Tallies.{few_left, both_left}
+use Rattle.recovery.proofs.Tallies.{both_left}
 use Rattle.recovery.proofs.Tallies.{no_tries_left, none_left, left_through, survey_goes_left}
 use Rattle.recovery.proofs.StartBegins.{told, told_by, both_told}
 use Rattle.recovery.proofs.starting.StartingMachine.next.Goals as goal
@@ -87,7 +87,7 @@ returns-in-FlushCopies g c =
     (λ m n start got least next fits held performed after. rw after (copies_flush_made g.met.M.Medium.sound held.midway performed))
     (λ m n start got least e held performed. copies_flush_leaves g.met.M.Medium.sound held.midway performed)
     (record { reads = 0; writes = 1; flushes = 1 }) refl
-    (λ got next after. rw after (few_left (omega arith) (omega arith) (omega arith)))
+    (λ got next after. rw after (grind arith))
 
 -- the head
 pub returns-in-WriteHead : goal.returns-in-WriteHead
@@ -99,7 +99,7 @@ returns-in-WriteHead g c =
     (λ m n start got least next fits held performed after. rw after (head_write_made g.met.M.Medium.sound held.midway c.put_head.ensures performed))
     (λ m n start got least e held performed. head_write_leaves g.met.M.Medium.sound held.midway c.put_head.ensures performed)
     (record { reads = 0; writes = 0; flushes = 1 }) refl
-    (λ got next after. rw after (few_left (omega arith) (omega arith) (omega arith)))
+    (λ got next after. rw after (grind arith))
 
 -- its flush
 pub returns-in-FlushHead : goal.returns-in-FlushHead
@@ -107,4 +107,4 @@ returns-in-FlushHead g c =
     told c.args.self.now c.in-FlushHead.is tt tt tt refl
     (λ m n start got least next fits held performed after. rw after (head_flush_made g.met.M.Medium.sound held.midway performed))
     (λ m n start got least e held performed. head_flush_leaves g.met.M.Medium.sound held.midway performed)
-    none refl (λ got next after. rw after (few_left (omega arith) (omega arith) (omega arith)))
+    none refl (λ got next after. rw after (grind arith))
