@@ -2,10 +2,7 @@ pub mod ImageCalls
 pub mod CopiedBlocks
 pub mod JoinedCalls
 pub mod WholeRecovery
-pub mod Tries
 pub mod SurveyedRecords
 pub mod Looks
-pub mod StartBegins
 pub mod StartCopy
-pub mod StartHead
 pub mod Tallies

@@ -1,8 +1,8 @@
--- The copies of a start, call by call, and what is home at their end.
-use Rattle.std.proofs.Common.{◌≡◌, ◌∙◌, sym, refl, ⊎_elim, ℕ, ◌+◌, ◌*◌, ◌<◌, ◌≤◌, List, [], length, get_or, arith, Result, Ok, Err}
-use Rattle.std.proofs.Common.{false, ◌^◌}
-use Rattle.medium.specs.Medium.{State, CutLeaves, IsSound}
-use Rattle.medium.specs.Moments.{LeavesOnly}
+-- The second half of a start, call by call: the copies, what is home at their end, and the new head.
+use Rattle.std.proofs.Common.{◌≡◌, ◌∙◌, sym, refl, ⊎_elim, ℕ, ◌+◌, ◌*◌, ◌<◌, ◌≤◌, List, [], length, get_or, arith, Result, Ok, Err, false}
+use Rattle.std.proofs.Common.{◌^◌, ◌⊎◌, inl, rules}
+use Rattle.medium.specs.Medium.{State, CutLeaves, IsSound, Image}
+use Rattle.medium.specs.Moments.{LeavesOnly, EachCut}
 use Rattle.medium.specs.Performed.{Performed}
 use Rattle.medium.specs.declared.medium_call.Call.{Call}
 use Rattle.medium.specs.declared.fault.MediumFault.{MediumFault}
@@ -11,23 +11,26 @@ use Rattle.medium.proofs.Tallies.{calls_most, sends_most}
 use Rattle.journal.specs.Places.{sectors_of, first_home, limit_of}
 use Rattle.journal.specs.Formats.{shape_of, IsWhole, HasWhole}
 use Rattle.journal.specs.Record.{Entry}
-use Rattle.recovery.specs.Calls.{Copies, IsHomeInRecords, freed_at, most_calls_of}
+use Rattle.recovery.specs.Calls.{Copies, IsHomeInRecords, freed_at, most_calls_of, HasNewHead, Writes}
 use Rattle.recovery.specs.Copying.{Copying, copies_left, HoldsCopied, IsCopyStep, TellsCopy}
 use Rattle.recovery.specs.Recovered.{LeavesAtLeast}
-use Rattle.recovery.specs.Starting.{IsNewCopying, IsCopiedOn, IsSurveyedOn, found_by}
+use Rattle.recovery.specs.Starting.{IsNewCopying, IsCopiedOn, IsSurveyedOn, found_by, answer_of}
 use Rattle.recovery.specs.HoldsStart.{HoldsStart, IsCopiedSoFar, IsCopying, HasSurveyed, HasCopied, HoldsLook, IsFlushedFirst, HasBegun}
+use Rattle.recovery.specs.HoldsStart.{IsMovingHead, IsFlushedAgain, HasMovedHead}
 use Rattle.recovery.specs.declared.found.Found.{Found}
 use Rattle.recovery.specs.Stages.{StartStage}
 use Rattle.recovery.specs.Causes.{IsSurvey}
 use Rattle.recovery.specs.declared.surveying.Surveying.{Surveying}
-use Rattle.recovery.proofs.JoinedCalls.{quiet_after}
+use Rattle.recovery.proofs.JoinedCalls.{quiet_after, refused_call, flush_writes, writes_on, none_waits}
 use Rattle.recovery.proofs.CopiedBlocks.{gathered, not_copied, all_copied}
 use Rattle.medium.specs.Tally.{of_all}
-use Rattle.recovery.proofs.JoinedCalls.{refused_call}
-use Rattle.recovery.proofs.StartBegins.{surveyed_by, reads_leave, ended_by, looked_start, Goes}
-use Rattle.recovery.proofs.WholeRecovery.{copies_leave, refusal}
-use Rattle.recovery.proofs.Looks.{counted_at_end}
+use Rattle.recovery.proofs.Looks.{surveyed_by, reads_leave, ended_by, looked_start, Goes, counted_at_end}
+use Rattle.recovery.proofs.WholeRecovery.{copies_leave, refusal, moves_leave, recovery_done}
 use Rattle.journal.proofs.StandingLaws.{count_stands}
+use Rattle.medium.specs.declared.medium_call.Call.TheVariants.{Write, Flush}
+use Rattle.medium.proofs.Moments.{at_exit, after_write, one_call}
+use Rattle.journal.specs.Sectors.{IsHead}
+use Rattle.journal.specs.Standing.{IsOurs}
 use Rattle.recovery.specs.declared.start_fault.StartFault.TheVariants as fault
 use Rattle.recovery.specs.Stages as stage
 
@@ -163,3 +166,102 @@ module _ {M : Type 0} {state : M → State} (sound : (m : M) → IsSound (state 
         record { seen = n; surveyed = survey_done none.0 on.0; sound = sound n; first = on.1; first_had = got; new = on.2 },
         not_driven (λ s had m view holds image cut x. holds.at.within x (image x) (cut x)) on.1 got n (sound n),
       ) on.3) none.1) goes
+
+-- what a cut leaves while the head is moved
+abbrev Moved : Found → State → Image → Type 0
+Moved found copied image = CutLeaves copied.may_leave image ⊎ HasNewHead (found.head + found.count + 1) copied.content image
+
+-- the head is written over contents that are flushed
+head_writes : (found : Found) (copied : State) {old new : State} {bytes got : List ℕ} {result : Result (Unit {0}) MediumFault} → IsSound old
+    → IsFlushedAgain found copied old → EachCut (Moved found copied) old → IsHead (found.head + found.count + 1) bytes
+    → Performed (Write 1) bytes got result old new → Writes (Moved found copied) 2 1 old new result
+head_writes found copied {old = old} {new = new} {bytes = bytes} sound flushed each head performed =
+    let written = after_write old sound new.may_leave 1 bytes performed.adds in
+    let last : EachCut (Moved found copied) new = λ image cut. grind (arith, each image, flushed.1, head, written image cut) in
+    let moments = one_call (Moved found copied) old new sound performed.passes each last in
+    grind (arith, moments, performed.spares 2 (omega arith), performed.passes)
+
+-- the copies are flushed
+copies_flushed : (found : Found) {old new : State} {bytes got : List ℕ} {result : Result (Unit {0}) MediumFault} → IsSound old
+    → Performed Flush bytes got result old new → Writes {X = Unit {0}} (Moved found old) 2 1 old new (Ok tt)
+copies_flushed found {old = old} sound performed =
+    let made = flush_writes {P = Moved found old} {end = 2} sound performed.passes performed.changes performed.adds (λ image cut. inl cut) in
+    grind (arith, made, performed.passes.calls_are)
+
+module _ {M : Type 0} {state : M → State} (sound : (m : M) → IsSound (state m)) {least : ℕ} {start : M} {found : Found} where
+  -- what so few calls behind the copies leave
+  moved_leave : {copied n : M} {count : ℕ} → count ≤ 3 → HasCopied state least found start copied
+      → Writes {X = Unit {0}} (Moved found (state copied)) 2 count (state copied) (state n) (Ok tt)
+      → LeavesAtLeast least (state start) (state n)
+  moved_leave few has moves = moves_leave least (surveyed_by has.surveyed.flushed has.surveyed.reads) has.surveyed.is has.sound has.copies
+      has.done few moves
+
+  -- one call more
+  moved_on : {m n : M} {count : ℕ} {Now : Found → State → State → Type 0} {result : Result (Unit {0}) MediumFault}
+      (at : IsMovingHead state least count Now found start m)
+      → (EachCut (Moved found (state at.copied)) (state m) → Writes (Moved found (state at.copied)) 2 1 (state m) (state n) result)
+      → (state n).calls ≡ (state m).calls + 1
+      → Writes {X = Unit {0}} (Moved found (state at.copied)) 2 (count + 1) (state at.copied) (state n) (Ok tt)
+  moved_on {m} {result = result} at last one =
+      let each = at_exit (Moved found (state at.copied)) (state at.copied) (state m) (sound m) at.moves.moments in
+      writes_on {X = Unit {0}} {Y = Unit {0}} {Z = Unit {0}} {one = Ok tt} {two = result} {result = Ok tt} at.moves (last each)
+      (omega arith) tt (omega (arith, at.moves.exact, one))
+
+  module _ {m n : M} {bytes got : List ℕ} where
+    module _ {result : Result (Unit {0}) MediumFault} where
+      pub copies_flush_leaves : HasCopied state least found start m → Performed Flush bytes got result (state m) (state n)
+          → LeavesAtLeast least (state start) (state n)
+      copies_flush_leaves has performed = moved_leave (omega arith) has (copies_flushed found (sound m) performed)
+
+      -- the head is written
+      head_written : (at : IsMovingHead state least 1 IsFlushedAgain found start m)
+          → IsHead (found.head + found.count + 1) bytes → Performed (Write 1) bytes got result (state m) (state n)
+          → Writes {X = Unit {0}} (Moved found (state at.copied)) 2 2 (state at.copied) (state n) (Ok tt)
+      head_written at head performed =
+          moved_on at (λ each. head_writes found (state at.copied) (sound m) at.now each head performed) performed.passes.calls_are
+
+      pub head_write_leaves : IsMovingHead state least 1 IsFlushedAgain found start m → IsHead (found.head + found.count + 1) bytes
+          → Performed (Write 1) bytes got result (state m) (state n) → LeavesAtLeast least (state start) (state n)
+      head_write_leaves at head performed = moved_leave (omega arith) at.has (head_written at head performed)
+
+      -- and flushed
+      head_flushed : (at : IsMovingHead state least 2 HasMovedHead found start m) → Performed Flush bytes got result (state m) (state n)
+          → Writes {X = Unit {0}} (Moved found (state at.copied)) 2 3 (state at.copied) (state n) (Ok tt)
+      head_flushed at performed = moved_on at
+          (λ each. flush_writes (sound m) performed.passes performed.changes performed.adds each) performed.passes.calls_are
+
+      pub head_flush_leaves : IsMovingHead state least 2 HasMovedHead found start m
+          → Performed Flush bytes got result (state m) (state n) → LeavesAtLeast least (state start) (state n)
+      head_flush_leaves at performed = moved_leave (omega arith) at.has (head_flushed at performed)
+
+    pub copies_flush_made : HasCopied state least found start m → Performed Flush bytes got (Ok tt) (state m) (state n)
+        → Goes state least (stage.WriteHead found) got start n
+    copies_flush_made has performed = (
+      copies_flush_leaves has performed,
+      record { copied = m; has = has; moves = copies_flushed found (sound m) performed; now = performed.done },
+    )
+
+    pub head_write_made : IsMovingHead state least 1 IsFlushedAgain found start m → IsHead (found.head + found.count + 1) bytes
+        → Performed (Write 1) bytes got (Ok tt) (state m) (state n) → Goes state least (stage.FlushHead found) got start n
+    head_write_made at head performed = (
+      head_write_leaves at head performed,
+      record {
+        copied = at.copied;
+        has = at.has;
+        moves = head_written at head performed;
+        now = grind (arith, performed.done, head, at.now);
+      },
+    )
+
+    pub head_flush_made : IsMovingHead state least 2 HasMovedHead found start m → Performed Flush bytes got (Ok tt) (state m) (state n)
+        → Goes state least (stage.Started (answer_of found)) got start n
+    head_flush_made at performed =
+        let has = at.has in
+        let stays = performed.done.0 in
+        let leaves = head_flush_leaves at performed in
+        let both = recovery_done least (surveyed_by has.surveyed.flushed has.surveyed.reads) has.surveyed.is has.sound has.copies has.done
+        (state n) (grind (arith, stays, at.now)) (λ s c left. performed.done.1 s c left ∙ sym (stays s))
+        (head_flushed at performed).exact in
+        let clean = λ (shape : _) (array : _) (next : ℕ) (ours : IsOurs (state start).size shape (state start).content array next).
+        none_waits (both.2 shape array next ours (state n).content (sound n).holds_content) in
+        (leaves, search (rules, both, leaves, clean))

@@ -6,7 +6,7 @@ use Rattle.journal.specs.Places.{sectors_of, first_home}
 use Rattle.journal.specs.Formats.{shape_of}
 use Rattle.recovery.specs.Starting.{all_calls}
 use Rattle.recovery.proofs.Looks.{look_refused, super_read, super_looked, head_read, head_looked, survey_read, survey_looked}
-use Rattle.recovery.proofs.StartBegins.{told_by}
+use Rattle.recovery.proofs.Looks.{told_by}
 use Rattle.recovery.proofs.inspecting.InspectingMachine.next.Goals as goal
 
 pub returns-in-ReadSuper : goal.returns-in-ReadSuper

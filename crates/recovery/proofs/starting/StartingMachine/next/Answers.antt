@@ -6,13 +6,13 @@ use Rattle.journal.specs.Places.{sectors_of, first_home}
 use Rattle.journal.specs.Formats.{shape_of}
 use Rattle.recovery.specs.Starting.{head_calls, all_calls, home_calls, both}
 use Rattle.recovery.proofs.Looks.{super_read, super_looked, head_read, head_looked, survey_read, survey_looked}
-use Rattle.recovery.proofs.StartBegins.{flushed_first, first_made, looked_start, reads_leave}
+use Rattle.recovery.proofs.Looks.{flushed_first, first_made, looked_start, reads_leave}
 use Rattle.recovery.proofs.StartCopy.{survey_on, copy_made, copy_refused}
-use Rattle.recovery.proofs.StartHead.{copies_flush_made, copies_flush_leaves, head_write_made, head_write_leaves, head_flush_made}
-use Rattle.recovery.proofs.StartHead.{head_flush_leaves}
+use Rattle.recovery.proofs.StartCopy.{copies_flush_made, copies_flush_leaves, head_write_made, head_write_leaves, head_flush_made}
+use Rattle.recovery.proofs.StartCopy.{head_flush_leaves}
 use Rattle.recovery.proofs.Tallies.{both_left}
 use Rattle.recovery.proofs.Tallies.{no_tries_left, none_left, left_through, survey_goes_left}
-use Rattle.recovery.proofs.StartBegins.{told, told_by, both_told}
+use Rattle.recovery.proofs.Looks.{told, told_by, both_told}
 use Rattle.recovery.proofs.starting.StartingMachine.next.Goals as goal
 
 pub returns-in-FlushFirst : goal.returns-in-FlushFirst
