@@ -108,9 +108,6 @@ module _ {M : Type 0} {state : M → State} {reader : RecordReader} {step : Copy
     module _ {bytes got : List ℕ} {n : M} {place : ℕ}
         (is : place ≡ first_home (shape_of reader.sizes) + get_or reader.read.numbers.items step.i 0)
         {result : Result (Unit {0}) MediumFault} (performed : Performed (Write place) bytes got result (state m) (state n)) where
-      others : (x : ℕ) → x ≢ place → (state n).content x ≡ (state m).content x
-      others x not = ⊎_elim (λ stays. stays x) (λ holds. holds.elsewhere x not) performed.changes
-
       here : place ≡ first_home (shape_of view.sizes) + get_or reader.read.numbers.items step.i 0
       here = rw held.at.sizes_are is
 
@@ -122,12 +119,12 @@ module _ {M : Type 0} {state : M → State} {reader : RecordReader} {step : Copy
 
       copied_before : (k : ℕ) → k < step.i → (state n).content (first_home (shape_of view.sizes) + get_or reader.read.numbers.items k 0)
           ≡ block_of (get_or view.records held.home []) k
-      copied_before k before = grind (arith, others, here, rising k before, held.at.copied k before)
+      copied_before k before = grind (arith, performed.changes, here, rising k before, held.at.copied k before)
 
       elsewhere : (x : ℕ)
           → ¬ IsHomeInRecords (shape_of view.sizes) (state view.start).content view.head (length view.records) x
           → (state n).content x ≡ (state view.start).content x
-      elsewhere x not = grind (arith, others x, not, at_home, held.at.elsewhere x)
+      elsewhere x not = grind (arith, performed.changes, not, at_home, held.at.elsewhere x)
 
       within : (x : ℕ) (c : List ℕ) → (state n).may_leave x c
           → freed_at (IsHomeInRecords (shape_of view.sizes) (state view.start).content view.head (length view.records))
@@ -167,7 +164,7 @@ module _ {M : Type 0} {state : M → State} {reader : RecordReader} {step : Copy
           → ((k : ℕ) → k < step.i + 1 → get_or reader.read.numbers.items k 0 ≢ b)
           → (state n).content (first_home (shape_of view.sizes) + b)
           ≡ with_records (take held.home view.records) (home_of (shape_of view.sizes) (state view.start).content) b
-      others_on none b not = grind (arith, others is performed, not, here is performed, held.at.others (none_failed none) b)
+      others_on none b not = grind (arith, performed.changes, not, here is performed, held.at.others (none_failed none) b)
 
       pub block_written : {next : RecordReader} {after : CopyStep} → HasWritten reader step next after
           → HoldsCopied state next after got view n

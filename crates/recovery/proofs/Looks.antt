@@ -1,11 +1,11 @@
 -- A look at an image, read by read; and a start, which begins with a flush and a look behind it: how each goes on, and how it ends.
-use Rattle.std.proofs.Common.{◌≡◌, ◌≢◌, ◌∙◌, sym, ⊎_elim, ℕ, ◌+◌, ◌<◌, ◌≤◌, List, length, min, refl, ap, arith, rules, Result, Ok, Err, ◌⊎◌}
+use Rattle.std.proofs.Common.{◌≡◌, ◌≢◌, ◌∙◌, sym, ⊎_elim, ℕ, ◌+◌, ◌*◌, ◌<◌, ◌≤◌, List, length, min, refl, ap, arith, rules, Result, Ok, Err, ◌⊎◌}
 use Rattle.std.proofs.Common.{OnOk, Option, MatchOption, IfSome}
 use Rattle.medium.specs.Medium.{State, IsSound}
 use Rattle.medium.specs.Moments.{IsQuiet}
 use Rattle.medium.specs.Performed.{Performed, fault_of, IsWithin, ReadsBefore}
 use Rattle.medium.specs.Machine.{Tallied, TellsCall, IsLeft}
-use Rattle.medium.specs.Tally.{Tally, one_more, none}
+use Rattle.medium.specs.Tally.{of_all, Tally, one_more, none}
 use Rattle.medium.specs.declared.medium_call.Call.{Call}
 use Rattle.medium.specs.declared.medium_call.Call.TheVariants.{Read, Flush}
 use Rattle.medium.specs.declared.fault.MediumFault.{MediumFault}
@@ -19,9 +19,9 @@ use Rattle.journal.specs.Formats.{shape_of}
 use Rattle.journal.specs.Standing.{HasShape}
 use Rattle.journal.specs.Reading.{MakesReadsAlone, IsRefusedCall}
 use Rattle.journal.proofs.SectorNumbers.{IsSuper-one}
-use Rattle.recovery.specs.Calls.{HoldsLog}
+use Rattle.recovery.specs.Calls.{HoldsLog, most_reads_of}
 use Rattle.recovery.specs.Causes.{SurveysAtMost, IsRefusalBy, IsSuperCause, AreCounts, AreTries, IsLookCause, WritesNothing, start_fault_of}
-use Rattle.recovery.specs.Surveying.{HoldsSurveyed, IsSurveyStep}
+use Rattle.recovery.specs.Surveying.{HoldsSurveyed, IsSurveyStep, surveys_left}
 use Rattle.recovery.specs.Starting.{IsReadFirst, FindsSuper, FindsHead, IsNewSurvey, CanStart, CanLook, IsStarting, EndsStart, IsStartStep}
 use Rattle.recovery.specs.Starting.{start_left, start_kind, look_left}
 use Rattle.recovery.specs.HoldsStart.{HoldsLook, HasLooked, HasReadFirst, HasFound, HasBegun, IsSurveyedSoFar, TellsSurvey, HoldsStart}
@@ -34,7 +34,6 @@ use Rattle.recovery.specs.Stages.{StartStage, stage_at}
 use Rattle.recovery.proofs.JoinedCalls.{looked_on}
 use Rattle.recovery.proofs.SurveyedRecords.{counts_made}
 use Rattle.recovery.proofs.SurveyedRecords.{not_tried}
-use Rattle.recovery.proofs.Tallies.{most_tries}
 use Rattle.recovery.specs.Recovered.{LeavesAtLeast}
 use Rattle.recovery.specs.declared.starting.Starting.{Starting}
 use Rattle.recovery.proofs.WholeRecovery.{IsSurveyed, survey_leaves, refusal}
@@ -73,11 +72,6 @@ super_cause : (least : ℕ) {mid new : State} {bytes : List ℕ} (fault : StartF
     → IsQuiet mid new → IsSuperCause mid.size bytes fault → IsRefusalBy least IsQuiet mid new fault
 super_cause least fault some same quiet h = grind arith
 
--- none of its calls is a write or a flush
-reads_alone : {Exact : Type 0} {rest : Tally} {reads : ℕ} {result : Result (Unit {0}) MediumFault} {old new : State}
-    → Tallied Exact (record { reads = reads; writes = 0; flushes = 0 }) rest result old new → MakesReadsAlone old new
-reads_alone t kind other = grind (arith, none_made t kind)
-
 module _ {M : Type 0} (state : M → State) {first : Surveying} {had now_had : List ℕ} {began n : M} {now : Surveying}
     {result : Result (Unit {0}) MediumFault} (so_far : IsSurveyedSoFar state first had began result now now_had n)
     (sizes : Super) (head : ℕ) (new : IsNewSurvey sizes head first) where
@@ -91,12 +85,13 @@ module _ {M : Type 0} (state : M → State) {first : Surveying} {had now_had : L
   -- the super, the head and the reads of the survey
   survey_reads : {mid : M} → HasFound sizes 2 (state mid) (state began) → SurveysAtMost (state mid) (state n)
   survey_reads {mid} found =
-      let most = most_tries first.reader first.left first.place new.sizes_are new.left_is in
+      let most : of_all (surveys_left first.reader first.left first.place) ≤ most_reads_of sizes.format * sizes.slots =
+      rw (new.left_is, ← new.sizes_are) (grind arith) in
       let one = λ (other : _) (is : HasShape (state mid).size other (state mid).content).
       IsSuper-one other (shape_of sizes) _ is.super found.has.super in
       let quiet = quiet_joined _ _ _ found.read.quiet survey_held.quiet in
       let looks = looked_on (shape_of sizes) _ _ _ found.has found.read.looks (rw new.sizes_are at so_far.looks) in
-      grind (arith, quiet, reads_alone so_far.tallied, found.read, one, looks, calls_most so_far.tallied, most, sizes.most_slots)
+      grind (arith, quiet, none_made so_far.tallied, found.read, one, looks, calls_most so_far.tallied, most, sizes.most_slots)
 
 module _ {M : Type 0} {state : M → State} (sound : (m : M) → IsSound (state m)) {least : ℕ} {mid : M} where
   -- it begins: there are sectors, or none

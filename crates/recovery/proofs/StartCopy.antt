@@ -182,7 +182,7 @@ head_writes found copied {old = old} {new = new} {bytes = bytes} sound flushed e
     grind (arith, moments, performed.spares 2 (omega arith), performed.passes)
 
 -- the copies are flushed
-copies_flushed : (found : Found) {old new : State} {bytes got : List ℕ} {result : Result (Unit {0}) MediumFault} → IsSound old
+pub copies_flushed : (found : Found) {old new : State} {bytes got : List ℕ} {result : Result (Unit {0}) MediumFault} → IsSound old
     → Performed Flush bytes got result old new → Writes {X = Unit {0}} (Moved found old) 2 1 old new (Ok tt)
 copies_flushed found {old = old} sound performed =
     let made = flush_writes {P = Moved found old} {end = 2} sound performed.passes performed.changes performed.adds (λ image cut. inl cut) in
@@ -214,7 +214,7 @@ module _ {M : Type 0} {state : M → State} (sound : (m : M) → IsSound (state 
       copies_flush_leaves has performed = moved_leave (omega arith) has (copies_flushed found (sound m) performed)
 
       -- the head is written
-      head_written : (at : IsMovingHead state least 1 IsFlushedAgain found start m)
+      pub head_written : (at : IsMovingHead state least 1 IsFlushedAgain found start m)
           → IsHead (found.head + found.count + 1) bytes → Performed (Write 1) bytes got result (state m) (state n)
           → Writes {X = Unit {0}} (Moved found (state at.copied)) 2 2 (state at.copied) (state n) (Ok tt)
       head_written at head performed =
@@ -233,25 +233,6 @@ module _ {M : Type 0} {state : M → State} (sound : (m : M) → IsSound (state 
       pub head_flush_leaves : IsMovingHead state least 2 HasMovedHead found start m
           → Performed Flush bytes got result (state m) (state n) → LeavesAtLeast least (state start) (state n)
       head_flush_leaves at performed = moved_leave (omega arith) at.has (head_flushed at performed)
-
-    pub copies_flush_made : HasCopied state least found start m → Performed Flush bytes got (Ok tt) (state m) (state n)
-        → Goes state least (stage.WriteHead found) got start n
-    copies_flush_made has performed = (
-      copies_flush_leaves has performed,
-      record { copied = m; has = has; moves = copies_flushed found (sound m) performed; now = performed.done },
-    )
-
-    pub head_write_made : IsMovingHead state least 1 IsFlushedAgain found start m → IsHead (found.head + found.count + 1) bytes
-        → Performed (Write 1) bytes got (Ok tt) (state m) (state n) → Goes state least (stage.FlushHead found) got start n
-    head_write_made at head performed = (
-      head_write_leaves at head performed,
-      record {
-        copied = at.copied;
-        has = at.has;
-        moves = head_written at head performed;
-        now = grind (arith, performed.done, head, at.now);
-      },
-    )
 
     pub head_flush_made : IsMovingHead state least 2 HasMovedHead found start m → Performed Flush bytes got (Ok tt) (state m) (state n)
         → Goes state least (stage.Started (answer_of found)) got start n

@@ -32,79 +32,23 @@ abbrev pub less_write : Tally → Tally
 less_write t = record t { writes = t.writes - 1 }
 
 -- how many sectors that name blocks are left
-names_few : (shape : Shape) (at : NamingStage) (read : Record) → IsReader shape at read → IsReading at
+pub names_few : (shape : Shape) (at : NamingStage) (read : Record) → IsReader shape at read → IsReading at
     → (1 ≤ names_left at) × (names_left at ≤ record_reads_of shape.format)
 names_few shape (at.Descriptor2 count index) read reads is = grind (arith, reads.behind_two count index refl)
 names_few shape stage read reads is = grind (arith, reads.one, reads.behind_one, reads.two)
 
--- ---- a copying
-module _ (reader : RecordReader) (step : CopyStep) (due : 0 < step.left) where
-  module _ (is : IsReading reader.stage) where
-    pub naming_pays : copies_left reader step ≡ one_more (less_read (copies_left reader step)) Read
-    naming_pays = grind (arith, names_few _ reader.stage reader.read reader.reads is)
-
-    pub naming_left : {got : List ℕ} {next : RecordReader} {after : CopyStep} → next.sizes ≡ reader.sizes
-        → IsTakenOrPassed reader step got next after → IsLeft ⊥ (copies_left next after) (less_read (copies_left reader step))
-    naming_left sizes goes = grind (arith, names_few _ reader.stage reader.read reader.reads is)
-
-  module _ (is : reader.stage ≡ at.Named) (below : step.i < length reader.read.numbers.items) where
-    inside : length reader.read.numbers.items ≤ limit_of reader.sizes.format
-    inside = (reader.reads.named is).few
-
-    pub block_pays : step.has_bytes ≡ false → copies_left reader step ≡ one_more (less_read (copies_left reader step)) Read
-    block_pays no_bytes = grind (arith, inside)
-
-    pub block_left : {next : RecordReader} {after : CopyStep} → step.has_bytes ≡ false → HasRead reader step next after
-        → IsLeft ⊥ (copies_left next after) (less_read (copies_left reader step))
-    block_left no_bytes has = grind (arith, inside)
-
-    pub home_pays : copies_left reader step ≡ one_more (less_write (copies_left reader step)) Write
-    home_pays = grind (arith, inside)
-
-    pub home_left : {next : RecordReader} {after : CopyStep} → step.has_bytes ≡ true → next.sizes ≡ reader.sizes
-        → IsBlockStep true reader step next after → IsLeft ⊥ (copies_left next after) (less_write (copies_left reader step))
-    home_left full sizes goes = grind (arith, inside)
-
 -- where no call is left no record is
 pub none_left : (reader : RecordReader) (step : CopyStep) → CanCopy reader step → copies_left reader step ≡ none → step.left ≡ 0
 none_left reader step goes none_is =
-    grind (arith, goes.there, goes.named, inside reader step, names_few _ reader.stage reader.read reader.reads)
-
--- ---- a survey
-module _ (reader : RecordReader) (left place : ℕ) (due : 0 < left) where
-  module _ (is : IsReading reader.stage) where
-    pub name_pays : surveys_left reader left place ≡ one_more (less_read (surveys_left reader left place)) Read
-    name_pays = grind (arith, names_few _ reader.stage reader.read reader.reads is)
-
-    -- the stage behind has spent one more
-    pub name_left : {waiting got counts : List ℕ} {next : RecordReader} {less after : ℕ} → next.sizes ≡ reader.sizes
-        → (0 < less → next.stage ≡ at.Named → (reader.sizes.format ≡ Two) × (length next.read.numbers.items ≤ 240))
-        → TakesName reader left place waiting got next less after counts
-        → IsLeft ⊥ (surveys_left next less after) (less_read (surveys_left reader left place))
-    name_left sizes named goes = grind (arith, names_few _ reader.stage reader.read reader.reads is)
-
-  module _ (is : reader.stage ≡ at.Named) (below : place < length reader.read.numbers.items)
-      (two : reader.sizes.format ≡ Two) where
-    many : length reader.read.numbers.items ≤ 240
-    many = rw two at (reader.reads.named is).few
-
-    pub place_pays : surveys_left reader left place ≡ one_more (less_read (surveys_left reader left place)) Read
-    place_pays = grind (arith, many)
-
-    pub place_left : {waiting got counts : List ℕ} {next : RecordReader} {less after : ℕ} → next.sizes ≡ reader.sizes
-        → TakesPlace reader left place waiting got next less after counts
-        → IsLeft ⊥ (surveys_left next less after) (less_read (surveys_left reader left place))
-    place_left sizes goes = grind (arith, many)
+    let few = λ (named : reader.stage ≡ at.Named). (reader.reads.named named).few in
+    grind (arith, goes.there, goes.named, few, names_few _ reader.stage reader.read reader.reads)
 
 -- where no read is left no slot is
 pub no_tries_left : (reader : RecordReader) (left place : ℕ) {counted : ℕ} → CanSurvey reader left place counted
     → surveys_left reader left place ≡ none → left ≡ 0
 no_tries_left reader left place goes none_is =
-    grind (arith, goes.there, goes.named, goes.two, many reader left place, names_few _ reader.stage reader.read reader.reads)
-
-pub most_tries : (reader : RecordReader) (left place : ℕ) {sizes : Super} {slots : ℕ} → reader.sizes ≡ sizes → left ≡ slots
-    → of_all (surveys_left reader left place) ≤ most_reads_of sizes.format * slots
-most_tries reader left place same count = rw (← same, ← count) (omega arith)
+    let few = λ (named : reader.stage ≡ at.Named). (reader.reads.named named).few in
+    grind (arith, goes.there, goes.named, goes.two, few, names_few _ reader.stage reader.read reader.reads)
 
 -- ---- a start
 -- what is left of some, and the others

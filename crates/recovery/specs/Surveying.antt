@@ -50,84 +50,69 @@ pub record IsCounted (reader : RecordReader) (left : ℕ) (next : RecordReader) 
   pub left_is : less + 1 ≡ left
   pub from_first : place ≡ 0
 
--- the reader took a sector, and goes on or has named the record
-pub record IsNamedOn (reader : RecordReader) (left place : ℕ) (waiting got : List ℕ)
-    (next : RecordReader) (less after : ℕ) (counts : List ℕ) : Type 0 where
-  pub stamp_stays : next.stamp ≡ reader.stamp
-  pub learns : Learns (shape_of reader.sizes) reader.stamp reader.stage reader.read got next.stage
-      next.read
-  pub left_stays : less ≡ left
-  pub place_stays : after ≡ place
-  pub counts_stay : counts ≡ waiting
+module _ (reader : RecordReader) (left place : ℕ) (waiting got : List ℕ) (next : RecordReader)
+    (less after : ℕ) (counts : List ℕ) where
+  -- the reader took a sector, and goes on or has named the record
+  pub record IsNamedOn : Type 0 where
+    pub stamp_stays : next.stamp ≡ reader.stamp
+    pub learns : Learns (shape_of reader.sizes) reader.stamp reader.stage reader.read got
+        next.stage next.read
+    pub left_stays : less ≡ left
+    pub place_stays : after ≡ place
+    pub counts_stay : counts ≡ waiting
 
--- the record is not whole: the survey ends
-pub record IsMissing (reader : RecordReader) (waiting got : List ℕ) (less : ℕ) (counts : List ℕ)
-    : Type 0 where
-  pub read : Record
-  pub learns : Learns (shape_of reader.sizes) reader.stamp reader.stage reader.read got
-      stage.Missing read
-  pub none_left : less ≡ 0
-  pub counts_stay : counts ≡ waiting
+  -- the record is not whole: the survey ends
+  pub record IsMissing : Type 0 where
+    pub read : Record
+    pub learns : Learns (shape_of reader.sizes) reader.stamp reader.stage reader.read got
+        stage.Missing read
+    pub none_left : less ≡ 0
+    pub counts_stay : counts ≡ waiting
 
--- the record of format 1 is whole
-pub record IsWholeOne (reader : RecordReader) (left : ℕ) (waiting got : List ℕ)
-    (next : RecordReader) (less after : ℕ) (counts : List ℕ) : Type 0 where
-  pub read : Record
-  pub one : HasNoStamps reader.sizes.format
-  pub learns : Learns (shape_of reader.sizes) reader.stamp reader.stage reader.read got
-      stage.Named read
-  pub counts_are : counts ≡ waiting ++ length read.numbers.items ∷ []
-  pub counted : IsCounted reader left next less after
+  -- the record of format 1 is whole
+  pub record IsWholeOne : Type 0 where
+    pub read : Record
+    pub one : HasNoStamps reader.sizes.format
+    pub learns : Learns (shape_of reader.sizes) reader.stamp reader.stage reader.read got
+        stage.Named read
+    pub counts_are : counts ≡ waiting ++ length read.numbers.items ∷ []
+    pub counted : IsCounted reader left next less after
 
--- one of these, once a sector was read that names blocks
-abbrev pub TakesName : RecordReader → ℕ → ℕ → List ℕ → List ℕ → RecordReader → ℕ → ℕ → List ℕ
-    → Type 0
-TakesName reader left place waiting got next less after counts =
-    IsNamedOn reader left place waiting got next less after counts
-    ⊎ IsMissing reader waiting got less counts
-    ⊎ IsWholeOne reader left waiting got next less after counts
+  -- one of these, once a sector was read that names blocks
+  abbrev pub TakesName : Type 0
+  TakesName = IsNamedOn ⊎ IsMissing ⊎ IsWholeOne
 
--- a data place carries the stamp, and one more is to be read
-pub record IsPlaced (reader : RecordReader) (left place : ℕ) (waiting got : List ℕ)
-    (next : RecordReader) (less after : ℕ) (counts : List ℕ) : Type 0 where
-  pub stamped : got ≡ place_bytes reader.stamp got
-  pub more : place + 1 < length reader.read.numbers.items
-  pub reader_stays : next ≡ reader
-  pub left_stays : less ≡ left
-  pub place_on : after ≡ place + 1
-  pub counts_stay : counts ≡ waiting
+  -- a data place carries the stamp, and one more is to be read
+  pub record IsPlaced : Type 0 where
+    pub stamped : got ≡ place_bytes reader.stamp got
+    pub more : place + 1 < length reader.read.numbers.items
+    pub reader_stays : next ≡ reader
+    pub left_stays : less ≡ left
+    pub place_on : after ≡ place + 1
+    pub counts_stay : counts ≡ waiting
 
--- it was the last one
-pub record IsWholeTwo (reader : RecordReader) (left place : ℕ) (waiting got : List ℕ)
-    (next : RecordReader) (less after : ℕ) (counts : List ℕ) : Type 0 where
-  pub stamped : got ≡ place_bytes reader.stamp got
-  pub last : length reader.read.numbers.items ≤ place + 1
-  pub counts_are : counts ≡ waiting ++ length reader.read.numbers.items ∷ []
-  pub counted : IsCounted reader left next less after
+  -- it was the last one
+  pub record IsWholeTwo : Type 0 where
+    pub stamped : got ≡ place_bytes reader.stamp got
+    pub last : length reader.read.numbers.items ≤ place + 1
+    pub counts_are : counts ≡ waiting ++ length reader.read.numbers.items ∷ []
+    pub counted : IsCounted reader left next less after
 
--- it does not: the survey ends
-pub record IsUnstamped (reader : RecordReader) (waiting got : List ℕ) (less : ℕ)
-    (counts : List ℕ) : Type 0 where
-  pub bad : ¬ (got ≡ place_bytes reader.stamp got)
-  pub none_left : less ≡ 0
-  pub counts_stay : counts ≡ waiting
+  -- it does not: the survey ends
+  pub record IsUnstamped : Type 0 where
+    pub bad : ¬ (got ≡ place_bytes reader.stamp got)
+    pub none_left : less ≡ 0
+    pub counts_stay : counts ≡ waiting
 
--- one of these, once a data place was read
-abbrev pub TakesPlace : RecordReader → ℕ → ℕ → List ℕ → List ℕ → RecordReader → ℕ → ℕ → List ℕ
-    → Type 0
-TakesPlace reader left place waiting got next less after counts =
-    IsPlaced reader left place waiting got next less after counts
-    ⊎ IsUnstamped reader waiting got less counts
-    ⊎ IsWholeTwo reader left place waiting got next less after counts
+  -- one of these, once a data place was read
+  abbrev pub TakesPlace : Type 0
+  TakesPlace = IsPlaced ⊎ IsUnstamped ⊎ IsWholeTwo
 
--- the next call was made
-pub record IsSurveyStep (reader : RecordReader) (left place : ℕ) (waiting got : List ℕ)
-    (next : RecordReader) (less after : ℕ) (counts : List ℕ) : Type 0 where
-  pub sizes_stay : next.sizes ≡ reader.sizes
-  pub reading : IsReading reader.stage
-      → TakesName reader left place waiting got next less after counts
-  pub placed : reader.stage ≡ stage.Named
-      → TakesPlace reader left place waiting got next less after counts
+  -- the next call was made
+  pub record IsSurveyStep : Type 0 where
+    pub sizes_stay : next.sizes ≡ reader.sizes
+    pub reading : IsReading reader.stage → TakesName
+    pub placed : reader.stage ≡ stage.Named → TakesPlace
 
 -- it was refused, which changes nothing
 pub record IsRefusedSurvey (reader : RecordReader) (left place : ℕ) (waiting : List ℕ)

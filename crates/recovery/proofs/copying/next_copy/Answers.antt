@@ -5,10 +5,10 @@ use Rattle.journal.specs.Places.{first_home, limit_of}
 use Rattle.journal.specs.Formats.{shape_of}
 use Rattle.journal.specs.declared.reader.RecordReader.{RecordReader}
 use Rattle.recovery.specs.declared.copy_step.CopyStep.{CopyStep}
-use Rattle.recovery.specs.Copying.{IsBlockStep}
+use Rattle.recovery.specs.Copying.{IsBlockStep, copies_left}
 use Rattle.recovery.proofs.SurveyedRecords.{data_place}
 use Rattle.recovery.proofs.CopiedBlocks.{unread, took, block_read, unwritten, block_written, record_written}
-use Rattle.recovery.proofs.Tallies.{naming_pays, naming_left, block_pays, block_left, home_pays, home_left}
+use Rattle.recovery.proofs.Tallies.{less_read, less_write, names_few}
 use Rattle.recovery.proofs.copying.next_copy.Goals as goal
 
 -- by whether the bytes of a block were read
@@ -30,9 +30,10 @@ returns-in-Some-clause-told g c =
       made = λ m n got view next fits held performed after.
           took held performed due asked.1 asked.2 first.0 first.1 (after.reading asked.0);
       refused = λ m n got view next e fits held performed gone. unread held performed gone;
-      rest = _;
-      pays = naming_pays reader step due asked.0;
-      rests = λ got next after. naming_left reader step due asked.0 after.sizes_stay (after.reading asked.0);
+      rest = less_read (copies_left reader step);
+      pays = grind (arith, due, names_few _ reader.stage reader.read reader.reads asked.0);
+      rests = λ got next after.
+          grind (arith, due, names_few _ reader.stage reader.read reader.reads asked.0, after.sizes_stay, after.reading asked.0);
     }
 
 pub returns-then-not-step-clause-told : goal.returns-then-not-step-clause-told
@@ -52,10 +53,10 @@ returns-then-not-step-clause-told g c =
       made = λ m n got view next fits held performed after.
           block_read held performed due lies.1 lies.0 no_bytes (stepped reader step next.reader next.step no_bytes (after.copying named));
       refused = λ m n got view next e fits held performed gone. unread held performed gone;
-      rest = _;
-      pays = block_pays reader step due named below no_bytes;
+      rest = less_read (copies_left reader step);
+      pays = grind (arith, due, named, below, inside, no_bytes);
       rests = λ got next after.
-          block_left reader step due named below no_bytes (stepped reader step next.reader next.step no_bytes (after.copying named));
+          grind (arith, due, named, below, inside, no_bytes, stepped reader step next.reader next.step no_bytes (after.copying named));
     }
 
 pub returns-clause-told : goal.returns-clause-told
@@ -82,9 +83,16 @@ returns-clause-told g c =
           (λ last. record_written held due named below is full bytes_are performed last.0 last.1)
           (stepped reader step next.reader next.step full (after.copying named));
       refused = λ m n got view next e fits held performed gone. unwritten held due named below is performed gone;
-      rest = _;
-      pays = home_pays reader step due named below;
-      rests = λ got next after.
-          home_left reader step due named below full after.sizes_stay
-          (stepped reader step next.reader next.step full (after.copying named));
+      rest = less_write (copies_left reader step);
+      pays = grind (arith, due, named, below, names.few, full);
+      rests = λ got next after. grind (
+        arith,
+        due,
+        named,
+        below,
+        names.few,
+        full,
+        after.sizes_stay,
+        stepped reader step next.reader next.step full (after.copying named),
+      );
     }

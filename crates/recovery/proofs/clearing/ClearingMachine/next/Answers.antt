@@ -11,11 +11,6 @@ use Rattle.recovery.proofs.clearing.ClearingMachine.next.Goals as goal
 
 module _ {M : Type 0} {state : M → State} {at end : ℕ} {view : ClearView M} {m n : M} {got : List ℕ} (below : at < end)
     (held : HoldsCleared state at end view m) where
-  -- each other sector holds what it held
-  others : {result : Result (Unit {0}) MediumFault} → Performed (Write at) (replicate 512 0) got result (state m) (state n)
-      → (x : ℕ) → x ≢ at → (state n).content x ≡ (state m).content x
-  others performed x not = ⊎_elim (λ stays. stays x) (λ holds. holds.elsewhere x not) performed.changes
-
   -- the zeros are written, or refused
   cleared_still : {result : Result (Unit {0}) MediumFault} → Performed (Write at) (replicate 512 0) got result (state m) (state n)
       → HoldsCleared state at end view n
@@ -23,7 +18,7 @@ module _ {M : Type 0} {state : M → State} {at end : ℕ} {view : ClearView M} 
       let within = gains_within (cleared_at (IsBetween view.from view.end) (state view.start).may_leave) _ _ at (replicate 512 0)
       held.within performed.adds
       (λ x bytes here. inr ((omega (arith, held.begun, here.0), omega (arith, below, held.end_is, here.0)), here.1)) in
-      grind (arith, held.begun, held.end_is, held.zeros, held.elsewhere, others performed, within)
+      grind (arith, held.begun, held.end_is, held.zeros, held.elsewhere, performed.changes, within)
 
   -- they are written
   cleared_on : Performed (Write at) (replicate 512 0) got (Ok tt) (state m) (state n) → HoldsCleared state (at + 1) end view n

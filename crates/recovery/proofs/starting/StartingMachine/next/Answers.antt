@@ -8,7 +8,7 @@ use Rattle.recovery.specs.Starting.{head_calls, all_calls, home_calls, both}
 use Rattle.recovery.proofs.Looks.{super_read, super_looked, head_read, head_looked, survey_read, survey_looked}
 use Rattle.recovery.proofs.Looks.{flushed_first, first_made, looked_start, reads_leave}
 use Rattle.recovery.proofs.StartCopy.{survey_on, copy_made, copy_refused}
-use Rattle.recovery.proofs.StartCopy.{copies_flush_made, copies_flush_leaves, head_write_made, head_write_leaves, head_flush_made}
+use Rattle.recovery.proofs.StartCopy.{copies_flushed, copies_flush_leaves, head_written, head_write_leaves, head_flush_made}
 use Rattle.recovery.proofs.StartCopy.{head_flush_leaves}
 use Rattle.recovery.proofs.Tallies.{both_left}
 use Rattle.recovery.proofs.Tallies.{no_tries_left, none_left, left_through, survey_goes_left}
@@ -84,7 +84,10 @@ returns-in-Copy g c =
 pub returns-in-FlushCopies : goal.returns-in-FlushCopies
 returns-in-FlushCopies g c =
     told c.args.self.now c.in-FlushCopies.is tt tt tt refl
-    (λ m n start got least next fits held performed after. rw after (copies_flush_made g.met.M.Medium.sound held.midway performed))
+    (λ m n start got least next fits held performed after. rw after (
+      copies_flush_leaves g.met.M.Medium.sound held.midway performed,
+      record { copied = m; has = held.midway; moves = copies_flushed c.in-FlushCopies.field-0 (g.met.M.Medium.sound m) performed; now = performed.done },
+    ))
     (λ m n start got least e held performed. copies_flush_leaves g.met.M.Medium.sound held.midway performed)
     (record { reads = 0; writes = 1; flushes = 1 }) refl
     (λ got next after. rw after (grind arith))
@@ -96,7 +99,11 @@ returns-in-WriteHead g c =
     let found = c.in-WriteHead.found in
     let some : 1 < s.sectors = omega (arith, (s.goes.move found c.in-WriteHead.is).fits, found.sizes.home_is.0) in
     told s c.in-WriteHead.is tt some tt refl
-    (λ m n start got least next fits held performed after. rw after (head_write_made g.met.M.Medium.sound held.midway c.put_head.ensures performed))
+    (λ m n start got least next fits held performed after. rw after (
+    let at = held.midway in let head = c.put_head.ensures in let moves = head_written g.met.M.Medium.sound at head performed in (
+      head_write_leaves g.met.M.Medium.sound at head performed,
+      record { copied = at.copied; has = at.has; moves = moves; now = grind (arith, performed.done, head, at.now) },
+    )))
     (λ m n start got least e held performed. head_write_leaves g.met.M.Medium.sound held.midway c.put_head.ensures performed)
     (record { reads = 0; writes = 0; flushes = 1 }) refl
     (λ got next after. rw after (grind arith))

@@ -5,9 +5,9 @@ use Rattle.journal.specs.Places.{first_home, sectors_of}
 use Rattle.journal.specs.Layout.{slot_at}
 use Rattle.journal.specs.Format2.{format2}
 use Rattle.journal.specs.Formats.{shape_of}
-use Rattle.recovery.specs.Surveying.{HoldsSurveyed, SurveyView}
+use Rattle.recovery.specs.Surveying.{HoldsSurveyed, SurveyView, surveys_left}
 use Rattle.recovery.proofs.SurveyedRecords.{untried, named_taken, place_taken, data_place}
-use Rattle.recovery.proofs.Tallies.{name_pays, name_left, place_pays, place_left}
+use Rattle.recovery.proofs.Tallies.{less_read, names_few}
 use Rattle.journal.specs.declared.reader.RecordReader.{RecordReader}
 use Rattle.recovery.proofs.surveying.SurveyingMachine.next.Goals as goal
 
@@ -34,12 +34,19 @@ returns-in-Some g c =
           named_taken held due (all_sized held (g.met.M.Medium.sound m) fits) performed asked.2 first after.sizes_stay
           (after.reading asked.0);
       refused = λ m n got view next e fits held performed gone. untried held due performed gone;
-      rest = _;
-      pays = name_pays s.reader s.left s.place due asked.0;
+      rest = less_read (surveys_left s.reader s.left s.place);
+      pays = grind (arith, due, names_few _ s.reader.stage s.reader.read s.reader.reads asked.0);
       rests = λ got next after.
-          name_left s.reader s.left s.place due asked.0 after.sizes_stay (λ some is.
-          let two = next.goes.two some is in
-          (rw after.sizes_stay at two, rw two at (next.reader.reads.named is).few)) (after.reading asked.0);
+          let few = λ (named : next.reader.stage ≡ Named). (next.reader.reads.named named).few in
+          grind (
+            arith,
+            due,
+            names_few _ s.reader.stage s.reader.read s.reader.reads asked.0,
+            next.goes.two,
+            few,
+            after.sizes_stay,
+            after.reading asked.0,
+          );
     }
 
 pub returns : goal.returns
@@ -61,7 +68,7 @@ returns g c =
           place_taken held due (all_sized held (g.met.M.Medium.sound m) fits) performed named two below here after.sizes_stay
           (after.placed named);
       refused = λ m n got view next e fits held performed gone. untried held due performed gone;
-      rest = _;
-      pays = place_pays s.reader s.left s.place due named below two;
-      rests = λ got next after. place_left s.reader s.left s.place due named below two after.sizes_stay (after.placed named);
+      rest = less_read (surveys_left s.reader s.left s.place);
+      pays = grind (arith, due, named, below, two, few);
+      rests = λ got next after. grind (arith, due, named, below, two, few, after.sizes_stay, after.placed named);
     }
