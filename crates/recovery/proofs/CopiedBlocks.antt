@@ -1,25 +1,17 @@
 -- Records are copied home, call by call.
-use Rattle.std.proofs.Common.{◌≡◌, ◌≢◌, ◌<◌, ◌≤◌, ◌+◌, ◌*◌, ◌++◌, ℕ, List, [], ◌∷◌, length, drop, get_or, take, inl, inr, ⊎_elim}
-use Rattle.std.proofs.Common.{◌∙◌, sym, refl, arith, Ok, Err, Result, true, false, Some, zero, suc}
+use Rattle.std.proofs.Common.{◌≡◌, ◌≢◌, ◌<◌, ◌≤◌, ◌+◌, ◌*◌, ◌++◌, ℕ, List, [], ◌∷◌, length, drop, get_or, take, inl, inr, ◌∙◌, sym, refl}
+use Rattle.std.proofs.Common.{arith, Ok, Err, Result, true, false, Some, zero, suc}
 use Rattle.std.proofs.lemmas.List.{take_more, take_all, length-append, get_or_append_left, get_or_push}
-use Rattle.medium.specs.Medium.{State, Image}
-use Rattle.medium.specs.Performed.{Performed}
-use Rattle.medium.specs.declared.fault.MediumFault.{MediumFault}
 use Rattle.medium.specs.declared.medium_call.Call.TheVariants.{Read, Write}
+use Rattle.medium.specs.{Medium.State, Medium.Image, Performed.Performed, declared.fault.MediumFault.MediumFault}
 use Rattle.medium.proofs.Moments.{gains_within}
-use Rattle.journal.specs.declared.log_format.LogFormat.{LogFormat}
-use Rattle.journal.specs.declared.record.Record.{Record}
-use Rattle.journal.specs.declared.reader.RecordReader.{RecordReader}
-use Rattle.journal.specs.declared.naming_stage.NamingStage.TheVariants.{Named}
-use Rattle.journal.specs.Places.{Shape, first_home}
-use Rattle.journal.specs.Formats.{shape_of, IsWhole}
-use Rattle.journal.specs.Record.{Entry, numbers_of, with_records, home_of, block_of}
-use Rattle.journal.specs.Reading.{data_at, IsRead, IsReadFor}
-use Rattle.journal.specs.Naming.{IsKnown, Learns, naming_place}
+use Rattle.journal.specs.{declared.log_format.LogFormat.LogFormat, declared.record.Record.Record, declared.reader.RecordReader.RecordReader}
+use Rattle.journal.specs.{declared.naming_stage.NamingStage.TheVariants.Named, Places.Shape, Places.first_home, Formats.shape_of}
+use Rattle.journal.specs.{Formats.IsWhole, Record.Entry, Record.numbers_of, Record.with_records, Record.home_of, Record.block_of}
+use Rattle.journal.specs.{Reading.data_at, Reading.IsRead, Reading.IsReadFor, Naming.IsKnown, Naming.Learns, Naming.naming_place}
 use Rattle.journal.proofs.Wholeness.{with_blocks-copied, with_records-append}
 use Rattle.recovery.specs.Calls.{IsHomeOf, IsHomeInRecords, freed_at, copy_calls, calls_of, AreCopied}
-use Rattle.recovery.specs.Copying.{CopyView, HasHome, HoldsCopied, IsNextRecord, HasRead, HasWritten, IsRefusedStep}
-use Rattle.recovery.specs.Copying.{IsTakenOrPassed}
+use Rattle.recovery.specs.Copying.{CopyView, HasHome, HoldsCopied, IsNextRecord, HasRead, HasWritten, IsRefusedStep, IsTakenOrPassed}
 use Rattle.recovery.specs.declared.copy_step.CopyStep.{CopyStep}
 use Rattle.recovery.proofs.JoinedCalls.{not_in_log, number_of, long_as}
 
@@ -70,7 +62,8 @@ module _ {M : Type 0} {state : M → State} {reader : RecordReader} {step : Copy
 
       pub took : {next : RecordReader} {after : CopyStep} → step.i ≡ 0 → step.has_bytes ≡ false
           → IsTakenOrPassed reader step got next after → HoldsCopied state next after got view n
-      took first no_bytes (inl taken) = rw taken.step_stays (with_home held.home (held.reads + 1) (grind (arith, performed, held.at, taken, learned taken.learns)))
+      took first no_bytes (inl taken) =
+          rw taken.step_stays (with_home held.home (held.reads + 1) (grind (arith, performed, held.at, taken, learned taken.learns)))
       took first no_bytes (inr passed) =
           -- the record is whole
           let inside : held.home < length view.records = omega (arith, held.at.left_is, due) in
@@ -140,7 +133,8 @@ module _ {M : Type 0} {state : M → State} {reader : RecordReader} {step : Copy
     unwritten {next = next} {after = after} is performed gone =
         let same = gone.reader_stays in
         let failed = performed.passes.failures_are in
-        rw same (with_home held.home held.reads (grind (arith, held.at.whole, held.at.known, copied_before is performed, elsewhere is performed, within is performed)))
+        rw same (with_home held.home held.reads
+        (grind (arith, held.at.whole, held.at.known, copied_before is performed, elsewhere is performed, within is performed)))
 
     -- it is written, and there is one more, or none
     module _ {bytes got : List ℕ} {n : M} {place : ℕ}
@@ -169,7 +163,8 @@ module _ {M : Type 0} {state : M → State} {reader : RecordReader} {step : Copy
       pub block_written : {next : RecordReader} {after : CopyStep} → HasWritten reader step next after
           → HoldsCopied state next after got view n
       block_written {next = next} {after = after} has =
-          rw has.reader_stays (with_home held.home held.reads (grind (arith, performed, held.at, copied_on, others_on, elsewhere is performed, within is performed)))
+          rw has.reader_stays (with_home held.home held.reads
+          (grind (arith, performed, held.at, copied_on, others_on, elsewhere is performed, within is performed)))
 
       pub record_written : {next : RecordReader} {after : CopyStep} → length reader.read.numbers.items ≤ step.i + 1
           → IsNextRecord reader step next after → HoldsCopied state next after got view n
@@ -196,7 +191,8 @@ module _ {M : Type 0} {state : M → State} {reader : RecordReader} {step : Copy
             all,
             copy_calls-append view.sizes.format (take held.home view.records) entries,
           )) in
-          with_home (held.home + 1) 0 (grind (arith, held.at.whole, goes.unread.knows start, copied, calls, elsewhere is performed, within is performed))
+          with_home (held.home + 1) 0
+          (grind (arith, held.at.whole, goes.unread.knows start, copied, calls, elsewhere is performed, within is performed))
 
 -- what holds of each stamp holds of each of a list
 pub gathered : (P : ℕ → List Entry → Type 0) (count : ℕ) → ((j : ℕ) → j < count → (entries : List Entry) × P j entries)

@@ -1,28 +1,18 @@
 -- The calls that write a new image, and what each leaves of what was shown before it.
-use Rattle.std.proofs.Common.{◌≡◌, ◌≢◌, ◌<◌, ◌≤◌, ◌⊎◌, ◌+◌, ℕ, List, ◌∷◌, Ok, Err, OnOk, Result, refl, ◌∙◌, sym, ap, ⊎_elim}
-use Rattle.std.proofs.Common.{arith, rules, replicate}
-use Rattle.medium.specs.Medium.{State, Image, Holds, IsSound, Passes}
-use Rattle.medium.specs.Moments.{EachCut, IsFlushed}
-use Rattle.medium.specs.Machine.{TellsCall, Driven, Tallied}
-use Rattle.medium.specs.Performed.{Performed}
-use Rattle.medium.specs.declared.fault.MediumFault.{MediumFault}
-use Rattle.medium.specs.declared.fault.MediumFault.TheVariants as fault
-use Rattle.medium.specs.declared.medium_call.Call.{Call}
-use Rattle.medium.specs.declared.medium_call.Call.TheVariants.{Write, Flush}
-use Rattle.medium.specs.Tally.{none, of_all, one_more}
-use Rattle.medium.proofs.Driving.{left_all}
-use Rattle.medium.proofs.Moments.{after_write, shrunk, weaker}
-use Rattle.medium.proofs.Tallies.{calls_most, calls_all, sends_most}
+use Rattle.std.proofs.Common.{◌≡◌, ◌≢◌, ◌<◌, ◌≤◌, ◌+◌, ℕ, List, ◌∷◌, Ok, Err, OnOk, Result, refl, ◌∙◌, sym, ap, ⊎_elim, arith, rules}
 use Rattle.std.proofs.lemmas.Result.{on_ok_weaker}
-use Rattle.journal.specs.Sectors.{IsHead, IsSuper}
-use Rattle.journal.specs.Formats.{shape_of}
-use Rattle.recovery.specs.NewImage.{ImageView, Under, Shows, IsBlank, IsHeaded, IsPart, IsPartAt, IsNew, IsPartOrNew, HasImage, MidwayImage}
-use Rattle.recovery.specs.Calls.{Writes, AreMade}
+use Rattle.medium.specs.declared.medium_call.Call.TheVariants.{Write, Flush}
+use Rattle.medium.specs.{Medium.State, Medium.Image, Medium.Holds, Medium.IsSound, Medium.Passes, Moments.EachCut, Moments.IsFlushed}
+use Rattle.medium.specs.{Machine.TellsCall, Machine.Driven, Machine.Tallied, Performed.Performed, declared.fault.MediumFault.MediumFault}
+use Rattle.medium.specs.{declared.medium_call.Call.Call, Tally.none, Tally.of_all, Tally.one_more}
+use Rattle.medium.proofs.{Driving.left_all, Moments.after_write, Moments.shrunk, Moments.weaker, Tallies.calls_most, Tallies.calls_all}
+use Rattle.medium.proofs.{Tallies.sends_most}
+use Rattle.recovery.specs.NewImage.{ImageView, Under, Shows, IsNew, IsPartOrNew, HasImage, MidwayImage, HoldsImage, MayBeImage, IsLive}
+use Rattle.recovery.specs.NewImage.{IsAfter, image_left, calls_ahead, each_midway}
+use Rattle.recovery.specs.{Calls.Writes, Calls.AreMade, declared.image_plan.ImagePlan.ImagePlan, declared.new_image.NewImage.NewImage}
+use Rattle.recovery.specs.{declared.image_stage.ImageStage.ImageStage}
 use Rattle.recovery.proofs.JoinedCalls.{refused_call, none_read}
-use Rattle.recovery.specs.NewImage.{HoldsImage, MayBeImage, IsLive, IsAfter, image_left, calls_ahead, each_midway}
-use Rattle.recovery.specs.declared.image_plan.ImagePlan.{ImagePlan}
-use Rattle.recovery.specs.declared.new_image.NewImage.{NewImage}
-use Rattle.recovery.specs.declared.image_stage.ImageStage.{ImageStage}
+use Rattle.medium.specs.declared.fault.MediumFault.TheVariants as fault
 use Rattle.recovery.specs.declared.image_stage.ImageStage.TheVariants as stage
 
 module _ {K : Image → Type 0} {old new : State} {bytes got : List ℕ} where
@@ -139,7 +129,8 @@ module _ {M : Type 0} {state : M → State} (sound : (m : M) → IsSound (state 
         rw (after.0, leads t.stage (rw is at after.1)) (moved (sound m) h live performed.passes next lives
         (omega (arith, ap of_all one)) (omega (arith, ap of_all one))
         (flush_shows (HasImage s.plan view.under next) (MidwayImage s.plan view.under next (state view.start)) (sound m) h.shows performed
-        (becomes view (state m).content)) (λ e s c left. performed.done.1 s c left ∙ sym (performed.done.0 s)) (λ k rest. rw ahead (n, bytes, got, performed, rest)));
+        (becomes view (state m).content)) (λ e s c left. performed.done.1 s c left ∙ sym (performed.done.0 s))
+        (λ k rest. rw ahead (n, bytes, got, performed, rest)));
     refused = λ m n got view t e fits held performed gone.
         let h = rw is at held in
         rw (gone.0, gone.1) (stopped (sound m) h live performed.passes at live (omega arith)

@@ -1,42 +1,26 @@
 -- A look at an image, read by read; and a start, which begins with a flush and a look behind it: how each goes on, and how it ends.
-use Rattle.std.proofs.Common.{◌≡◌, ◌≢◌, ◌∙◌, sym, ⊎_elim, ℕ, ◌+◌, ◌*◌, ◌<◌, ◌≤◌, List, length, min, refl, ap, arith, rules, Result, Ok, Err, ◌⊎◌}
-use Rattle.std.proofs.Common.{OnOk, Option, MatchOption, IfSome}
-use Rattle.medium.specs.Medium.{State, IsSound}
-use Rattle.medium.specs.Moments.{IsQuiet}
+use Rattle.std.proofs.Common.{◌≡◌, ◌≢◌, ◌∙◌, sym, ⊎_elim, ℕ, ◌+◌, ◌*◌, ◌<◌, ◌≤◌, List, length, min, refl, ap, arith, rules, Result, Ok, Err}
+use Rattle.std.proofs.Common.{◌⊎◌, OnOk, Option, MatchOption, IfSome}
 use Rattle.medium.specs.Performed.{Performed, fault_of, IsWithin, ReadsBefore}
-use Rattle.medium.specs.Machine.{Tallied, TellsCall, IsLeft}
-use Rattle.medium.specs.Tally.{of_all, Tally, one_more, none}
-use Rattle.medium.specs.declared.medium_call.Call.{Call}
 use Rattle.medium.specs.declared.medium_call.Call.TheVariants.{Read, Flush}
-use Rattle.medium.specs.declared.fault.MediumFault.{MediumFault}
-use Rattle.medium.proofs.Moments.{quiet_start, quiet_call, quiet_joined}
-use Rattle.medium.proofs.SectorsRead.{no_looks, looks_joined}
-use Rattle.medium.proofs.Driving.{not_driven, driven_call, driven_refused}
-use Rattle.medium.proofs.Tallies.{calls_most, none_made, refusal_counts}
-use Rattle.journal.specs.declared.super_sector.Super.{Super}
-use Rattle.journal.specs.Places.{Shape, sectors_of}
-use Rattle.journal.specs.Formats.{shape_of}
-use Rattle.journal.specs.Standing.{HasShape}
-use Rattle.journal.specs.Reading.{MakesReadsAlone, IsRefusedCall}
+use Rattle.medium.specs.{Medium.State, Medium.IsSound, Moments.IsQuiet, Machine.Tallied, Machine.TellsCall, Machine.IsLeft, Tally.of_all}
+use Rattle.medium.specs.{Tally.Tally, Tally.one_more, Tally.none, declared.medium_call.Call.Call, declared.fault.MediumFault.MediumFault}
+use Rattle.medium.proofs.{Moments.quiet_start, Moments.quiet_call, Moments.quiet_joined, SectorsRead.no_looks, SectorsRead.looks_joined}
+use Rattle.medium.proofs.{Driving.not_driven, Driving.driven_call, Driving.driven_refused, Tallies.calls_most, Tallies.none_made}
+use Rattle.medium.proofs.{Tallies.refusal_counts}
+use Rattle.journal.specs.{declared.super_sector.Super.Super, Places.Shape, Places.sectors_of, Formats.shape_of, Standing.HasShape}
 use Rattle.journal.proofs.SectorNumbers.{IsSuper-one}
-use Rattle.recovery.specs.Calls.{HoldsLog, most_reads_of}
 use Rattle.recovery.specs.Causes.{SurveysAtMost, IsRefusalBy, IsSuperCause, AreCounts, AreTries, IsLookCause, WritesNothing, start_fault_of}
-use Rattle.recovery.specs.Surveying.{HoldsSurveyed, IsSurveyStep, surveys_left}
 use Rattle.recovery.specs.Starting.{IsReadFirst, FindsSuper, FindsHead, IsNewSurvey, CanStart, CanLook, IsStarting, EndsStart, IsStartStep}
-use Rattle.recovery.specs.Starting.{start_left, start_kind, look_left}
+use Rattle.recovery.specs.Starting.{start_left, start_kind}
 use Rattle.recovery.specs.HoldsStart.{HoldsLook, HasLooked, HasReadFirst, HasFound, HasBegun, IsSurveyedSoFar, TellsSurvey, HoldsStart}
 use Rattle.recovery.specs.HoldsStart.{IsMidstart, IsFlushedFirst, StartView}
-use Rattle.recovery.specs.declared.surveying.Surveying.{Surveying}
-use Rattle.recovery.specs.declared.start_fault.StartFault.{StartFault}
-use Rattle.recovery.specs.declared.start_point.StartPoint.{StartPoint}
-use Rattle.recovery.specs.declared.copy_step.CopyStep.{CopyStep}
-use Rattle.recovery.specs.Stages.{StartStage, stage_at}
-use Rattle.recovery.proofs.JoinedCalls.{looked_on}
-use Rattle.recovery.proofs.SurveyedRecords.{counts_made}
-use Rattle.recovery.proofs.SurveyedRecords.{not_tried}
-use Rattle.recovery.specs.Recovered.{LeavesAtLeast}
-use Rattle.recovery.specs.declared.starting.Starting.{Starting}
+use Rattle.recovery.specs.{Calls.HoldsLog, Calls.most_reads_of, Surveying.HoldsSurveyed, Surveying.IsSurveyStep, Surveying.surveys_left}
+use Rattle.recovery.specs.{declared.surveying.Surveying.Surveying, declared.start_fault.StartFault.StartFault}
+use Rattle.recovery.specs.{declared.start_point.StartPoint.StartPoint, declared.copy_step.CopyStep.CopyStep, Stages.StartStage}
+use Rattle.recovery.specs.{Stages.stage_at, Recovered.LeavesAtLeast, declared.starting.Starting.Starting}
 use Rattle.recovery.proofs.WholeRecovery.{IsSurveyed, survey_leaves, refusal}
+use Rattle.recovery.proofs.{JoinedCalls.looked_on, SurveyedRecords.counts_made, SurveyedRecords.not_tried}
 use Rattle.medium.specs.declared.fault.MediumFault.TheVariants as medium
 use Rattle.recovery.specs.declared.start_fault.StartFault.TheVariants as fault
 use Rattle.recovery.specs.Stages as stage

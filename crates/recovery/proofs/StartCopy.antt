@@ -1,36 +1,24 @@
 -- The second half of a start, call by call: the copies, what is home at their end, and the new head.
 use Rattle.std.proofs.Common.{◌≡◌, ◌∙◌, sym, refl, ⊎_elim, ℕ, ◌+◌, ◌*◌, ◌<◌, ◌≤◌, List, [], length, get_or, arith, Result, Ok, Err, false}
 use Rattle.std.proofs.Common.{◌^◌, ◌⊎◌, inl, rules}
-use Rattle.medium.specs.Medium.{State, CutLeaves, IsSound, Image}
-use Rattle.medium.specs.Moments.{LeavesOnly, EachCut}
-use Rattle.medium.specs.Performed.{Performed}
-use Rattle.medium.specs.declared.medium_call.Call.{Call}
-use Rattle.medium.specs.declared.fault.MediumFault.{MediumFault}
-use Rattle.medium.proofs.Driving.{not_driven, driven_call, driven_refused}
-use Rattle.medium.proofs.Tallies.{calls_most, sends_most}
-use Rattle.journal.specs.Places.{sectors_of, first_home, limit_of}
+use Rattle.medium.specs.declared.medium_call.Call.TheVariants.{Write, Flush}
+use Rattle.medium.specs.{Medium.State, Medium.CutLeaves, Medium.IsSound, Medium.Image, Moments.LeavesOnly, Moments.EachCut}
+use Rattle.medium.specs.{Performed.Performed, declared.medium_call.Call.Call, declared.fault.MediumFault.MediumFault, Tally.of_all}
+use Rattle.medium.proofs.{Driving.not_driven, Driving.driven_call, Driving.driven_refused, Tallies.calls_most, Tallies.sends_most}
+use Rattle.medium.proofs.{Moments.at_exit, Moments.after_write, Moments.one_call}
 use Rattle.journal.specs.Formats.{shape_of, IsWhole, HasWhole}
-use Rattle.journal.specs.Record.{Entry}
+use Rattle.journal.specs.{Places.sectors_of, Places.first_home, Places.limit_of, Record.Entry, Sectors.IsHead, Standing.IsOurs}
 use Rattle.recovery.specs.Calls.{Copies, IsHomeInRecords, freed_at, most_calls_of, HasNewHead, Writes}
 use Rattle.recovery.specs.Copying.{Copying, copies_left, HoldsCopied, IsCopyStep, TellsCopy}
-use Rattle.recovery.specs.Recovered.{LeavesAtLeast}
 use Rattle.recovery.specs.Starting.{IsNewCopying, IsCopiedOn, IsSurveyedOn, found_by, answer_of}
-use Rattle.recovery.specs.HoldsStart.{HoldsStart, IsCopiedSoFar, IsCopying, HasSurveyed, HasCopied, HoldsLook, IsFlushedFirst, HasBegun}
-use Rattle.recovery.specs.HoldsStart.{IsMovingHead, IsFlushedAgain, HasMovedHead}
-use Rattle.recovery.specs.declared.found.Found.{Found}
-use Rattle.recovery.specs.Stages.{StartStage}
-use Rattle.recovery.specs.Causes.{IsSurvey}
-use Rattle.recovery.specs.declared.surveying.Surveying.{Surveying}
+use Rattle.recovery.specs.HoldsStart.{IsCopiedSoFar, IsCopying, HasSurveyed, HasCopied, HoldsLook, IsFlushedFirst, HasBegun, IsMovingHead}
+use Rattle.recovery.specs.HoldsStart.{IsFlushedAgain, HasMovedHead}
+use Rattle.recovery.specs.{Recovered.LeavesAtLeast, declared.found.Found.Found, Stages.StartStage, declared.surveying.Surveying.Surveying}
 use Rattle.recovery.proofs.JoinedCalls.{quiet_after, refused_call, flush_writes, writes_on, none_waits}
 use Rattle.recovery.proofs.CopiedBlocks.{gathered, not_copied, all_copied}
-use Rattle.medium.specs.Tally.{of_all}
 use Rattle.recovery.proofs.Looks.{surveyed_by, reads_leave, ended_by, looked_start, Goes, counted_at_end}
 use Rattle.recovery.proofs.WholeRecovery.{copies_leave, refusal, moves_leave, recovery_done}
 use Rattle.journal.proofs.StandingLaws.{count_stands}
-use Rattle.medium.specs.declared.medium_call.Call.TheVariants.{Write, Flush}
-use Rattle.medium.proofs.Moments.{at_exit, after_write, one_call}
-use Rattle.journal.specs.Sectors.{IsHead}
-use Rattle.journal.specs.Standing.{IsOurs}
 use Rattle.recovery.specs.declared.start_fault.StartFault.TheVariants as fault
 use Rattle.recovery.specs.Stages as stage
 
@@ -107,7 +95,8 @@ module _ {M : Type 0} {state : M → State} (sound : (m : M) → IsSound (state 
 
     -- a call of it is made
     pub copy_made : {n : M} {got : List ℕ} {after : Copying} {next : StartStage} → Performed call bytes got (Ok tt) (state m) (state n)
-        → IsCopyStep copying.reader copying.step got after.reader after.step → IsCopiedOn found after next → Goes state least next got start n
+        → IsCopyStep copying.reader copying.step got after.reader after.step → IsCopiedOn found after next
+        → Goes state least next got start n
     copy_made {after = after} performed step goes =
         copied_on (
           at.0,
@@ -185,7 +174,8 @@ head_writes found copied {old = old} {new = new} {bytes = bytes} sound flushed e
 pub copies_flushed : (found : Found) {old new : State} {bytes got : List ℕ} {result : Result (Unit {0}) MediumFault} → IsSound old
     → Performed Flush bytes got result old new → Writes {X = Unit {0}} (Moved found old) 2 1 old new (Ok tt)
 copies_flushed found {old = old} sound performed =
-    let made = flush_writes {P = Moved found old} {end = 2} sound performed.passes performed.changes performed.adds (λ image cut. inl cut) in
+    let made = flush_writes {P = Moved found old} {end = 2} sound performed.passes performed.changes performed.adds
+    (λ image cut. inl cut) in
     grind (arith, made, performed.passes.calls_are)
 
 module _ {M : Type 0} {state : M → State} (sound : (m : M) → IsSound (state m)) {least : ℕ} {start : M} {found : Found} where

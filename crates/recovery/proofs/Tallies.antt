@@ -1,28 +1,15 @@
 -- Which calls are left of a survey, of a copying and of a start: each call is one of them, and leaves no more than the others.
-use Rattle.std.proofs.Common.{◌≡◌, ◌<◌, ◌≤◌, ◌+◌, ◌*◌, ◌-◌, ℕ, List, length, refl, arith, true, false, ⊎_elim}
-use Rattle.medium.specs.Tally.{Tally, of_all, one_more, none}
-use Rattle.medium.specs.Machine.{IsLeft}
-use Rattle.medium.specs.declared.fault.MediumFault.{MediumFault}
+use Rattle.std.proofs.Common.{◌≡◌, ◌≤◌, ◌-◌, ℕ, refl, arith, ⊎_elim}
 use Rattle.medium.specs.declared.fault.MediumFault.TheVariants.{Read, Write, Flush}
-use Rattle.journal.specs.declared.log_format.LogFormat.{LogFormat}
-use Rattle.journal.specs.declared.log_format.LogFormat.TheVariants.{Two}
-use Rattle.journal.specs.declared.record.Record.{Record}
-use Rattle.journal.specs.declared.super_sector.Super.{Super}
-use Rattle.journal.specs.declared.reader.RecordReader.{RecordReader}
-use Rattle.journal.specs.declared.naming_stage.NamingStage.{NamingStage}
-use Rattle.journal.specs.declared.naming_stage.NamingStage.TheVariants as at
-use Rattle.journal.specs.Places.{Shape, limit_of}
+use Rattle.medium.specs.{Tally.Tally, Tally.none, Machine.IsLeft}
 use Rattle.journal.specs.Naming.{IsReading, IsReader, names_left}
-use Rattle.journal.specs.Reading.{record_reads_of}
-use Rattle.recovery.specs.Calls.{most_calls_of, most_reads_of}
-use Rattle.recovery.specs.Copying.{Copying, CanCopy, copies_left, IsTakenOrPassed, HasRead, IsBlockStep}
-use Rattle.recovery.specs.Surveying.{CanSurvey, surveys_left, TakesName, TakesPlace}
-use Rattle.recovery.specs.Starting.{both, head_calls, home_calls, all_calls, start_left, look_left, IsReadFirst, FindsSuper, FindsHead}
-use Rattle.recovery.specs.Starting.{IsCopiedOn, IsFoundOn, IsSurveyedOn}
-use Rattle.recovery.specs.declared.copy_step.CopyStep.{CopyStep}
-use Rattle.recovery.specs.declared.surveying.Surveying.{Surveying}
-use Rattle.recovery.specs.declared.found.Found.{Found}
-use Rattle.recovery.specs.Stages.{StartStage}
+use Rattle.journal.specs.{declared.record.Record.Record, declared.super_sector.Super.Super, declared.reader.RecordReader.RecordReader}
+use Rattle.journal.specs.{declared.naming_stage.NamingStage.NamingStage, Places.Shape, Reading.record_reads_of}
+use Rattle.recovery.specs.Starting.{both, home_calls, start_left, IsFoundOn, IsSurveyedOn}
+use Rattle.recovery.specs.{Copying.CanCopy, Copying.copies_left, Surveying.CanSurvey, Surveying.surveys_left}
+use Rattle.recovery.specs.{declared.copy_step.CopyStep.CopyStep, declared.surveying.Surveying.Surveying, declared.found.Found.Found}
+use Rattle.recovery.specs.{Stages.StartStage}
+use Rattle.journal.specs.declared.naming_stage.NamingStage.TheVariants as at
 
 -- a read fewer, and a write fewer
 abbrev pub less_read : Tally → Tally

@@ -3,28 +3,22 @@ use Rattle.std.specs.Prelude.{◌≡◌, ◌≢◌, ◌⊎◌, ℕ, ◌+◌, ◌
 use Rattle.std.specs.Prelude.{slice_index, replicate, Result, Ok, OnOk, IfErr, ◌^◌, ◌-◌, ◌++◌, map}
 use Rattle.std.specs.Prelude.{Bool, if◌then◌else◌}
 use Rattle.std.specs.List.{range_with_len}
-use Rattle.medium.specs.Performed.{Performed}
-use Rattle.medium.specs.declared.medium_call.Call.{Call}
 use Rattle.medium.specs.declared.medium_call.Call.TheVariants.{Write, Flush}
 use Rattle.medium.specs.Medium.{State, Image, Sets, CutLeaves, LooksOnly, Holds}
 use Rattle.medium.specs.Moments.{LeavesOnly, SparesFrom, IsFlushed}
-use Rattle.medium.specs.Sent.{SendsUpTo}
-use Rattle.medium.specs.declared.fault.MediumFault.{MediumFault}
-use Rattle.medium.specs.declared.fault.MediumFault.TheVariants.{Read}
+use Rattle.medium.specs.{Performed.Performed, declared.medium_call.Call.Call, Sent.SendsUpTo}
+use Rattle.medium.specs.{declared.fault.MediumFault.MediumFault}
+use Rattle.medium.specs.{declared.fault.MediumFault.TheVariants.Read}
 use Rattle.journal.specs.declared.log_format.LogFormat.{LogFormat}
 use Rattle.journal.specs.declared.log_format.LogFormat.TheVariants.{One, Two}
-use Rattle.journal.specs.Places.{limit_of, slot_sectors_of, IsFirstHome}
-use Rattle.journal.specs.Standing.{HasShape}
-use Rattle.journal.specs.Sectors.{IsHead, IsSuper}
-use Rattle.journal.specs.Format2.{descriptors_of}
 use Rattle.journal.specs.Record.{Entry, numbers_of, with_records, home_of}
-use Rattle.journal.specs.Formats.{IsWhole}
-use Rattle.journal.specs.Reading.{IsRefusedCall}
+use Rattle.journal.specs.{Places.limit_of, Places.slot_sectors_of, Places.IsFirstHome}
+use Rattle.journal.specs.{Standing.HasShape, Standing.IsOurs, Sectors.IsHead, Sectors.IsSuper}
+use Rattle.journal.specs.{Format2.descriptors_of, Formats.IsWhole, Reading.IsRefusedCall}
 use Rattle.spec.specs.Blocks.{Array}
-pub use Rattle.journal.specs.Places.{Shape, first_home, sectors_of}
-use Rattle.journal.specs.Standing.{IsOurs}
 use Rattle.recovery.specs.declared.format_fault.FormatFault.{FormatFault}
 use Rattle.recovery.specs.declared.format_fault.FormatFault.TheVariants.{BadSize, Medium}
+pub use Rattle.journal.specs.Places.{Shape, first_home, sectors_of}
 
 -- no read was made, and so none refused
 pub record MakesNoRead (old new : State) : Type 0 where

@@ -1,26 +1,20 @@
 -- What the copying of records home and a medium hold between two calls.
 use Rattle.std.specs.Prelude.{◌≡◌, ◌≢◌, ◌⊎◌, ℕ, ◌+◌, ◌*◌, ◌-◌, ◌≤◌, ◌<◌, ◌^◌, List, [], length}
-use Rattle.std.specs.Prelude.{get_or, take}
-use Rattle.std.specs.Prelude.{slice_index, Bool, true, false}
-use Rattle.medium.specs.Medium.{State, Within}
-use Rattle.medium.specs.Tally.{Tally}
-use Rattle.medium.specs.Machine.{TellsCall}
-use Rattle.medium.specs.declared.medium_call.Call.{Call}
-use Rattle.medium.specs.declared.fault.MediumFault.{MediumFault}
-use Rattle.medium.specs.declared.fault.MediumFault.TheVariants as medium
-use Rattle.journal.specs.declared.log_format.LogFormat.{LogFormat}
-use Rattle.journal.specs.declared.record.Record.{Record}
-use Rattle.journal.specs.declared.reader.RecordReader.{RecordReader}
-use Rattle.journal.specs.declared.super_sector.Super.{Super}
-use Rattle.journal.specs.declared.naming_stage.NamingStage.{NamingStage}
-use Rattle.journal.specs.declared.naming_stage.NamingStage.TheVariants as stage
+use Rattle.std.specs.Prelude.{get_or, take, slice_index, Bool, true, false}
+use Rattle.medium.specs.{Medium.State, Medium.Within, Tally.Tally, Machine.TellsCall}
+use Rattle.medium.specs.{declared.medium_call.Call.Call, declared.fault.MediumFault.MediumFault}
 use Rattle.journal.specs.Naming.{IsReading, IsUnread, Learns, IsKnown, names_left}
 use Rattle.journal.specs.Places.{first_home, sectors_of, limit_of}
 use Rattle.journal.specs.Record.{Entry, with_records, home_of, block_of}
-use Rattle.journal.specs.Formats.{shape_of, IsWhole}
-use Rattle.journal.specs.Reading.{data_at, record_reads_of}
+use Rattle.journal.specs.{declared.log_format.LogFormat.LogFormat, declared.record.Record.Record}
+use Rattle.journal.specs.{declared.reader.RecordReader.RecordReader}
+use Rattle.journal.specs.{declared.super_sector.Super.Super}
+use Rattle.journal.specs.{declared.naming_stage.NamingStage.NamingStage, Formats.shape_of}
+use Rattle.journal.specs.{Formats.IsWhole, Reading.data_at, Reading.record_reads_of}
 use Rattle.recovery.specs.Calls.{IsHomeInRecords, freed_at, copy_calls}
 use Rattle.recovery.specs.declared.copy_step.CopyStep.{CopyStep}
+use Rattle.medium.specs.declared.fault.MediumFault.TheVariants as medium
+use Rattle.journal.specs.declared.naming_stage.NamingStage.TheVariants as stage
 
 -- what is copied home by a reader: how far it is
 pub record Copying : Type 0 where

@@ -2,17 +2,12 @@
 use Rattle.std.specs.Prelude.{◌≡◌, ◌≢◌, ◌⊎◌, ℕ, ◌+◌, ◌*◌, ◌<◌, ◌≤◌, List, length, get_or, []}
 use Rattle.std.specs.Prelude.{Result, Ok, Err}
 use Rattle.medium.specs.Medium.{State, Image, CutLeaves, Only, Stays, Within, Passes, IsSound}
-use Rattle.medium.specs.Moments.{EachCut, IsQuiet}
-use Rattle.medium.specs.Machine.{Driven, TellsCall}
-use Rattle.medium.specs.declared.medium_call.Call.{Call}
-use Rattle.medium.specs.declared.fault.MediumFault.{MediumFault}
 use Rattle.medium.specs.declared.fault.MediumFault.TheVariants.{Flush}
-use Rattle.journal.specs.declared.super_sector.Super.{Super}
+use Rattle.medium.specs.{Moments.EachCut, Moments.IsQuiet, Machine.Driven, Machine.TellsCall}
+use Rattle.medium.specs.{declared.medium_call.Call.Call, declared.fault.MediumFault.MediumFault}
 use Rattle.journal.specs.Places.{first_home, sectors_of, limit_of}
-use Rattle.journal.specs.Formats.{shape_of, IsWhole}
-use Rattle.journal.specs.Record.{Entry}
-use Rattle.journal.specs.Sectors.{IsHead}
-use Rattle.journal.specs.Standing.{HasShape}
+use Rattle.journal.specs.{declared.super_sector.Super.Super, Formats.shape_of, Formats.IsWhole}
+use Rattle.journal.specs.{Record.Entry, Sectors.IsHead, Standing.HasShape}
 use Rattle.recovery.specs.Calls.{IsHomeInRecords, freed_at, Copies, AreCopied, most_calls_of}
 use Rattle.recovery.specs.Calls.{HasNewHead, Writes, LooksAtLog}
 use Rattle.recovery.specs.Causes.{SurveysAtMost, IsSurvey, HasFewSlots, MakesReadsAlone}
@@ -24,8 +19,7 @@ use Rattle.recovery.specs.Recovered.{LeavesAtLeast, IsOursForSome, StandsForOneO
 use Rattle.recovery.specs.Starting.{EndsStart, IsStarting, IsNewSurvey, IsNewCopying}
 use Rattle.recovery.specs.declared.surveying.Surveying.{Surveying}
 use Rattle.recovery.specs.declared.start_fault.StartFault.TheVariants.{StampsUsedUp}
-use Rattle.recovery.specs.declared.found.Found.{Found}
-use Rattle.recovery.specs.Stages.{StartStage}
+use Rattle.recovery.specs.{declared.found.Found.Found, Stages.StartStage}
 use Rattle.recovery.specs.Stages as stage
 
 -- A start's cuts: where every image is ours, one that is so for one of the arrays.

@@ -1,16 +1,14 @@
 -- What a new image and a medium hold while it is written, and while sectors are cleared.
-use Rattle.std.specs.Prelude.{◌≡◌, ◌≢◌, ◌⊎◌, ℕ, ◌+◌, ◌-◌, ◌≤◌, ◌<◌, false}
-use Rattle.std.specs.Prelude.{if◌then◌else◌, replicate, List, [], ◌∷◌}
+use Rattle.std.specs.Prelude.{◌≡◌, ◌≢◌, ◌⊎◌, ℕ, ◌+◌, ◌-◌, ◌≤◌, ◌<◌, false, if◌then◌else◌, replicate}
+use Rattle.std.specs.Prelude.{List, [], ◌∷◌}
 use Rattle.std.proofs.Common.{arith}
 use Rattle.medium.specs.Medium.{State, Image, CutLeaves, Holds, Stays, Within}
-use Rattle.medium.specs.Moments.{EachCut, IsFlushed}
-use Rattle.medium.specs.Tally.{Tally, none, of_all}
-use Rattle.journal.specs.Formats.{shape_of}
-use Rattle.journal.specs.Sectors.{IsHead}
-use Rattle.recovery.specs.Calls.{IsBetween, IsWritten, WithOrWithout, cleared_at, AreMade}
-use Rattle.recovery.specs.Calls.{zeros_and_head}
 use Rattle.medium.specs.declared.medium_call.Call.{Call}
 use Rattle.medium.specs.declared.medium_call.Call.TheVariants.{Write, Flush}
+use Rattle.medium.specs.{Moments.EachCut, Moments.IsFlushed, Tally.Tally, Tally.none, Tally.of_all}
+use Rattle.journal.specs.{Formats.shape_of, Sectors.IsHead}
+use Rattle.recovery.specs.Calls.{IsBetween, IsWritten, WithOrWithout, cleared_at, AreMade}
+use Rattle.recovery.specs.Calls.{zeros_and_head}
 use Rattle.recovery.specs.declared.image_plan.ImagePlan.{ImagePlan}
 use Rattle.recovery.specs.declared.image_stage.ImageStage.{ImageStage}
 use Rattle.recovery.specs.declared.image_stage.ImageStage.TheVariants as stage
@@ -50,15 +48,11 @@ module _ (plan : ImagePlan) (under : Under) where
     pub zeros : (x : ℕ) → 2 ≤ x → x < plan.end → image x ≡ replicate 512 0
     pub elsewhere : (x : ℕ) → x ≢ 1 → ¬ IsBetween 2 plan.end x → image x ≡ under.image x
 
-  -- in this sector what was there, zeros or the head
-  abbrev pub IsPartAt : Image → ℕ → Type 0
-  IsPartAt image x = (image x ≡ under.image x)
-      ⊎ ((IsBetween under.first plan.end x × (image x ≡ replicate 512 0))
-      ⊎ ((x ≡ 1) × IsHead plan.head.stamp (image x)))
-
-  -- so in each
+  -- in each sector what was there, zeros or the head
   pub record IsPart (image : Image) : Type 0 where
-    pub each : (x : ℕ) → IsPartAt image x
+    pub each : (x : ℕ) → (image x ≡ under.image x)
+        ⊎ ((IsBetween under.first plan.end x × (image x ≡ replicate 512 0))
+        ⊎ ((x ≡ 1) × IsHead plan.head.stamp (image x)))
 
   -- the new image
   abbrev pub IsNew : Image → Type 0

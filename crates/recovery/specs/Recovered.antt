@@ -1,18 +1,14 @@
 -- What recovery and a migration to format 2 answer, and what they leave.
 use Rattle.std.specs.Prelude.{◌≡◌, ◌≢◌, ◌⊎◌, ℕ, ◌+◌, ◌-◌, ◌*◌, ◌^◌, ◌<◌, ◌≤◌, length, min}
-use Rattle.std.specs.Prelude.{replicate}
-use Rattle.std.specs.Prelude.{Bool, true, false}
-use Rattle.medium.specs.Medium.{State, Image, CutLeaves}
+use Rattle.std.specs.Prelude.{replicate, Bool, true, false}
 use Rattle.medium.specs.Moments.{EachCut, IsFlushed, LeavesOnly, SparesFrom}
+use Rattle.medium.specs.{Medium.State, Medium.Image, Medium.CutLeaves, Sent.SendsUpTo}
 use Rattle.spec.specs.Blocks.{Array}
-use Rattle.medium.specs.Sent.{SendsUpTo}
-use Rattle.journal.specs.declared.log_format.LogFormat.{LogFormat}
 use Rattle.journal.specs.declared.log_format.LogFormat.TheVariants.{Two, One}
-use Rattle.journal.specs.Places.{Shape, first_home, sectors_of, slot_sectors_of, migrated}
-use Rattle.journal.specs.Places.{limit_of}
-use Rattle.journal.specs.Formats.{shape_of, CarriesBelow, HasWhole}
-use Rattle.journal.specs.Sectors.{IsSuper, IsHead}
-use Rattle.journal.specs.Standing.{StandsFor, IsOurs, HasShape}
+use Rattle.journal.specs.Places.{Shape, first_home, sectors_of, slot_sectors_of, migrated, limit_of}
+use Rattle.journal.specs.{declared.log_format.LogFormat.LogFormat, Formats.shape_of}
+use Rattle.journal.specs.{Formats.CarriesBelow, Formats.HasWhole, Sectors.IsSuper, Sectors.IsHead}
+use Rattle.journal.specs.{Standing.StandsFor, Standing.IsOurs, Standing.HasShape}
 use Rattle.recovery.specs.Calls.{copy_calls, most_start_of, most_start_sends, LooksAtLog, AreMade}
 use Rattle.recovery.specs.Calls.{zeros_and_head}
 use Rattle.recovery.specs.Causes.{HasFewSlots, IsCause, IsDeviceFault, WritesNothing, IsRefusalBy}

@@ -1,40 +1,31 @@
 -- What a start and a medium hold between two calls, which calls are left of it, and what is so at
 -- its end.
-use Rattle.std.specs.Prelude.{◌≡◌, ◌⊎◌, ℕ, ◌+◌, ◌*◌, ◌<◌, ◌≤◌, ◌^◌, List, [], length}
-use Rattle.std.specs.Prelude.{Result, IfOk, IfErr, OnOk, false}
-use Rattle.medium.specs.Medium.{State}
-use Rattle.medium.specs.Moments.{EachCut}
+use Rattle.std.specs.Prelude.{◌≡◌, ◌⊎◌, ℕ, ◌+◌, ◌*◌, ◌<◌, ◌≤◌, ◌^◌, List, [], length, Result, IfOk}
+use Rattle.std.specs.Prelude.{IfErr, OnOk, false}
 use Rattle.medium.specs.Tally.{Tally, none}
-use Rattle.medium.specs.declared.fault.MediumFault.{MediumFault}
-use Rattle.medium.specs.declared.fault.MediumFault.TheVariants as medium
+use Rattle.medium.specs.{Medium.State, Moments.EachCut, declared.fault.MediumFault.MediumFault}
 use Rattle.spec.specs.Blocks.{Array}
-use Rattle.journal.specs.declared.log_format.LogFormat.{LogFormat}
 use Rattle.journal.specs.declared.log_format.LogFormat.TheVariants.{One, Two}
-use Rattle.journal.specs.declared.super_sector.Super.{Super}
-use Rattle.journal.specs.Places.{Shape, sectors_of, limit_of}
-use Rattle.journal.specs.Formats.{shape_of}
-use Rattle.journal.specs.Naming.{IsUnread}
-use Rattle.journal.specs.Reading.{record_reads_of}
-use Rattle.journal.specs.Sectors.{IsSuper, IsHead}
-use Rattle.journal.specs.Standing.{IsOurs}
-use Rattle.recovery.specs.Calls.{most_reads_of}
-use Rattle.recovery.specs.Causes.{IsSuperCause}
-use Rattle.recovery.specs.Causes.{HasFewSlots, IsRefusalBy, WritesNothing, IsInspected, OnlyLooks}
-use Rattle.recovery.specs.Causes.{IsLookRefusal}
+use Rattle.journal.specs.{declared.log_format.LogFormat.LogFormat}
+use Rattle.journal.specs.{declared.super_sector.Super.Super, Places.Shape, Places.sectors_of}
+use Rattle.journal.specs.{Places.limit_of, Formats.shape_of, Naming.IsUnread}
+use Rattle.journal.specs.{Reading.record_reads_of, Sectors.IsSuper, Sectors.IsHead, Standing.IsOurs}
+use Rattle.recovery.specs.Causes.{IsSuperCause, HasFewSlots, IsRefusalBy, WritesNothing}
+use Rattle.recovery.specs.Causes.{IsInspected, OnlyLooks, IsLookRefusal}
 use Rattle.recovery.specs.Copying.{Copying, CanCopy, copies_left, copy_kind, IsCopyStep}
 use Rattle.recovery.specs.Surveying.{surveys_left, IsSurveyStep}
 use Rattle.recovery.specs.Recovered.{LeavesAtLeast, IsRecoveredFrom, IsFresh, HasNoneWaiting}
-use Rattle.recovery.specs.declared.surveying.Surveying.{Surveying}
-use Rattle.recovery.specs.declared.found.Found.{Found}
-use Rattle.recovery.specs.declared.inspection.Inspection.{Inspection}
-use Rattle.recovery.specs.declared.recovered.Recovered.{Recovered}
-use Rattle.recovery.specs.declared.start_fault.StartFault.{StartFault}
+use Rattle.recovery.specs.{Calls.most_reads_of, declared.surveying.Surveying.Surveying}
+use Rattle.recovery.specs.{declared.found.Found.Found, declared.inspection.Inspection.Inspection}
+use Rattle.recovery.specs.{declared.recovered.Recovered.Recovered}
+use Rattle.recovery.specs.{declared.start_fault.StartFault.StartFault}
+use Rattle.recovery.specs.{declared.copy_step.CopyStep.CopyStep}
+use Rattle.recovery.specs.{declared.start_point.StartPoint.StartPoint}
+pub use Rattle.recovery.specs.Stages.{StartStage, stage_at}
+use Rattle.medium.specs.declared.fault.MediumFault.TheVariants as medium
 use Rattle.recovery.specs.declared.start_fault.StartFault.TheVariants as fault
-use Rattle.recovery.specs.declared.copy_step.CopyStep.{CopyStep}
-use Rattle.recovery.specs.declared.start_point.StartPoint.{StartPoint}
 use Rattle.recovery.specs.declared.start_point.StartPoint.TheVariants as point
 use Rattle.recovery.specs.Stages as stage
-pub use Rattle.recovery.specs.Stages.{StartStage, stage_at}
 
 -- ---- what is so at the end
 

@@ -1,24 +1,17 @@
 -- What the survey of the whole records and a medium hold between two calls.
-use Rattle.std.specs.Prelude.{◌≡◌, ◌≢◌, ◌⊎◌, ℕ, ◌+◌, ◌*◌, ◌-◌, ◌≤◌, ◌<◌, ◌^◌, List, []}
-use Rattle.std.specs.Prelude.{◌∷◌, ◌++◌, length, min, slice_index}
-use Rattle.medium.specs.Medium.{State}
-use Rattle.medium.specs.Moments.{IsQuiet}
-use Rattle.medium.specs.Tally.{Tally}
-use Rattle.journal.specs.declared.log_format.LogFormat.{LogFormat}
-use Rattle.journal.specs.declared.record.Record.{Record}
-use Rattle.journal.specs.declared.reader.RecordReader.{RecordReader}
-use Rattle.journal.specs.declared.super_sector.Super.{Super}
-use Rattle.journal.specs.declared.naming_stage.NamingStage.{NamingStage}
+use Rattle.std.specs.Prelude.{◌≡◌, ◌≢◌, ◌⊎◌, ℕ, ◌+◌, ◌*◌, ◌-◌, ◌≤◌, ◌<◌, ◌^◌, List, [], ◌∷◌, ◌++◌}
+use Rattle.std.specs.Prelude.{length, min, slice_index}
+use Rattle.medium.specs.{Medium.State, Moments.IsQuiet, Tally.Tally}
+use Rattle.journal.specs.Naming.{IsReading, IsUnread, Learns, IsKnown, names_left, HasStamps}
+use Rattle.journal.specs.Naming.{HasNoStamps}
+use Rattle.journal.specs.{declared.log_format.LogFormat.LogFormat, declared.record.Record.Record}
+use Rattle.journal.specs.{declared.reader.RecordReader.RecordReader}
+use Rattle.journal.specs.{declared.super_sector.Super.Super}
+use Rattle.journal.specs.{declared.naming_stage.NamingStage.NamingStage, Format2.place_bytes}
+use Rattle.journal.specs.{Format2.format2, Layout.slot_at, Places.Shape, Formats.shape_of}
+use Rattle.journal.specs.{Formats.HasWhole, Reading.HasPlaces, Reading.record_reads_of}
+use Rattle.recovery.specs.{Calls.most_reads_of, Causes.AreTries, Causes.HasCount}
 use Rattle.journal.specs.declared.naming_stage.NamingStage.TheVariants as stage
-use Rattle.journal.specs.Naming.{IsReading, IsUnread, Learns, IsKnown, names_left}
-use Rattle.journal.specs.Naming.{HasStamps, HasNoStamps}
-use Rattle.journal.specs.Format2.{place_bytes, format2}
-use Rattle.journal.specs.Layout.{slot_at}
-use Rattle.journal.specs.Places.{Shape}
-use Rattle.journal.specs.Formats.{shape_of, HasWhole}
-use Rattle.journal.specs.Reading.{HasPlaces, record_reads_of}
-use Rattle.recovery.specs.Calls.{most_reads_of}
-use Rattle.recovery.specs.Causes.{AreTries, HasCount}
 
 -- what a survey holds, whatever it read: while slots are left it reads a record of one
 pub record CanSurvey (reader : RecordReader) (left place counted : ℕ) : Type 0 where

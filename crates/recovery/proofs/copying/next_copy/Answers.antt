@@ -1,14 +1,9 @@
-use Rattle.std.proofs.Common.{◌≡◌, ◌<◌, ◌≤◌, ◌+◌, ◌++◌, [], length, drop, get_or, refl, arith}
-use Rattle.std.proofs.Common.{true, false, ⊎_elim, Bool}
-use Rattle.journal.specs.declared.naming_stage.NamingStage.TheVariants.{Named}
+use Rattle.std.proofs.Common.{◌≡◌, ◌<◌, ◌≤◌, ◌+◌, ◌++◌, [], length, drop, get_or, refl, arith, true, false, ⊎_elim, Bool}
 use Rattle.journal.specs.Places.{first_home, limit_of}
-use Rattle.journal.specs.Formats.{shape_of}
-use Rattle.journal.specs.declared.reader.RecordReader.{RecordReader}
-use Rattle.recovery.specs.declared.copy_step.CopyStep.{CopyStep}
-use Rattle.recovery.specs.Copying.{IsBlockStep, copies_left}
-use Rattle.recovery.proofs.SurveyedRecords.{data_place}
+use Rattle.journal.specs.{declared.naming_stage.NamingStage.TheVariants.Named, Formats.shape_of, declared.reader.RecordReader.RecordReader}
+use Rattle.recovery.specs.{declared.copy_step.CopyStep.CopyStep, Copying.IsBlockStep, Copying.copies_left}
 use Rattle.recovery.proofs.CopiedBlocks.{unread, took, block_read, unwritten, block_written, record_written}
-use Rattle.recovery.proofs.Tallies.{less_read, less_write, names_few}
+use Rattle.recovery.proofs.{SurveyedRecords.data_place, Tallies.less_read, Tallies.less_write, Tallies.names_few}
 use Rattle.recovery.proofs.copying.next_copy.Goals as goal
 
 -- by whether the bytes of a block were read

@@ -2,11 +2,8 @@ use Rattle.std.proofs.Common.{◌≡◌, ◌≤◌, ℕ, ◌⊎◌, ◌+◌, inl
 use Rattle.std.proofs.lemmas.Result.{on_ok_weaker}
 use Rattle.medium.specs.Medium.{Image, Holds, CutLeaves}
 use Rattle.medium.proofs.Moments.{updated, updated_here, updated_elsewhere}
-use Rattle.journal.specs.Places.{Shape}
-use Rattle.journal.specs.Formats.{shape_of}
-use Rattle.recovery.specs.Calls.{IsWritten, IsNoneOrWritten}
-use Rattle.recovery.specs.NewImage.{Under, IsPart}
-use Rattle.recovery.specs.declared.image_plan.ImagePlan.{ImagePlan}
+use Rattle.journal.specs.{Places.Shape, Formats.shape_of}
+use Rattle.recovery.specs.{Calls.IsWritten, Calls.IsNoneOrWritten, NewImage.Under, NewImage.IsPart, declared.image_plan.ImagePlan.ImagePlan}
 use Rattle.recovery.proofs.ImageCalls.{image_driven}
 use Rattle.recovery.proofs.formatting.write_image.Goals as goal
 use Rattle.recovery.proofs.formatting.write_image.Goals.{After-drive}

@@ -1,6 +1,5 @@
 use Rattle.std.proofs.Common.{◌+◌, arith, OnOk}
-use Rattle.journal.specs.Places.{first_home}
-use Rattle.journal.specs.Formats.{shape_of}
+use Rattle.journal.specs.{Places.first_home, Formats.shape_of}
 use Rattle.recovery.specs.Calls.{IsLaid, LayingLeaves}
 use Rattle.recovery.proofs.JoinedCalls.{image_made}
 use Rattle.recovery.proofs.laying.lay_log.Goals as goal

@@ -1,24 +1,15 @@
 use Rattle.std.proofs.Common.{◌≡◌, inl, inr, ⊎_elim, ℕ, ◌+◌, ◌*◌, ◌<◌, length, refl, ◌∙◌, arith, rules, min, Result, true}
 use Rattle.std.proofs.lemmas.Result.{err_from_is_err_and}
-use Rattle.medium.specs.Medium.{State, IsSound}
-use Rattle.medium.specs.Moments.{EachCut}
+use Rattle.medium.specs.{Medium.State, Medium.IsSound, Moments.EachCut, Sent.SendsUpTo}
 use Rattle.spec.specs.Blocks.{Array}
-use Rattle.medium.specs.Sent.{SendsUpTo}
-use Rattle.medium.proofs.Moments.{weaker, only_image}
-use Rattle.medium.proofs.SectorsRead.{no_looks}
-use Rattle.medium.proofs.SparedSectors.{spared_behind}
-use Rattle.journal.specs.declared.log_format.LogFormat.TheVariants.{One}
+use Rattle.medium.proofs.{Moments.weaker, Moments.only_image, SectorsRead.no_looks, SparedSectors.spared_behind}
 use Rattle.journal.specs.Places.{Shape, first_home, sectors_of, migrated}
-use Rattle.journal.specs.Record.{home_of}
-use Rattle.journal.specs.Formats.{shape_of}
-use Rattle.journal.proofs.SectorNumbers.{IsSuper-one}
-use Rattle.journal.specs.Standing.{IsOurs}
-use Rattle.journal.proofs.StandingLaws.{StandsFor-one, StandsFor-shape}
-use Rattle.recovery.specs.Calls.{Writes, copy_calls}
+use Rattle.journal.specs.{declared.log_format.LogFormat.TheVariants.One, Record.home_of, Formats.shape_of, Standing.IsOurs}
+use Rattle.journal.proofs.{SectorNumbers.IsSuper-one, StandingLaws.StandsFor-one, StandingLaws.StandsFor-shape}
 use Rattle.recovery.specs.Causes.{HasFewSlots, start_fault_of, IsRefusedCall}
-use Rattle.recovery.specs.Recovered.{IsRecoveredFrom, IsFresh, LeavesAtLeast, CanMigrate, IsMadeTwo, IsMigratedFrom}
-use Rattle.recovery.specs.Recovered.{IsMigrationRefusal, StaysFresh, MigrationLeaves, most_migration_sends, IsInOrder}
-use Rattle.recovery.specs.declared.recovered.Recovered.{Recovered}
+use Rattle.recovery.specs.Recovered.{IsRecoveredFrom, IsFresh, LeavesAtLeast, CanMigrate, IsMadeTwo, IsMigratedFrom, IsMigrationRefusal}
+use Rattle.recovery.specs.Recovered.{StaysFresh, MigrationLeaves, most_migration_sends, IsInOrder}
+use Rattle.recovery.specs.{Calls.Writes, Calls.copy_calls, declared.recovered.Recovered.Recovered}
 use Rattle.recovery.proofs.WholeRecovery.{recovery_leaves, served_slots, start_on}
 use Rattle.recovery.proofs.JoinedCalls.{log_ends, AreSame, zeros_fresh, fresh_ours}
 use Rattle.recovery.proofs.migration.migrate.Goals as goal

@@ -1,11 +1,7 @@
-use Rattle.std.proofs.Common.{inl, refl, ap, arith, rules, ℕ}
-use Rattle.std.proofs.lemmas.Result.{on_ok_weaker}
+use Rattle.std.proofs.{Common.refl, Common.ap, Common.arith, Common.rules, Common.ℕ, lemmas.Result.on_ok_weaker}
 use Rattle.medium.proofs.Tallies.{calls_most, calls_all, sends_most}
-use Rattle.medium.specs.Medium.{CutLeaves}
-use Rattle.medium.specs.Moments.{LeavesOnly}
-use Rattle.medium.specs.Tally.{Tally}
-use Rattle.recovery.specs.Calls.{cleared_at, IsBetween}
-use Rattle.recovery.specs.NewImage.{HoldsCleared}
+use Rattle.medium.specs.{Medium.CutLeaves, Moments.LeavesOnly, Tally.Tally}
+use Rattle.recovery.specs.{Calls.cleared_at, Calls.IsBetween, NewImage.HoldsCleared}
 use Rattle.recovery.proofs.JoinedCalls.{refused_call, none_read}
 use Rattle.recovery.proofs.sectors.clear.Goals as goal
 use Rattle.recovery.proofs.sectors.clear.Goals.{After-drive}

@@ -1,12 +1,8 @@
-use Rattle.std.proofs.Common.{◌≡◌, ◌+◌, ◌-◌, arith, refl, ◌≢◌, ◌<◌, ℕ, List, inr, ⊎_elim, ◌∙◌, Ok, Result, replicate}
-use Rattle.medium.proofs.Driving.{left_all}
-use Rattle.medium.proofs.Moments.{gains_within}
-use Rattle.medium.specs.Medium.{State}
-use Rattle.medium.specs.Performed.{Performed}
-use Rattle.medium.specs.declared.fault.MediumFault.{MediumFault}
+use Rattle.std.proofs.Common.{◌≡◌, ◌+◌, ◌-◌, arith, refl, ◌<◌, ℕ, List, inr, Ok, Result, replicate}
+use Rattle.medium.proofs.{Driving.left_all, Moments.gains_within}
 use Rattle.medium.specs.declared.medium_call.Call.TheVariants.{Write}
-use Rattle.recovery.specs.Calls.{cleared_at, IsBetween}
-use Rattle.recovery.specs.NewImage.{ClearView, HoldsCleared}
+use Rattle.medium.specs.{Medium.State, Performed.Performed, declared.fault.MediumFault.MediumFault}
+use Rattle.recovery.specs.{Calls.cleared_at, Calls.IsBetween, NewImage.ClearView, NewImage.HoldsCleared}
 use Rattle.recovery.proofs.clearing.ClearingMachine.next.Goals as goal
 
 module _ {M : Type 0} {state : M → State} {at end : ℕ} {view : ClearView M} {m n : M} {got : List ℕ} (below : at < end)

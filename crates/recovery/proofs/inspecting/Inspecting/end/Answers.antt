@@ -1,20 +1,11 @@
 use Rattle.std.proofs.Common.{◌≡◌, ◌∙◌, ℕ, ◌+◌, ◌<◌, List, [], length, sym, ap, arith, map}
 use Rattle.std.proofs.lemmas.List.{ext_get_or, get_or-map, length-map}
 use Rattle.medium.specs.Medium.{State}
-use Rattle.journal.specs.Record.{Entry}
-use Rattle.journal.specs.Sectors.{IsHead}
-use Rattle.journal.specs.Standing.{HasShape}
-use Rattle.journal.specs.Formats.{shape_of, layout_of}
-use Rattle.journal.proofs.Formats.{laws_of}
-use Rattle.journal.proofs.Wholeness.{IsWhole-one}
-use Rattle.journal.proofs.StandingLaws.{count_stands}
-use Rattle.recovery.specs.Causes.{AreCounts, IsInspected}
-use Rattle.recovery.specs.HoldsStart.{HoldsLook}
-use Rattle.recovery.specs.declared.inspection.Inspection.{Inspection}
+use Rattle.journal.specs.{Record.Entry, Sectors.IsHead, Standing.HasShape, Formats.shape_of, Formats.layout_of}
+use Rattle.journal.proofs.{Formats.laws_of, Wholeness.IsWhole-one, StandingLaws.count_stands}
+use Rattle.recovery.specs.{Causes.AreCounts, Causes.IsInspected, HoldsStart.HoldsLook, declared.inspection.Inspection.Inspection}
+use Rattle.recovery.proofs.{Looks.counted_at_end, Looks.look_cause, Tallies.no_tries_left, WholeRecovery.served_look}
 use Rattle.recovery.specs.Stages as stage
-use Rattle.recovery.proofs.Looks.{counted_at_end, look_cause}
-use Rattle.recovery.proofs.Tallies.{no_tries_left}
-use Rattle.recovery.proofs.WholeRecovery.{served_look}
 use Rattle.recovery.proofs.inspecting.Inspecting.end.Goals as goal
 
 -- what was read is what the image stands for

@@ -1,12 +1,8 @@
 use Rattle.std.proofs.Common.{◌≡◌, ◌<◌, ◌≤◌, refl, arith}
-use Rattle.medium.specs.Performed.{fault_of}
-use Rattle.medium.specs.declared.fault.MediumFault.TheVariants.{Read}
-use Rattle.journal.specs.declared.log_format.LogFormat.TheVariants.{Two}
-use Rattle.journal.specs.Places.{sectors_of, first_home}
-use Rattle.journal.specs.Formats.{shape_of}
+use Rattle.medium.specs.{Performed.fault_of, declared.fault.MediumFault.TheVariants.Read}
+use Rattle.journal.specs.{declared.log_format.LogFormat.TheVariants.Two, Places.sectors_of, Formats.shape_of}
 use Rattle.recovery.specs.Starting.{all_calls}
-use Rattle.recovery.proofs.Looks.{look_refused, super_read, super_looked, head_read, head_looked, survey_read, survey_looked}
-use Rattle.recovery.proofs.Looks.{told_by}
+use Rattle.recovery.proofs.Looks.{look_refused, super_read, super_looked, head_read, head_looked, survey_read, survey_looked, told_by}
 use Rattle.recovery.proofs.inspecting.InspectingMachine.next.Goals as goal
 
 pub returns-in-ReadSuper : goal.returns-in-ReadSuper

@@ -1,5 +1,4 @@
-use Rattle.std.proofs.Common.{◌≡◌, true, false, ◌≤◌, ◌+◌, ◌-◌, inl, inr, refl, suc, ◌∙◌, sym, arith}
-use Rattle.std.proofs.lemmas.Bool.{cases_eq}
+use Rattle.std.proofs.Common.{◌≡◌, true, false, ◌≤◌, ◌+◌, ◌-◌, inl, inr, refl, suc, arith}
 use Rattle.recovery.specs.declared.image_stage.ImageStage.TheVariants as stage
 use Rattle.recovery.proofs.ImageCalls.{tells_write, tells_flush}
 use Rattle.recovery.proofs.new_image.NewImageMachine.next.Goals as goal

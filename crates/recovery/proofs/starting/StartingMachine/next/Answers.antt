@@ -1,18 +1,12 @@
 use Rattle.std.proofs.Common.{◌<◌, ◌≤◌, ◌∙◌, ap, refl, arith}
 use Rattle.medium.specs.Tally.{Tally, none}
-use Rattle.medium.specs.Performed.{fault_of}
-use Rattle.journal.specs.declared.log_format.LogFormat.TheVariants.{Two}
-use Rattle.journal.specs.Places.{sectors_of, first_home}
-use Rattle.journal.specs.Formats.{shape_of}
+use Rattle.journal.specs.{declared.log_format.LogFormat.TheVariants.Two, Places.sectors_of, Formats.shape_of}
 use Rattle.recovery.specs.Starting.{head_calls, all_calls, home_calls, both}
-use Rattle.recovery.proofs.Looks.{super_read, super_looked, head_read, head_looked, survey_read, survey_looked}
-use Rattle.recovery.proofs.Looks.{flushed_first, first_made, looked_start, reads_leave}
-use Rattle.recovery.proofs.StartCopy.{survey_on, copy_made, copy_refused}
-use Rattle.recovery.proofs.StartCopy.{copies_flushed, copies_flush_leaves, head_written, head_write_leaves, head_flush_made}
-use Rattle.recovery.proofs.StartCopy.{head_flush_leaves}
-use Rattle.recovery.proofs.Tallies.{both_left}
-use Rattle.recovery.proofs.Tallies.{no_tries_left, none_left, left_through, survey_goes_left}
-use Rattle.recovery.proofs.Looks.{told, told_by, both_told}
+use Rattle.recovery.proofs.Looks.{super_read, super_looked, head_read, head_looked, survey_read, survey_looked, flushed_first, first_made}
+use Rattle.recovery.proofs.Looks.{looked_start, reads_leave, told, told_by, both_told}
+use Rattle.recovery.proofs.StartCopy.{survey_on, copy_made, copy_refused, copies_flushed, copies_flush_leaves, head_written}
+use Rattle.recovery.proofs.StartCopy.{head_write_leaves, head_flush_made, head_flush_leaves}
+use Rattle.recovery.proofs.Tallies.{both_left, no_tries_left, none_left, left_through, survey_goes_left}
 use Rattle.recovery.proofs.starting.StartingMachine.next.Goals as goal
 
 pub returns-in-FlushFirst : goal.returns-in-FlushFirst
@@ -55,7 +49,8 @@ returns-in-Survey g c =
     (grind (arith, can.fits, tells.within)) (grind (arith, can.fits, tells.looks)) (grind (arith, tells.pays))
     (λ m n start got least next fits held performed after.
     survey_on g.met.M.Medium.sound held.midway.1 (survey_looked g.met.M.Medium.sound held.midway.2 tells performed after.1) after.2)
-    (λ m n start got least e held performed. reads_leave least held.midway.1 (survey_read g.met.M.Medium.sound held.midway.2 tells performed))
+    (λ m n start got least e held performed. reads_leave least held.midway.1
+    (survey_read g.met.M.Medium.sound held.midway.2 tells performed))
     (both tells.rest others) (ap (λ (t : Tally). both t others) tells.pays ∙ grind arith)
     (λ got next after. survey_goes_left after.1.sizes_stay after.2 (tells.rests got after.0 after.1))) c.next.ensures
 
@@ -86,7 +81,8 @@ returns-in-FlushCopies g c =
     told c.args.self.now c.in-FlushCopies.is tt tt tt refl
     (λ m n start got least next fits held performed after. rw after (
       copies_flush_leaves g.met.M.Medium.sound held.midway performed,
-      record { copied = m; has = held.midway; moves = copies_flushed c.in-FlushCopies.field-0 (g.met.M.Medium.sound m) performed; now = performed.done },
+      let moves = copies_flushed c.in-FlushCopies.field-0 (g.met.M.Medium.sound m) performed in
+          record { copied = m; has = held.midway; moves = moves; now = performed.done },
     ))
     (λ m n start got least e held performed. copies_flush_leaves g.met.M.Medium.sound held.midway performed)
     (record { reads = 0; writes = 1; flushes = 1 }) refl
