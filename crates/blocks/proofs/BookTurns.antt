@@ -1,27 +1,19 @@
 -- How the books that a store fits go on from turn to turn.
 use Rattle.std.specs.Prelude.{if◌then◌else◌, ◌==◌, nat_le, get_or, slice_range, unwrap_or}
+use Rattle.std.proofs.{lemmas.List.take-append-le, lemmas.List.drop-drop, Math.Seq.take-length, lemmas.Bool.Decides.nat_tests}
 use Rattle.std.proofs.Common.{◌≡◌, ◌≤◌, ◌<◌, ℕ, ◌+◌, ◌*◌, ◌-◌, ⊎_elim, arith, ◌∙◌, sym, ap, subst, refl, Bool, true, false, Option, Some}
 use Rattle.std.proofs.Common.{List, [], ◌∷◌, ◌++◌, length, take, drop, length-append, zero, suc, get_or}
-use Rattle.std.proofs.lemmas.List.{take-append-le, drop-drop}
-use Rattle.std.proofs.Math.Seq.{take-length}
-use Rattle.std.proofs.lemmas.Bool.Decides.{nat_tests}
 use Rattle.medium.specs.Medium.{State, Image}
 use Rattle.spec.specs.Blocks.{Array, Write, apply, after, chunks}
 use Rattle.spec.specs.Book.{Book, after_first, array_of, with_write, promised}
-use Rattle.journal.specs.Places.{Shape}
-use Rattle.journal.specs.Record.{with_blocks}
-use Rattle.journal.specs.Standing.{IsOurs}
-use Rattle.cache.specs.Blocks.{Blocks, blocks_of, over, with_range, Listed}
-use Rattle.cache.specs.Entries.{Entries, map_of}
+use Rattle.journal.specs.{Places.Shape, Record.with_blocks, Standing.IsOurs}
+use Rattle.cache.specs.{Blocks.Blocks, Blocks.blocks_of, Blocks.over, Blocks.with_range, Blocks.Listed, Entries.Entries, Entries.map_of}
 use Rattle.cache.proofs.Arrays.{over_put}
 use Rattle.redo_log.specs.Value.{LogValue, HasRoom, begun, IsBatch, entries_from, entries_of}
 use Rattle.redo_log.specs.Held.{View, HoldsView, MayLeave, with_record}
-use Rattle.redo_log.proofs.HeldLog.{many}
-use Rattle.redo_log.proofs.StoreFacts.{begun_holds, may_leave_ours}
-use Rattle.blocks.specs.Book.{Same}
-use Rattle.blocks.specs.Finding.{StandsAs, MayFind}
+use Rattle.redo_log.proofs.{HeldLog.many, StoreFacts.begun_holds, StoreFacts.may_leave_ours}
+use Rattle.blocks.specs.{Book.Same, Finding.StandsAs, Finding.MayFind, Kept.IsBatchOf}
 use Rattle.blocks.specs.StoreValue.{firsts_in, Cached, FitsBook, ShowsBook, wants}
-use Rattle.blocks.specs.Kept.{IsBatchOf}
 
 -- blocks over two arrays that have the same block
 pub over_same : (blocks : Blocks) (a c : Array) (b : ℕ) → a b ≡ c b → over blocks a b ≡ over blocks c b

@@ -1,32 +1,18 @@
 -- A store whose batches are empty: what fits, what is sent, how many steps are left else, and that at rest everything is at home.
-use Rattle.std.specs.Prelude.{false}
+use Rattle.std.specs.Prelude.{false, ◌==◌}
+use Rattle.std.proofs.{lemmas.List.nil_from_length, lemmas.Bool.cases_lt, lemmas.Bool.cases_Bool, lemmas.Bool.Decides.nat_tests}
 use Rattle.std.proofs.Common.{◌≡◌, ◌+◌, ◌<◌, ◌≤◌, ℕ, ◌∙◌, sym, ap, arith, true, false, List, [], length, ◌⊎◌, Bool, refl, inl, inr}
-use Rattle.std.proofs.lemmas.List.{nil_from_length}
-use Rattle.std.proofs.lemmas.Bool.{cases_lt, cases_Bool}
-use Rattle.std.proofs.lemmas.Bool.Decides.{nat_tests}
-use Rattle.medium.specs.Medium.{State, Image, IsSound}
-use Rattle.medium.specs.Moments.{EachCut}
-use Rattle.medium.specs.Sent.{SendsUpTo}
+use Rattle.medium.specs.{Medium.State, Medium.Image, Medium.IsSound, Moments.EachCut, Sent.SendsUpTo}
 use Rattle.spec.specs.Book.{Book, array_of}
-use Rattle.journal.specs.Record.{home_of}
-use Rattle.journal.specs.Standing.{Keeps}
-use Rattle.cache.specs.Blocks.{over}
-use Rattle.cache.specs.Entries.{map_of, Entries}
+use Rattle.journal.specs.{Record.home_of, Standing.Keeps}
+use Rattle.cache.specs.{Blocks.over, Entries.map_of, Entries.Entries}
 use Rattle.cache.proofs.Arrays.{unlisted_empty}
-use Rattle.std.specs.Prelude.{◌==◌}
 use Rattle.redo_log.specs.Value.{LogValue, Owes, retire_steps_of, of_oldest, pass_calls, CanPass, IsCovered}
-use Rattle.redo_log.proofs.HeldLog.{many}
-use Rattle.redo_log.proofs.StoreFacts.{home_is, blocks_guarded, put_head}
+use Rattle.redo_log.proofs.{HeldLog.many, StoreFacts.home_is, StoreFacts.blocks_guarded, StoreFacts.put_head}
+use Rattle.blocks.specs.{Settled.IsAtHome, Settled.IsSettled, OneBatch.SendsOneBatch, Written.IsWritten, Ahead.is_covered, Ahead.counted}
+use Rattle.blocks.specs.{Prepared.RestsAhead, Background.PassesHead, Work.IsAheadStep, Work.GoesOnAhead, Work.with_counted}
 use Rattle.blocks.specs.StoreValue.{Cached, layout_of, is_dead, steps_left, FitsBook, FitsBeside, active_of, transfer_limit, unwritten}
-use Rattle.blocks.specs.Settled.{IsAtHome, IsSettled}
-use Rattle.blocks.specs.OneBatch.{SendsOneBatch}
-use Rattle.blocks.specs.Written.{IsWritten}
-use Rattle.blocks.specs.Ahead.{is_covered, counted}
-use Rattle.blocks.specs.Prepared.{RestsAhead}
-use Rattle.blocks.specs.Background.{PassesHead}
-use Rattle.blocks.specs.Work.{IsAheadStep, GoesOnAhead, with_counted}
-use Rattle.blocks.proofs.BookTurns.{over_none}
-use Rattle.blocks.proofs.LogTurns.{nothing_left, settles_all}
+use Rattle.blocks.proofs.{BookTurns.over_none, LogTurns.nothing_left, LogTurns.settles_all}
 
 -- ---- a store at rest has everything at home
 

@@ -1,29 +1,22 @@
 -- One step ahead, or one that writes back, keeps headroom, and each record makes one flush, whatever calls come between.
 use Rattle.std.specs.Prelude.{ℕ, List, [], ◌∷◌, length, true, false, Bool}
+use Rattle.std.proofs.{lemmas.Bool.cases_Bool, lemmas.Bool.cases_lt, lemmas.Bool.Decides.nat_tests, lemmas.List.nil_from_length}
 use Rattle.std.proofs.Common.{◌≡◌, ◌⊎◌, ◌<◌, ◌∙◌, inl, inr, refl, arith, length-append, ◌+◌, ap}
-use Rattle.std.proofs.lemmas.Bool.{cases_Bool, cases_lt}
-use Rattle.std.proofs.lemmas.Bool.Decides.{nat_tests}
-use Rattle.std.proofs.lemmas.List.{nil_from_length}
-use Rattle.medium.specs.Medium.{State}
-use Rattle.medium.specs.declared.fault.MediumFault.TheVariants.{Flush}
+use Rattle.medium.specs.{Medium.State, declared.fault.MediumFault.TheVariants.Flush}
 use Rattle.cache.specs.Entries.{Entries}
 use Rattle.redo_log.specs.Value.{LogValue, CanPass, IsAway, IsStepped, IsRetireStepped, next_step_flushes}
 use Rattle.redo_log.specs.declared.progress.Progress.{Progress}
-use Rattle.blocks.specs.Ahead.{counted, ahead_room}
-use Rattle.blocks.specs.Background.{FreezesNext, IsBackgroundStep, SettlesFlush}
+use Rattle.blocks.specs.{Ahead.counted, Ahead.ahead_room, Background.FreezesNext, Background.IsBackgroundStep, Background.SettlesFlush}
+use Rattle.blocks.specs.{Written.IsWritten, declared.work.Work.Work, Retiring.finished_with, Retiring.finished}
 use Rattle.blocks.specs.Headroom.{IsInOrder, RestsWithRoom, HasHeadroom, next_durable, FlushesOnce, IsSparing, AreSparing}
 use Rattle.blocks.specs.StoreValue.{Cached, is_dead, steps_left, unwritten, StoreValue, firsts_in, wants}
 use Rattle.blocks.specs.Work.{GoesOnAhead, IsAheadStep, IsWriteBackStep, MayWrite, SparesSlots, with_counted, RetiresNone, IsWork, WorksBy}
 use Rattle.blocks.specs.Work.{DoesWork}
-use Rattle.blocks.specs.Written.{IsWritten}
-use Rattle.blocks.specs.declared.work.Work.{Work}
 use Rattle.blocks.specs.declared.work.Work.TheVariants.{Settle, Ahead, WriteBack}
-use Rattle.blocks.specs.Retiring.{finished_with, finished}
-use Rattle.blocks.proofs.EmptyBatches.{written_live}
+use Rattle.blocks.proofs.{EmptyBatches.written_live, Room.flushes_step, Room.steps_once}
 use Rattle.blocks.proofs.Headroom.{order_more, headroom_finished, two_with_headroom, rests_finished, rests_stepped, landed_stepped}
 use Rattle.blocks.proofs.Headroom.{landed_begun, headroom_stepped}
 use Rattle.blocks.proofs.Steady.{behind_more, with_more, finished_is}
-use Rattle.blocks.proofs.Room.{flushes_step, steps_once}
 
 -- ---- whether a record is left to write
 

@@ -1,19 +1,15 @@
 -- A store that goes ahead keeps headroom, turn by turn, and its records flush once each.
 use Rattle.std.specs.Prelude.{ℕ, List, [], ◌∷◌, length, drop, true, false}
+use Rattle.std.proofs.{lemmas.Bool.cases_Bool, lemmas.Bool.cases_lt, lemmas.List.nil_from_length, lemmas.Bool.Decides.nat_tests}
 use Rattle.std.proofs.Common.{◌≡◌, ◌⊎◌, ◌<◌, ◌≤◌, ◌+◌, arith, length-append, inl, inr}
-use Rattle.std.proofs.lemmas.Bool.{cases_Bool, cases_lt}
-use Rattle.std.proofs.lemmas.List.{nil_from_length}
-use Rattle.std.proofs.lemmas.Bool.Decides.{nat_tests}
 use Rattle.medium.specs.Medium.{State}
 use Rattle.journal.specs.declared.log_format.LogFormat.TheVariants.{Two}
 use Rattle.redo_log.specs.Value.{LogValue, IsRetireStepped, IsStepped, begun, of_oldest}
 use Rattle.redo_log.specs.declared.progress.Progress.{Progress}
+use Rattle.blocks.specs.{Started.IsStarted, Flushing.finish_flushes, Flushing.both_flushes, Retiring.HasSlots, Retiring.finished_with}
 use Rattle.blocks.specs.Background.{IsBackgroundStep, MayBegin}
-use Rattle.blocks.specs.Started.{IsStarted}
 use Rattle.blocks.specs.Ahead.{oldest_retired, passed, sent_home, ahead_room, may_go_ahead}
 use Rattle.blocks.specs.Headroom.{IsInOrder, RestsWithRoom, HasHeadroom, landed}
-use Rattle.blocks.specs.Flushing.{finish_flushes, both_flushes}
-use Rattle.blocks.specs.Retiring.{HasSlots, finished_with}
 use Rattle.blocks.specs.StoreValue.{Cached, layout_of, is_dead, firsts_in, wants}
 use Rattle.blocks.proofs.Room.{idle_behind, steps_once}
 use Rattle.blocks.proofs.Steady.{blocks_more, blocks_behind, behind_more, first_owed, with_more, finished_is}

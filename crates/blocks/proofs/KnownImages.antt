@@ -1,36 +1,25 @@
 -- What is known of an image by the books for which it stands, and the store that a recovery starts.
 use Rattle.std.specs.Prelude.{Bool, true}
-use Rattle.std.proofs.Common.{◌≡◌, ◌≤◌, ◌<◌, ◌^◌, ℕ, ⊎_elim, arith, ◌∙◌, sym, ap, subst, refl, Bool, true, false, Option, None, Some}
-use Rattle.std.proofs.Common.{List, [], ◌∷◌, take, inl, rules}
+use Rattle.std.proofs.Common.{◌≡◌, ◌≤◌, ◌<◌, ◌^◌, ℕ, ⊎_elim, arith, ◌∙◌, sym, ap, subst, refl, Bool, true, false, Option, None, Some, List}
+use Rattle.std.proofs.Common.{[], ◌∷◌, take, inl, rules}
 use Rattle.std.proofs.lemmas.Bool.{false≢true}
-use Rattle.medium.specs.Medium.{State, Image, IsSound}
-use Rattle.medium.specs.Moments.{EachCut, IsFlushed, LeavesOnly}
+use Rattle.medium.specs.{Medium.State, Medium.Image, Medium.IsSound, Moments.EachCut, Moments.IsFlushed, Moments.LeavesOnly}
 use Rattle.medium.proofs.Moments.{at_exit, only_image}
-use Rattle.spec.specs.Blocks.{Array, Write, apply, after}
-use Rattle.spec.specs.Book.{Book, after_first, opened, with_write}
-use Rattle.journal.specs.Places.{Shape, limit_of, sectors_of}
+use Rattle.spec.specs.{Blocks.Array, Blocks.Write, Blocks.apply, Blocks.after, Book.Book, Book.after_first, Book.opened, Book.with_write}
+use Rattle.journal.specs.{Places.Shape, Places.limit_of, Places.sectors_of, declared.super_sector.Super.Super}
+use Rattle.journal.specs.{declared.log_format.LogFormat.LogFormat, Formats.shape_of, Formats.CarriesBelow, Sectors.IsSuper}
 use Rattle.journal.specs.Standing.{StandsFor, Stands, IsOurs, Keeps}
-use Rattle.journal.specs.declared.super_sector.Super.{Super}
-use Rattle.journal.specs.declared.log_format.LogFormat.{LogFormat}
-use Rattle.journal.specs.Formats.{shape_of, CarriesBelow}
-use Rattle.journal.specs.Sectors.{IsSuper}
 use Rattle.journal.specs.Standing as image
 use Rattle.journal.proofs.StandingLaws.{StandsFor-one, HasFault-stands}
 use Rattle.cache.specs.Entries.{Entries}
-use Rattle.redo_log.specs.Held.{resting_view, HasNoRecord, HoldsView}
-use Rattle.redo_log.specs.Value.{idle_from}
+use Rattle.redo_log.specs.{Held.resting_view, Held.HasNoRecord, Held.HoldsView, Value.idle_from}
 use Rattle.redo_log.proofs.StoreFacts.{idle_holds}
+use Rattle.recovery.specs.{declared.start_fault.StartFault.StartFault, declared.recovered.Recovered.Recovered}
 use Rattle.recovery.specs.Recovered.{IsOursForSome, StandsForOneOf, IsRecoveredFrom}
-use Rattle.recovery.specs.declared.start_fault.StartFault.{StartFault}
-use Rattle.recovery.specs.declared.recovered.Recovered.{Recovered}
 use Rattle.recovery.specs.Recovered as recovered
-use Rattle.blocks.specs.Book.{Same}
-use Rattle.blocks.specs.Finding.{StandsAs, MayFind, FoundWith}
+use Rattle.blocks.specs.{Book.Same, Finding.StandsAs, Finding.MayFind, Finding.FoundWith, Opening.StandsForOpening, Opening.OpensOn}
+use Rattle.blocks.specs.{Opening.IsCauseFor, Started.IsStartCause, Started.IsStarted, Ahead.may_go_ahead, Kept.Invariant}
 use Rattle.blocks.specs.StoreValue.{Cached, layout_of, blocks_of, FitsBook}
-use Rattle.blocks.specs.Opening.{StandsForOpening, OpensOn, IsCauseFor}
-use Rattle.blocks.specs.Started.{IsStartCause, IsStarted}
-use Rattle.blocks.specs.Ahead.{may_go_ahead}
-use Rattle.blocks.specs.Kept.{Invariant}
 use Rattle.blocks.proofs.BookTurns.{stands_as, apply_same, shows_book, may_find}
 
 -- ---- what an image stands for

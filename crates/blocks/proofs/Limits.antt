@@ -1,12 +1,10 @@
 -- How many blocks a transfer has at most, and how many steps are left at most.
 use Rattle.std.proofs.Common.{◌≡◌, ◌≤◌, ℕ, ◌+◌, ◌*◌, ap, arith, Bool}
-use Rattle.journal.specs.Places.{Shape, limit_of}
-use Rattle.journal.specs.declared.log_format.LogFormat.{LogFormat}
+use Rattle.journal.specs.{Places.Shape, Places.limit_of, declared.log_format.LogFormat.LogFormat, declared.super_sector.Super.Super}
 use Rattle.journal.specs.declared.log_format.LogFormat.TheVariants.{One, Two}
-use Rattle.journal.specs.declared.super_sector.Super.{Super}
 use Rattle.blocks.specs.StoreValue.{Cached, layout_of, blocks_of, slots_of, transfer_limit, batch_steps, steps_for, waiting, HasLimits}
-use Rattle.redo_log.specs.Value.{most_steps, most_retire_steps}
 use Rattle.blocks.specs.Kept.{Invariant}
+use Rattle.redo_log.specs.Value.{most_steps, most_retire_steps}
 
 -- no format has a lower limit, or a higher one
 pub limit_least : (format : LogFormat) → 48 ≤ limit_of format

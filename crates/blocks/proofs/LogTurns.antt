@@ -1,36 +1,22 @@
 -- The turns of the store's own functions, from what the log's calls do.
 use Rattle.std.specs.Prelude.{Result, Ok, Err}
+use Rattle.std.proofs.{lemmas.Bool.cases_lt, lemmas.Bool.cases_Bool, lemmas.Bool.Decides.nat_tests, lemmas.List.nil_from_length}
 use Rattle.std.proofs.Common.{◌≡◌, ◌≤◌, ◌<◌, ℕ, ◌+◌, ◌-◌, ◌*◌, ◌^◌, inl, inr, arith, ◌∙◌, refl, ap, true, false, Bool, List, [], ◌∷◌}
 use Rattle.std.proofs.Common.{length, length-append}
-use Rattle.std.proofs.lemmas.Bool.{cases_lt, cases_Bool}
-use Rattle.std.proofs.lemmas.Bool.Decides.{nat_tests}
-use Rattle.std.proofs.lemmas.List.{nil_from_length}
-use Rattle.medium.specs.Medium.{State, IsSound}
-use Rattle.medium.specs.Moments.{LeavesOnly}
-use Rattle.medium.proofs.Moments.{started, weaker}
-use Rattle.medium.proofs.SparedSectors.{spared_start}
-use Rattle.spec.specs.Blocks.{chunks, Write}
-use Rattle.spec.specs.Book.{Book, promised}
-use Rattle.journal.specs.Places.{sectors_of}
-use Rattle.journal.specs.declared.super_sector.Super.{Super}
-use Rattle.cache.specs.Blocks.{with_range}
-use Rattle.cache.specs.Entries.{Entries, map_of}
+use Rattle.medium.specs.{Medium.State, Medium.IsSound, Moments.LeavesOnly}
+use Rattle.medium.proofs.{Moments.started, Moments.weaker, SparedSectors.spared_start}
+use Rattle.spec.specs.{Blocks.chunks, Blocks.Write, Book.Book, Book.promised}
+use Rattle.journal.specs.{Places.sectors_of, declared.super_sector.Super.Super}
+use Rattle.cache.specs.{Blocks.with_range, Entries.Entries, Entries.map_of}
+use Rattle.redo_log.specs.{Held.View, Held.HoldsView, Held.stamps_of, declared.fault.LogFault.LogFault, declared.progress.Progress.Progress}
 use Rattle.redo_log.specs.Value.{LogValue, Owes, CanPass, IsAway, IsSentHome, HasRoom, begun, died, IsCovered, IsRetireStepped, IsBatch}
 use Rattle.redo_log.specs.Value.{settled, entries_of, pass_calls, ahead_calls, next_calls, next_sends, next_turn_flushes}
-use Rattle.redo_log.specs.Held.{View, HoldsView, stamps_of}
 use Rattle.redo_log.specs.Steps.{MakesTurns, MakesStep, CountsStep, LeavesLog}
-use Rattle.redo_log.specs.declared.fault.LogFault.{LogFault}
-use Rattle.redo_log.specs.declared.progress.Progress.{Progress}
 use Rattle.redo_log.specs.declared.progress.Progress.TheVariants.{More, Durable}
-use Rattle.redo_log.proofs.HeldLog.{many}
-use Rattle.redo_log.proofs.StoreFacts.{died_holds, settled_holds}
-use Rattle.blocks.specs.Ahead.{counted, is_covered}
-use Rattle.blocks.specs.Finding.{MayFind, Found}
-use Rattle.blocks.specs.Kept.{Invariant}
-use Rattle.blocks.specs.Passing.{PassesOn, PassesPaid}
-use Rattle.blocks.specs.Stopping.{stopped}
+use Rattle.redo_log.proofs.{HeldLog.many, StoreFacts.died_holds, StoreFacts.settled_holds}
+use Rattle.blocks.specs.{Ahead.counted, Ahead.is_covered, Finding.MayFind, Finding.Found, Kept.Invariant, Passing.PassesOn}
+use Rattle.blocks.specs.{Passing.PassesPaid, Stopping.stopped, Turns.GoesOn, Turns.IsTurn, Turns.IsWriteTurn}
 use Rattle.blocks.specs.StoreValue.{firsts_in, Cached, layout_of, steps_left, FitsBook, is_dead}
-use Rattle.blocks.specs.Turns.{GoesOn, IsTurn, IsWriteTurn}
 use Rattle.blocks.specs.Background.{PassesHead, BringsHome, IsRetiring}
 use Rattle.blocks.proofs.BookTurns.{moves, begins, becomes_durable, freezes, appends, settles, finds}
 use Rattle.blocks.proofs.TurnsJoined.{exits}

@@ -1,10 +1,8 @@
 -- One batch is made durable by the writes and flushes of its record, and of the room for that.
-use Rattle.std.proofs.Common.{◌≡◌, ◌≤◌, ◌+◌, Bool, subst, arith}
-use Rattle.medium.specs.Medium.{State}
-use Rattle.medium.specs.Sent.{sent}
+use Rattle.std.proofs.Common.{◌≡◌, ◌≤◌, ◌+◌, Bool, arith}
+use Rattle.medium.specs.{Medium.State, Sent.sent}
 use Rattle.redo_log.specs.Value.{LogValue, most_steps, most_retire_sends}
-use Rattle.blocks.specs.Prepared.{IsPrepared}
-use Rattle.blocks.specs.OneBatch.{SendsOneBatch}
+use Rattle.blocks.specs.{Prepared.IsPrepared, OneBatch.SendsOneBatch}
 
 module _ (ahead : Bool) (before : State) (log : LogValue) where
   -- nothing was sent
@@ -23,11 +21,3 @@ module _ (ahead : Bool) (before : State) (log : LogValue) where
     most = omega (arith, room, few);
     prepared = λ prepared. let same = quiet prepared in omega (arith, same, few);
   }
-
--- the same of a store and a medium that are as they were before
-pub one_batch_as : (ahead other : Bool) (before mid after : State) (log last : LogValue) → other ≡ ahead → mid ≡ before → last ≡ log
-    → SendsOneBatch other mid after last → SendsOneBatch ahead before after log
-one_batch_as ahead other before mid after log last policy medium is one =
-    subst (λ (b : Bool). SendsOneBatch b before after log) policy
-    (subst (λ (m : State). SendsOneBatch other m after log) medium
-    (subst (λ (l : LogValue). SendsOneBatch other mid after l) is one))

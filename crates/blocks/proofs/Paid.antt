@@ -1,11 +1,9 @@
 -- What the calls of a store pass on, one after another.
 use Rattle.std.proofs.Common.{◌≡◌, ◌<◌, ◌+◌, arith, ◌∙◌, Bool, true, false, ◌≤◌, ◌*◌, ℕ, ap, refl}
-use Rattle.medium.specs.Medium.{State, IsSound}
-use Rattle.medium.specs.Sent.{sent, SendsUpTo}
+use Rattle.medium.specs.{Medium.State, Medium.IsSound, Sent.sent, Sent.SendsUpTo}
 use Rattle.spec.specs.Blocks.{Write}
+use Rattle.blocks.specs.{Turns.IsTurn, Turns.IsWriteTurn, Passing.PassesOn, Passing.PassesPaid, Passing.KeepsMedium}
 use Rattle.blocks.specs.StoreValue.{Cached, is_dead, steps_left, StoreValue}
-use Rattle.blocks.specs.Turns.{IsTurn, IsWriteTurn}
-use Rattle.blocks.specs.Passing.{PassesOn, PassesPaid, KeepsMedium}
 use Rattle.blocks.proofs.SectorsRead.{none, looks_on}
 use Rattle.blocks.proofs.TurnsJoined.{stays, turns, not_written, then_written}
 

@@ -1,29 +1,18 @@
 -- What a read gives, and how many calls of the medium it makes.
 use Rattle.std.specs.Prelude.{unwrap_or, Ok}
+use Rattle.std.proofs.{lemmas.List.length-drop, lemmas.List.length-take-le, lemmas.List.take_all, lemmas.Slice.take-put_mid}
 use Rattle.std.proofs.Common.{◌≡◌, ℕ, zero, suc, ◌+◌, ◌*◌, ◌≤◌, ◌<◌, List, ◌++◌, length, take, drop, Option, None, ⊎_elim, sym, ◌∙◌, ap}
 use Rattle.std.proofs.Common.{arith, append_assoc, append-nil, add-zero, add-one, Result, false, refl, subst}
-use Rattle.std.proofs.lemmas.List.{length-drop, length-take-le, take_all}
-use Rattle.std.proofs.lemmas.Slice.{take-put_mid}
 use borrow.Rule.Slice.PartMut.{put_mid}
-use Rattle.medium.specs.Medium.{State, Passes, IsSound}
-use Rattle.medium.specs.declared.fault.MediumFault.{MediumFault}
+use Rattle.medium.specs.{Medium.State, Medium.Passes, Medium.IsSound, declared.fault.MediumFault.MediumFault, Sent.SendsUpTo}
 use Rattle.medium.specs.declared.fault.MediumFault.TheVariants.{Read}
-use Rattle.medium.specs.Sent.{SendsUpTo}
-use Rattle.medium.proofs.CallsSent.{read_sends}
-use Rattle.medium.proofs.Moments.{quiet_joined}
-use Rattle.spec.specs.Blocks.{Array}
-use Rattle.spec.specs.Book.{Book, array_of, blocks_at}
-use Rattle.cache.specs.Blocks.{over, is_listed, unlisted}
-use Rattle.cache.specs.Entries.{map_of, Entries}
-use Rattle.cache.proofs.Maps.{listed_is}
-use Rattle.cache.proofs.Arrays.{unlisted_most}
-use Rattle.blocks.specs.Reads.{IsInBatch, ReadsBlock}
-use Rattle.blocks.specs.StoreValue.{Cached, blocks_of, FitsBook, StoreValue}
-use Rattle.blocks.specs.Calls.{block_reads, reads_of, CostsReads}
-use Rattle.blocks.specs.Passing.{KeepsStore}
-use Rattle.blocks.specs.Turns.{IsTurn}
-use Rattle.blocks.proofs.SectorsRead.{one_more, fewer_read}
-use Rattle.blocks.proofs.TurnsJoined.{quiet_turn}
+use Rattle.medium.proofs.{CallsSent.read_sends, Moments.quiet_joined}
+use Rattle.spec.specs.{Blocks.Array, Book.Book, Book.array_of, Book.blocks_at}
+use Rattle.cache.specs.{Blocks.over, Blocks.is_listed, Blocks.unlisted, Entries.map_of, Entries.Entries}
+use Rattle.cache.proofs.{Maps.listed_is, Arrays.unlisted_most}
+use Rattle.blocks.specs.{Reads.IsInBatch, Reads.ReadsBlock, StoreValue.Cached, StoreValue.blocks_of, StoreValue.FitsBook}
+use Rattle.blocks.specs.{StoreValue.StoreValue, Calls.block_reads, Calls.reads_of, Calls.CostsReads, Passing.KeepsStore, Turns.IsTurn}
+use Rattle.blocks.proofs.{SectorsRead.one_more, SectorsRead.fewer_read, TurnsJoined.quiet_turn}
 
 -- ---- what a read gives
 

@@ -2,18 +2,16 @@
 use Rattle.std.specs.Prelude.{ℕ, suc, zero, List, length, nat_lt, Bool, if◌then◌else◌, []}
 use Rattle.std.proofs.Common.{◌≡◌, ◌⊎◌, ◌<◌, ◌≤◌, ◌+◌, ◌-◌, arith, refl, inl, inr, []}
 use Rattle.std.proofs.lemmas.Bool.Decides.{nat_tests}
-use Rattle.journal.specs.declared.log_format.LogFormat.TheVariants.{Two}
-use Rattle.journal.specs.Places.{limit_of}
+use Rattle.journal.specs.{declared.log_format.LogFormat.TheVariants.Two, Places.limit_of}
 use Rattle.redo_log.specs.Value.{LogValue, HasRoom, IsStepped, IsRetireStepped, of_oldest, steps_of, turn_calls, turns_calls, turn_sends}
 use Rattle.redo_log.specs.Value.{turns_sends, turn_flushes, turns_flushes, next_step_flushes, steps_flushes, AllFirsts, begun, IsAway}
 use Rattle.redo_log.specs.Value.{IsSentHome, behind_oldest, ahead_of, next_calls, next_sends, sends_of_oldest, most_retire_sends}
 use Rattle.redo_log.specs.declared.progress.Progress.{Progress}
+use Rattle.blocks.specs.{Prepared.NeedsNoneAhead, StoreValue.wants}
 use Rattle.blocks.specs.Flushing.{left_flushes, room_flushes, finish_flushes, both_flushes}
 use Rattle.blocks.specs.Retiring.{oldest_retired, with_room, written_out, finished_with, finish_calls, ready_calls, HasSlots, made_ready}
 use Rattle.blocks.specs.Retiring.{both_calls, record_calls, calls_from, to_begin, with_spare, room_calls}
 use Rattle.blocks.specs.Ahead.{passed, sent_home, passed_calls, sent_calls, ahead_room, ahead_room_calls, gone_home, going_calls}
-use Rattle.blocks.specs.Prepared.{NeedsNoneAhead}
-use Rattle.blocks.specs.StoreValue.{wants}
 
 -- ---- a count of calls, by how many each step makes
 

@@ -3,8 +3,7 @@ use Rattle.std.proofs.Common.{◌≡◌, ◌<◌, ◌≤◌, ◌+◌, ℕ, inl, 
 use Rattle.medium.specs.Medium.{State, LooksOnly}
 use Rattle.medium.proofs.SectorsRead.{no_looks, one_look, looks_joined, looks_wider}
 use Rattle.journal.specs.Places.{Shape, first_home}
-use Rattle.blocks.specs.Looks.{LooksAtLog, LooksAtBlocks}
-use Rattle.blocks.specs.StoreValue.{Cached, layout_of}
+use Rattle.blocks.specs.{Looks.LooksAtLog, Looks.LooksAtBlocks, StoreValue.Cached, StoreValue.layout_of}
 
 -- no read was made
 pub none : (before after : State) (s : Cached) → after.looked ≡ before.looked → LooksAtLog before after s

@@ -1,19 +1,17 @@
 -- How records alone fill the ring of a store that goes ahead, how it stays steady, and what a record costs then.
+use Rattle.std.proofs.{lemmas.Bool.Decides.nat_tests, lemmas.List.Sums.sum_by-cons, lemmas.List.Sums.sum_by_push}
 use Rattle.std.proofs.Common.{◌≡◌, ◌⊎◌, ◌<◌, ◌≤◌, ◌+◌, ◌-◌, ◌*◌, arith, length-append, refl}
-use Rattle.std.specs.Prelude.{ℕ, zero, suc, List, [], ◌∷◌, ◌++◌, length, get_or, drop, sum_by, All, true}
-use Rattle.std.proofs.lemmas.Bool.Decides.{nat_tests}
-use Rattle.std.proofs.lemmas.List.Sums.{sum_by-cons, sum_by_push}
 use Rattle.std.proofs.lemmas.List.Elements.{All-append, All-cons}
+use Rattle.std.specs.Prelude.{ℕ, zero, suc, List, [], ◌∷◌, ◌++◌, length, get_or, drop, sum_by, All, true}
 use Rattle.medium.specs.Medium.{State}
 use Rattle.cache.specs.Entries.{Entries}
 use Rattle.journal.specs.Places.{Shape}
 use Rattle.redo_log.specs.Value.{LogValue, HasRoom, behind_oldest, of_oldest, ahead_of, retire_steps_of, settled, begun, idle_from}
 use Rattle.redo_log.specs.Value.{turns_calls}
+use Rattle.blocks.specs.{Started.IsStarted, StoreValue.Cached, StoreValue.layout_of, StoreValue.firsts_in}
 use Rattle.blocks.specs.Ahead.{oldest_retired, ahead_room, ahead_room_calls, may_go_ahead}
 use Rattle.blocks.specs.Retiring.{written_out, finished_with, finished, both_calls}
-use Rattle.blocks.specs.Started.{IsStarted}
 use Rattle.blocks.specs.Steady.{IsSteady, IsFilling, IsFuller, finished_each, ReachesSteady, second_of, steady_calls}
-use Rattle.blocks.specs.StoreValue.{Cached, layout_of, firsts_in}
 use Rattle.blocks.proofs.Room.{finish_begun}
 
 -- ---- the records

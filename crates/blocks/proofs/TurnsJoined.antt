@@ -3,16 +3,13 @@ use Rattle.std.proofs.Common.{◌≡◌, ℕ, inl, arith, ◌∙◌, refl, subst
 use Rattle.std.proofs.lemmas.Bool.{cases_Bool}
 use Rattle.medium.specs.Medium.{State, IsSound}
 use Rattle.medium.specs.Moments.{EachCut, LeavesOnly, IsQuiet, IsUnchanged, SparesFrom}
-use Rattle.spec.specs.Blocks.{Write}
+use Rattle.spec.specs.{Blocks.Write, Book.Book}
 use Rattle.medium.proofs.Moments.{joined_same, weaker, quiet_leaves, quiet_start, unchanged_quiet}
 use Rattle.medium.proofs.SparedSectors.{spared_joined, spared_quiet}
 use Rattle.journal.specs.Places.{Shape, sectors_of}
 use Rattle.redo_log.proofs.StoreFacts.{quiet_held}
-use Rattle.spec.specs.Book.{Book}
-use Rattle.blocks.specs.Finding.{MayFind, Found}
-use Rattle.blocks.specs.Passing.{IsUntouched}
+use Rattle.blocks.specs.{Finding.MayFind, Finding.Found, Passing.IsUntouched, Turns.GoesOn, Turns.IsTurn, Turns.IsWriteTurn}
 use Rattle.blocks.specs.StoreValue.{Cached, layout_of, is_dead, FitsBook}
-use Rattle.blocks.specs.Turns.{GoesOn, IsTurn, IsWriteTurn}
 use Rattle.blocks.proofs.BookTurns.{moves, finds}
 
 -- what a cut leaves between two calls may be found

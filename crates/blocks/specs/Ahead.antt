@@ -1,13 +1,12 @@
 -- What a store that retires ahead does before it begins a record, and how many calls that takes:
 -- the head goes past an oldest record whose blocks an earlier flush covers, and the oldest one goes
 -- home. None of these calls is a flush: that of the record that is begun covers them.
-use Rattle.std.specs.Prelude.{◌+◌, ◌-◌, ◌&&◌, ◌==◌, ℕ, Bool, length}
-use Rattle.std.specs.Prelude.{nat_lt, nat_le, false, if◌then◌else◌, drop}
-use Rattle.journal.specs.Places.{Shape}
-use Rattle.journal.specs.declared.log_format.LogFormat.{LogFormat}
+use Rattle.std.specs.Prelude.{◌+◌, ◌-◌, ◌&&◌, ◌==◌, ℕ, Bool, length, nat_lt, nat_le, false}
+use Rattle.std.specs.Prelude.{if◌then◌else◌, drop}
+use Rattle.journal.specs.{Places.Shape, declared.log_format.LogFormat.LogFormat}
 use Rattle.journal.specs.declared.log_format.LogFormat.TheVariants.{One, Two}
-use Rattle.redo_log.specs.Value.{LogValue, settled, behind_oldest, of_oldest}
-use Rattle.redo_log.specs.Value.{ahead_of, none_ahead, turns_calls, pass_calls}
+use Rattle.redo_log.specs.Value.{LogValue, settled, behind_oldest, of_oldest, ahead_of, none_ahead}
+use Rattle.redo_log.specs.Value.{turns_calls, pass_calls}
 
 -- the oldest record is retired
 abbrev pub oldest_retired : LogValue → LogValue

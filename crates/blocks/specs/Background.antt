@@ -1,23 +1,19 @@
 -- The order of the background work: what one step of it does, and one that goes ahead.
 use Rattle.std.specs.Prelude.{◌≡◌, ◌⊎◌, ◌+◌, ◌-◌, ◌^◌, ◌≤◌, ◌<◌, true, false, [], length, Result}
 use Rattle.std.specs.Prelude.{Ok, OnOk, Bool, ℕ}
-use Rattle.medium.specs.Medium.{State}
-use Rattle.medium.specs.Moments.{IsUnchanged}
-use Rattle.medium.specs.Sent.{SendsUpTo}
+use Rattle.medium.specs.{Medium.State, Moments.IsUnchanged, Sent.SendsUpTo}
 use Rattle.medium.specs.declared.fault.MediumFault.TheVariants.{Flush}
 use Rattle.cache.specs.Entries.{Entries}
 use Rattle.redo_log.specs.Value.{begun, died, IsStepped, IsRetireStepped, next_calls, next_sends}
-use Rattle.redo_log.specs.Value.{next_step_flushes, next_turn_flushes}
-use Rattle.redo_log.specs.Value.{LogValue, IsSentHome, pass_calls}
+use Rattle.redo_log.specs.Value.{next_step_flushes, next_turn_flushes, LogValue, IsSentHome}
+use Rattle.redo_log.specs.Value.{pass_calls}
 use Rattle.redo_log.specs.declared.progress.Progress.{Progress}
 use Rattle.redo_log.specs.declared.progress.Progress.TheVariants.{More, Durable}
+use Rattle.blocks.specs.{Retiring.IsRoomy, Turns.IsTurn, Ahead.counted, Ahead.past}
 use Rattle.blocks.specs.declared.fault.StoreFault.{StoreFault}
 use Rattle.blocks.specs.StoreValue.{Cached, StoreValue, is_dead, active_of, unwritten, steps_left}
 use Rattle.blocks.specs.StoreValue.{firsts_in}
-use Rattle.blocks.specs.Retiring.{IsRoomy}
-use Rattle.blocks.specs.Turns.{IsTurn}
 use Rattle.blocks.specs.Passing.{PassesOn, KeepsMedium, TellsLife, MayEmpty, PassesPaid}
-use Rattle.blocks.specs.Ahead.{counted, past}
 
 -- The medium refused one call, and the log is dead. The batches are as they were.
 pub record HasDied (before after : State) (old new : Cached) : Type 0 where

@@ -1,22 +1,16 @@
 -- How many calls of the medium a read of a store makes, and what a write does to the batches.
-use Rattle.std.specs.Prelude.{◌≡◌, ℕ, ◌+◌, ◌*◌, zero, suc, Bool, true, false, []}
-use Rattle.std.specs.Prelude.{◌≤◌, if◌then◌else◌, Result, OnOk, is_ok, IsOk}
-use Rattle.medium.specs.Medium.{State}
-use Rattle.medium.specs.Sent.{SendsUpTo}
-use Rattle.medium.specs.declared.fault.MediumFault.TheVariants.{Flush}
+use Rattle.std.specs.Prelude.{◌≡◌, ℕ, ◌+◌, ◌*◌, zero, suc, Bool, true, false, [], ◌≤◌}
+use Rattle.std.specs.Prelude.{if◌then◌else◌, Result, OnOk, is_ok, IsOk}
+use Rattle.medium.specs.{Medium.State, Sent.SendsUpTo, declared.fault.MediumFault.TheVariants.Flush}
 use Rattle.cache.specs.Blocks.{is_listed}
-use Rattle.blocks.specs.Retiring.{finished, finish_calls}
-use Rattle.blocks.specs.Flushing.{finish_flushes}
+use Rattle.blocks.specs.{Retiring.finished, Retiring.finish_calls, Flushing.finish_flushes}
+use Rattle.blocks.specs.{Steady.IsSteady, declared.fault.StoreFault.StoreFault}
+use Rattle.blocks.specs.{OneBatch.SendsOneBatch, Sent.batch_sends, Turns.IsWriteTurn}
 use Rattle.blocks.specs.Headroom.{HasHeadroom, FlushesOnce}
-use Rattle.blocks.specs.Steady.{IsSteady}
-use Rattle.spec.specs.Blocks.{Write}
-use Rattle.blocks.specs.declared.fault.StoreFault.{StoreFault}
-use Rattle.blocks.specs.OneBatch.{SendsOneBatch}
 use Rattle.blocks.specs.Passing.{PassesOn, KeepsMedium, Answers}
-use Rattle.blocks.specs.Sent.{batch_sends}
-use Rattle.blocks.specs.Turns.{IsWriteTurn}
 use Rattle.blocks.specs.StoreValue.{Cached, StoreValue, FitsBeside, TakesRange, transfer_limit}
 use Rattle.blocks.specs.StoreValue.{active_of, batch_steps, steps_left, is_dead, wants}
+use Rattle.spec.specs.Blocks.{Write}
 
 -- how many calls it takes to read a block: none where a batch has it, and else one, from its newest
 -- logged copy or from home
@@ -92,21 +86,6 @@ pub record WritesAlone {M A : Type 0} (state : M → State) (Follows : M → M �
   pub quiet : old.cached.frozen.numbers ≡ [] → (new.medium ≡ old.medium) × IsOk result
   pub answers : Answers result old new
   pub batches : WritesRange old.goes_ahead result address count old.cached new.cached
-
--- What such a write costs where it is good: one batch more is to become a record, and it makes the
--- calls and the flushes that make the frozen one durable, and no other.
-pub record CostsAlone {A E : Type 0} (ahead : Bool) (result : Result A E) (before after : State)
-    (old new : Cached) : Type 0 where
-  pub paid : OnOk result (after.calls + 2 * steps_left new
-      ≤ before.calls + 2 * steps_left old + 2 * batch_steps old)
-  pub calls : OnOk result (after.calls
-      ≡ before.calls + finish_calls ahead old.frozen.numbers old.log)
-  pub flushes : OnOk result (after.made Flush
-      ≡ before.made Flush + finish_flushes old.frozen.numbers old.log)
-  pub once : ahead ≡ true → HasHeadroom old.log
-      → OnOk result (after.made Flush ≡ before.made Flush + wants old.frozen.numbers)
-  pub as_many : FlushesOnce ahead before after old new
-  pub one_batch : SendsOneBatch ahead before after old.log
 
 -- The active batch takes the range, for which one more is to become a record at most. The log and
 -- the frozen batch stay.

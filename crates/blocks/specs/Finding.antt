@@ -1,10 +1,8 @@
 -- What a start after a loss of power may find.
 use Rattle.std.specs.Prelude.{◌≡◌, ℕ, Option}
 use Rattle.medium.specs.Medium.{Image}
-use Rattle.spec.specs.Blocks.{Array, Write}
-use Rattle.journal.specs.Places.{Shape}
-use Rattle.journal.specs.Standing.{IsOurs}
-use Rattle.spec.specs.Book.{Book}
+use Rattle.spec.specs.{Blocks.Array, Blocks.Write, Book.Book}
+use Rattle.journal.specs.{Places.Shape, Standing.IsOurs}
 use Rattle.spec.specs.Promise as promise
 
 -- the image of a medium of `size` sectors is ours, with `blocks` logical blocks in some shape, and

@@ -1,19 +1,17 @@
 -- What is durable after a call of a store that writes its batches out, and which records it retires
 -- for that.
 use Rattle.std.specs.Prelude.{◌≡◌, ◌+◌, ◌≤◌, ◌<◌, true, [], length, Bool, false, Result, OnOk, All}
-use Rattle.medium.specs.Medium.{State}
-use Rattle.medium.specs.declared.fault.MediumFault.TheVariants.{Flush}
+use Rattle.medium.specs.{Medium.State, declared.fault.MediumFault.TheVariants.Flush}
 use Rattle.journal.specs.declared.log_format.LogFormat.TheVariants.{Two}
 use Rattle.redo_log.specs.Value.{HasRoom, most_retire_sends}
+use Rattle.blocks.specs.{OneBatch.SendsOneBatch, Prepared.IsPrepared}
 use Rattle.blocks.specs.declared.fault.StoreFault.{StoreFault}
 use Rattle.blocks.specs.StoreValue.{Cached, StoreValue, layout_of, active_of, unwritten, wants}
 use Rattle.blocks.specs.StoreValue.{steps_left}
-use Rattle.blocks.specs.OneBatch.{SendsOneBatch}
-use Rattle.blocks.specs.Prepared.{IsPrepared}
 use Rattle.blocks.specs.Passing.{MayEmpty, PassesPaid, TellsLife, Answers}
-use Rattle.blocks.specs.Retiring.{RetiresForRoom, finished, made_ready, written_out}
-use Rattle.blocks.specs.Retiring.{HasSlots, with_spare, to_begin, record_calls, calls_from}
-use Rattle.blocks.specs.Retiring.{both_calls, ready_calls, room_calls}
+use Rattle.blocks.specs.Retiring.{RetiresForRoom, finished, made_ready, written_out, HasSlots}
+use Rattle.blocks.specs.Retiring.{with_spare, to_begin, record_calls, calls_from, both_calls}
+use Rattle.blocks.specs.Retiring.{ready_calls}
 use Rattle.blocks.specs.Steady.{IsSteady, IsFilling, IsFuller, steady_calls}
 use Rattle.blocks.specs.Headroom.{HasHeadroom, KeepsHeadroom, FlushesOnce, records_of}
 use Rattle.blocks.specs.Flushing.{left_flushes, room_flushes, both_flushes}
@@ -54,30 +52,19 @@ pub record MakesRoom {M : Type 0} (ahead : Bool) (result : Answer) (old new : St
   pub active : new.cached.active ≡ old.cached.active
   pub frozen : new.cached.frozen ≡ old.cached.frozen
 
--- Room is made by retiring alone, by exactly the calls and the flushes for that, and that is told.
-pub record RetiresRoom {M : Type 0} (state : M → State) (Follows : M → M → Type 0)
+-- Room is made, by retiring alone or as a store does that goes ahead, by exactly the calls and the
+-- flushes for that, with all that a turn promises, and that is told.
+pub record MakesReady {M : Type 0} (state : M → State) (Follows : M → M → Type 0) (ahead : Bool)
     (result : Answer) (old new : StoreValue M) : Type 0 where
   pub passes : PassesPaid state Follows (most_retire_sends (layout_of old.cached).format) old new
   pub answer : TellsLife result new.cached
-  pub room : MakesRoom false result old new
+  pub room : MakesRoom ahead result old new
   pub cost : OnOk result ((state new.medium).calls
-      ≡ (state old.medium).calls + room_calls old.cached.log)
-  pub flushes : OnOk result ((state new.medium).made Flush
-      ≡ (state old.medium).made Flush + room_flushes old.cached.log)
-
--- The same as the store's policy says, by exactly the calls and the flushes for that, with all that
--- a turn promises.
-pub record MakesReady {M : Type 0} (state : M → State) (Follows : M → M → Type 0)
-    (result : Answer) (old new : StoreValue M) : Type 0 where
-  pub passes : PassesPaid state Follows (most_retire_sends (layout_of old.cached).format) old new
-  pub answer : TellsLife result new.cached
-  pub room : MakesRoom old.goes_ahead result old new
-  pub cost : OnOk result ((state new.medium).calls
-      ≡ (state old.medium).calls + ready_calls old.goes_ahead old.cached.log)
+      ≡ (state old.medium).calls + ready_calls ahead old.cached.log)
   pub flushed : OnOk result ((state new.medium).made Flush
       ≡ (state old.medium).made Flush + room_flushes old.cached.log)
   -- each record that waits has blocks
-  pub blocks : old.goes_ahead ≡ true → All (λ numbers. 0 < length numbers) old.cached.log.waiting
+  pub blocks : ahead ≡ true → All (λ numbers. 0 < length numbers) old.cached.log.waiting
 
 -- Where Ok the frozen batch is durable and empty. Where it was empty nothing happens, and else the
 -- record that was written waits. The active batch stays.

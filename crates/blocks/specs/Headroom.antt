@@ -2,11 +2,9 @@
 -- record makes one flush, which is its own, whatever background steps come between.
 use Rattle.std.specs.Prelude.{◌≡◌, ◌⊎◌, ◌+◌, ◌≤◌, ◌<◌, ℕ, zero, suc, [], length, true, false, All}
 use Rattle.std.specs.Prelude.{Bool, List, ◌∷◌}
-use Rattle.medium.specs.Medium.{State}
-use Rattle.medium.specs.declared.fault.MediumFault.TheVariants.{Flush}
+use Rattle.medium.specs.{Medium.State, declared.fault.MediumFault.TheVariants.Flush}
 use Rattle.redo_log.specs.Value.{LogValue, IsCovered, of_oldest}
-use Rattle.blocks.specs.Ahead.{may_go_ahead}
-use Rattle.blocks.specs.Retiring.{HasSlots, written_out}
+use Rattle.blocks.specs.{Ahead.may_go_ahead, Retiring.HasSlots, Retiring.written_out}
 use Rattle.blocks.specs.StoreValue.{Cached, StoreValue, is_dead, wants}
 
 -- the log once the record under way is durable, of which so many steps are left

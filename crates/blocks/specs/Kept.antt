@@ -1,13 +1,10 @@
 -- What is true of the fields of every store.
 use Rattle.std.specs.Prelude.{◌≡◌, ℕ, ◌+◌, ◌*◌, ◌≤◌, ◌<◌, Bool, true, false, [], length}
+use Rattle.journal.specs.{Formats.shape_of, declared.super_sector.Super.Super}
 use Rattle.journal.specs.Places.{Shape, limit_of, sectors_of}
-use Rattle.journal.specs.Formats.{shape_of}
-use Rattle.journal.specs.declared.super_sector.Super.{Super}
-use Rattle.cache.specs.Blocks.{Listed}
-use Rattle.cache.specs.Entries.{Entries, IsWellFormed}
+use Rattle.cache.specs.{Blocks.Listed, Entries.Entries, Entries.IsWellFormed}
 use Rattle.redo_log.specs.Value.{most_steps, most_retire_steps}
-use Rattle.blocks.specs.Ahead.{may_go_ahead}
-use Rattle.blocks.specs.StoreValue.{Cached}
+use Rattle.blocks.specs.{Ahead.may_go_ahead, StoreValue.Cached}
 
 -- a batch of the store: it has room for as many blocks as a record has at most, and each of its
 -- numbers is below the number of blocks

@@ -13,8 +13,7 @@ pub use Rattle.recovery.specs.declared.start_fault.StartFault.TheVariants.{Flush
 pub use Rattle.recovery.specs.declared.start_fault.StartFault.TheVariants.{BadVersion, BadSize}
 pub use Rattle.recovery.specs.declared.start_fault.StartFault.TheVariants.{BadHead, StampsUsedUp}
 pub use Rattle.recovery.specs.declared.start_fault.StartFault.TheVariants.{LogTooSmall}
-use Rattle.spec.specs.Blocks.{Array}
-use Rattle.spec.specs.Book.{Book}
+use Rattle.spec.specs.{Blocks.Array, Book.Book}
 use Rattle.spec.specs.Promise as promise
 use Rattle.blocks.specs.Finding.{StandsAs}
 

@@ -1,15 +1,12 @@
 -- What the calls of a store pass on of its medium and of the books that it fits, and how they
 -- answer.
-use Rattle.std.specs.Prelude.{◌≡◌, ◌⊎◌, ℕ, ◌+◌, ◌≤◌, true, false, List, []}
-use Rattle.std.specs.Prelude.{Result, Err, IfErr, MatchResult}
-use Rattle.medium.specs.Medium.{State}
-use Rattle.medium.specs.Moments.{IsQuiet, IsUnchanged}
-use Rattle.medium.specs.Sent.{SendsUpTo}
-use Rattle.blocks.specs.declared.fault.StoreFault.{StoreFault}
-use Rattle.blocks.specs.declared.fault.StoreFault.TheVariants.{Dead}
+use Rattle.std.specs.Prelude.{◌≡◌, ◌⊎◌, ℕ, ◌+◌, ◌≤◌, true, false, List, [], Result, Err, IfErr}
+use Rattle.std.specs.Prelude.{MatchResult}
+use Rattle.medium.specs.{Medium.State, Moments.IsQuiet, Moments.IsUnchanged, Sent.SendsUpTo}
+use Rattle.blocks.specs.{declared.fault.StoreFault.StoreFault}
+use Rattle.blocks.specs.{declared.fault.StoreFault.TheVariants.Dead, Looks.LooksAtLog}
+use Rattle.blocks.specs.{Looks.LooksAtBlocks, Turns.IsTurn, Turns.IsReadCause, Turns.IsPaid}
 use Rattle.blocks.specs.StoreValue.{Cached, StoreValue, is_dead}
-use Rattle.blocks.specs.Looks.{LooksAtLog, LooksAtBlocks}
-use Rattle.blocks.specs.Turns.{IsTurn, IsReadCause, IsPaid}
 
 -- A call makes a turn of this kind, and at most `most` calls of the medium, with at most `sends`
 -- writes and flushes among them. The medium comes after what it was, by calls alone.

@@ -3,8 +3,7 @@ use Rattle.std.specs.Prelude.{◌≡◌, ◌⊎◌, ◌+◌, ◌<◌, ℕ, Bool,
 -- handed on to the layers above
 pub use Rattle.redo_log.specs.Value.{HasRoom}
 use Rattle.redo_log.specs.Value.{LogValue, IsCovered, CanPass, IsAway}
-use Rattle.blocks.specs.Retiring.{HasSlots}
-use Rattle.blocks.specs.declared.work.Work.{Work}
+use Rattle.blocks.specs.{Retiring.HasSlots, declared.work.Work.Work}
 use Rattle.blocks.specs.declared.work.Work.TheVariants.{Settle, Ahead, WriteBack}
 use Rattle.blocks.specs.StoreValue.{Cached, FitsBeside, transfer_limit, active_of}
 

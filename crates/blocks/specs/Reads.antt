@@ -2,19 +2,14 @@
 use Rattle.std.specs.Prelude.{◌≡◌, ◌⊎◌, ◌<◌, ◌+◌, ℕ, false, List, [], length, Option, Some, None}
 use Rattle.std.specs.Prelude.{Result, OnOk, OnErr, IfErr, IfSome, IsNone}
 use Rattle.std.specs.Borrow.{Bor}
-use Rattle.medium.specs.Medium.{State}
-use Rattle.medium.specs.declared.fault.MediumFault.{MediumFault}
+use Rattle.medium.specs.{Medium.State, declared.fault.MediumFault.MediumFault}
 use Rattle.medium.specs.declared.fault.MediumFault.TheVariants.{Read}
 use Rattle.journal.specs.Places.{first_home}
-use Rattle.cache.specs.Blocks.{unlisted}
-use Rattle.cache.specs.Entries.{map_of}
-use Rattle.cache.specs.Places.{HasPlace}
+use Rattle.cache.specs.{Blocks.unlisted, Entries.map_of, Places.HasPlace}
 use Rattle.spec.specs.Book.{Book, array_of, blocks_at}
-use Rattle.blocks.specs.declared.fault.StoreFault.{StoreFault}
-use Rattle.blocks.specs.Calls.{block_reads, reads_of, CostsReads}
-use Rattle.blocks.specs.Passing.{KeepsStore}
+use Rattle.blocks.specs.{declared.fault.StoreFault.StoreFault, Calls.block_reads, Calls.reads_of}
+use Rattle.blocks.specs.{Calls.CostsReads, Passing.KeepsStore, Turns.IsTurn, Turns.IsReadCause}
 use Rattle.blocks.specs.StoreValue.{Cached, StoreValue, blocks_of, layout_of, is_dead, FitsBook}
-use Rattle.blocks.specs.Turns.{IsTurn, IsReadCause}
 
 -- the store is live, and has this block
 pub record IsReadable (s : Cached) (block : ℕ) : Type 0 where

@@ -1,7 +1,6 @@
 -- What is true of a store that is at rest.
 use Rattle.std.specs.Prelude.{◌≡◌, ℕ, ◌+◌, ◌<◌, true, []}
-use Rattle.medium.specs.Medium.{State, Image}
-use Rattle.medium.specs.Moments.{EachCut}
+use Rattle.medium.specs.{Medium.State, Medium.Image, Moments.EachCut}
 use Rattle.journal.specs.Places.{Shape, first_home}
 use Rattle.spec.specs.Book.{Book, array_of, promised}
 use Rattle.blocks.specs.StoreValue.{Cached, layout_of, FitsBook}

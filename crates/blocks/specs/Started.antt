@@ -2,26 +2,19 @@
 use Rattle.std.specs.Prelude.{◌≡◌, ◌⊎◌, ℕ, ◌+◌, ◌*◌, ◌^◌, ◌<◌, ◌≤◌, Bool, true, false, []}
 use Rattle.medium.specs.Medium.{State, Image}
 use Rattle.medium.specs.Moments.{EachCut, LeavesOnly, IsFlushed}
-use Rattle.spec.specs.Blocks.{Array}
-use Rattle.journal.specs.Places.{Shape}
+use Rattle.spec.specs.{Blocks.Array, Book.Book, Book.opened}
+use Rattle.journal.specs.{Places.Shape, declared.super_sector.Super.Super}
 use Rattle.journal.specs.Standing.{StandsFor, IsOurs, HasShape}
-use Rattle.journal.specs.declared.super_sector.Super.{Super}
-use Rattle.recovery.specs.Causes.{IsCause, IsDeviceFault}
-use Rattle.recovery.specs.Calls.{most_start_of}
+use Rattle.recovery.specs.{Causes.IsCause, Causes.IsDeviceFault, Calls.most_start_of}
 use Rattle.recovery.specs.Recovered.{IsRecoveredFrom, IsOursForSome, IsOursWithNext, StandsForOneOf}
 use Rattle.recovery.specs.Recovered.{RecoverySends, SparesTheRest}
-use Rattle.recovery.specs.Calls as recovery
 use Rattle.recovery.specs.declared.recovered.Recovered.{Recovered}
 use Rattle.recovery.specs.declared.start_fault.StartFault.{StartFault}
 use Rattle.recovery.specs.declared.start_fault.StartFault.TheVariants.{NoMemory}
+use Rattle.recovery.specs.Calls as recovery
 use Rattle.redo_log.specs.Value.{idle_from}
-use Rattle.blocks.specs.Ahead.{may_go_ahead}
-use Rattle.blocks.specs.Headroom.{HasHeadroom}
-use Rattle.blocks.specs.Steady.{IsFilling, ReachesSteady}
-use Rattle.spec.specs.Book.{Book, opened}
-use Rattle.blocks.specs.Finding.{MayFind}
-use Rattle.blocks.specs.Kept.{Invariant}
-use Rattle.blocks.specs.Opening.{OpensOn}
+use Rattle.blocks.specs.{Ahead.may_go_ahead, Headroom.HasHeadroom, Steady.IsFilling}
+use Rattle.blocks.specs.{Steady.ReachesSteady, Finding.MayFind, Kept.Invariant, Opening.OpensOn}
 use Rattle.blocks.specs.StoreValue.{Cached, layout_of, blocks_of, is_dead, active_of, steps_left}
 use Rattle.blocks.specs.StoreValue.{FitsBook, StoreValue}
 

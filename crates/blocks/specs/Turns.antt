@@ -1,14 +1,11 @@
 -- What the calls of a store do to the books that it fits.
 use Rattle.std.specs.Prelude.{◌≡◌, ◌⊎◌, ◌+◌, ◌*◌, ◌≤◌, ◌<◌, Bool, true, false, if◌then◌else◌}
-use Rattle.medium.specs.Medium.{State}
-use Rattle.medium.specs.Moments.{LeavesOnly, SparesFrom}
-use Rattle.spec.specs.Blocks.{Write}
-use Rattle.journal.specs.Places.{sectors_of}
+use Rattle.medium.specs.{Medium.State, Moments.LeavesOnly, Moments.SparesFrom}
 use Rattle.medium.specs.declared.fault.MediumFault.TheVariants.{Read}
-use Rattle.blocks.specs.declared.fault.StoreFault.{StoreFault}
+use Rattle.spec.specs.{Blocks.Write, Book.Book, Book.with_write, Book.StampsOut}
+use Rattle.journal.specs.Places.{sectors_of}
+use Rattle.blocks.specs.{declared.fault.StoreFault.StoreFault, Finding.MayFind, Finding.Found}
 use Rattle.blocks.specs.declared.fault.StoreFault.TheVariants.{ReadFault, Dead}
-use Rattle.spec.specs.Book.{Book, with_write, StampsOut}
-use Rattle.blocks.specs.Finding.{MayFind, Found}
 use Rattle.blocks.specs.StoreValue.{Cached, layout_of, blocks_of, is_dead, steps_left, FitsBook}
 
 -- a call of the medium was refused since, or the stamps are out in each book that the store fitted

@@ -1,21 +1,16 @@
 -- What one step of the background work does, by what it works towards.
 use Rattle.std.specs.Prelude.{◌≡◌, ◌⊎◌, ◌<◌, ◌≤◌, Bool, true, false, Result, length}
-use Rattle.medium.specs.Medium.{State}
-use Rattle.medium.specs.Moments.{IsUnchanged}
+use Rattle.medium.specs.{Medium.State, Moments.IsUnchanged}
 use Rattle.medium.specs.declared.fault.MediumFault.TheVariants.{Flush}
 use Rattle.redo_log.specs.Value.{LogValue, HasRoom, CanPass, IsAway}
-use Rattle.blocks.specs.declared.work.Work.{Work}
+use Rattle.blocks.specs.{declared.work.Work.Work, declared.fault.StoreFault.StoreFault}
+use Rattle.blocks.specs.{Ahead.counted, Turns.IsTurn, Retiring.HasSlots, Written.IsWritten}
 use Rattle.blocks.specs.declared.work.Work.TheVariants.{Settle, Ahead, WriteBack}
-use Rattle.blocks.specs.declared.fault.StoreFault.{StoreFault}
-use Rattle.blocks.specs.Ahead.{counted}
 use Rattle.blocks.specs.Background.{IsBackgroundStep, HasDied, LeavesFewer, MayBegin, IsBeginning}
 use Rattle.blocks.specs.Background.{IsRecordStep, IsRetiring, PassesHead, BringsHome}
 use Rattle.blocks.specs.Headroom.{KeepsHeadroom, FlushesOnce}
 use Rattle.blocks.specs.Passing.{PassesOn, TellsLife, MayEmpty}
-use Rattle.blocks.specs.Turns.{IsTurn}
-use Rattle.blocks.specs.Retiring.{HasSlots}
 use Rattle.blocks.specs.StoreValue.{Cached, StoreValue, is_dead, active_of, steps_left}
-use Rattle.blocks.specs.Written.{IsWritten}
 
 -- The flush of a record that became durable counts for the oldest one, where it covers that.
 abbrev pub with_counted : Cached → Cached

@@ -2,7 +2,7 @@
 ghost use Rattle.std.specs.Prelude.{◌≡◌, ◌↔◌, ◌+◌, false, IsTrue};
 ghost use Rattle.journal.specs.Places.{limit_of};
 ghost use Rattle.redo_log.specs.Value.{IsAway};
-ghost use Rattle.blocks.specs.StoreValue.{layout_of, is_dead};
+ghost use Rattle.blocks.specs.StoreValue.{layout_of};
 ghost use Rattle.blocks.specs.Work.{IsIdle};
 ghost use Rattle.blocks.specs.Passing.{PassesPaid};
 ghost use Rattle.blocks.specs.Ahead.{counted, gone_home, going_calls, passed, passed_calls};
@@ -39,8 +39,7 @@ impl<M: Medium> Store<M> {
 
     /// Brings one block of the oldest record home.
     pub(crate) fn bring_home(&mut self) -> Result<(), StoreFault>
-        requires live { is_dead self.old.cached ≡ false }
-        requires idle { self.old.cached.log.steps_left ≡ 0 }
+        requires idle { IsIdle self.old.cached }
         requires away { IsAway self.old.cached.log }
         ensures { GoesHome M.state M.follows result self.old self.new }
     {

@@ -8,6 +8,8 @@ ghost use Rattle.blocks.specs.Turns.{IsTurn};
 ghost use Rattle.blocks.specs.Passing.{PassesOn, MayEmpty};
 ghost use Rattle.blocks.specs.Background.{IsBackgroundStep, CountsDown, WorksOn, BeginsNext};
 ghost use Rattle.blocks.specs.Background.{Freezes, Begins, StepsOn, RetiresOn, MayBegin};
+ghost use Rattle.blocks.specs.Calls.{CanBegin};
+ghost use Rattle.blocks.specs.Work.{IsIdle};
 
 use crate::{Store, StoreFault};
 use medium::Medium;
@@ -88,9 +90,7 @@ impl<M: Medium> Store<M> {
 
     /// The active batch becomes the frozen one, and its blocks are put into order.
     pub(crate) fn freeze(&mut self)
-        requires live { is_dead self.old.cached ≡ false }
-        requires idle { self.old.cached.log.steps_left ≡ 0 }
-        requires empty { self.old.cached.frozen.numbers ≡ [] }
+        requires { CanBegin self.old.cached }
         ensures { Freezes M.state self.old self.new }
     {
         self.active.freeze(&mut self.frozen);
@@ -135,8 +135,7 @@ impl<M: Medium> Store<M> {
 
     /// Makes one step of retiring.
     pub(crate) fn retire(&mut self) -> Result<(), StoreFault>
-        requires live { is_dead self.old.cached ≡ false }
-        requires idle { self.old.cached.log.steps_left ≡ 0 }
+        requires { IsIdle self.old.cached }
         ensures { RetiresOn M.state M.follows result self.old self.new }
     {
         match self.log.retire_step(&mut self.medium) {

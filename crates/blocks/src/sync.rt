@@ -6,7 +6,7 @@ ghost use Rattle.blocks.specs.StoreValue.{is_dead, FitsBook};
 ghost use Rattle.blocks.specs.OneBatch.{SendsOneBatch};
 ghost use Rattle.blocks.specs.Sent.{batch_sends};
 ghost use Rattle.blocks.specs.Passing.{PassesPaid, Answers};
-ghost use Rattle.blocks.specs.Finishing.{WritesRecord, RetiresRoom, MakesReady, FinishesFrozen};
+ghost use Rattle.blocks.specs.Finishing.{WritesRecord, MakesReady, FinishesFrozen};
 ghost use Rattle.blocks.specs.Finishing.{FinishesBoth, CostsSync};
 ghost use Rattle.blocks.specs.Retiring.{finish_calls};
 ghost use Rattle.blocks.specs.Flushing.{finish_flushes};
@@ -82,7 +82,7 @@ impl<M: Medium> Store<M> {
     // Makes room for one more record: where the store goes ahead and a slot is free, as that does.
     fn make_ready(&mut self) -> Result<(), StoreFault>
         requires { IsIdle self.old.cached }
-        ensures ready { MakesReady M.state M.follows result self.old self.new }
+        ensures { MakesReady M.state M.follows self.old.goes_ahead result self.old self.new }
     {
         if !self.goes_ahead {
             return self.make_room();
@@ -96,7 +96,7 @@ impl<M: Medium> Store<M> {
     // Retires records until the log has room.
     fn make_room(&mut self) -> Result<(), StoreFault>
         requires { IsIdle self.old.cached }
-        ensures { RetiresRoom M.state M.follows result self.old self.new }
+        ensures { MakesReady M.state M.follows false result self.old self.new }
     {
         // The log says here how many writes and flushes retire its oldest record at most.
         let _few = self.log.has_room();

@@ -10,7 +10,7 @@ ghost use Rattle.blocks.specs.Sent.{batch_sends};
 ghost use Rattle.blocks.specs.Passing.{PassesOn, KeepsMedium, Answers};
 ghost use Rattle.blocks.specs.Prepared.{IsTakenAtOnce};
 ghost use Rattle.blocks.specs.Calls.{WritesRange, AppendsRange, CostsWrite};
-ghost use Rattle.blocks.specs.Calls.{WritesAlone, CostsAlone, CanBegin, BeginsBatch};
+ghost use Rattle.blocks.specs.Calls.{WritesAlone, CanBegin, BeginsBatch};
 
 use crate::{Store, StoreFault};
 use cache::BLOCK;
@@ -64,8 +64,8 @@ impl<M: Medium> Store<M> {
             address (length bytes.now / 512) }
         ensures writes { WritesAlone M.state M.follows result (write_of address bytes.now)
             address (length bytes.now / 512) self.old self.new }
-        ensures cost { CostsAlone self.old.goes_ahead result (M.state self.old.medium)
-            (M.state self.new.medium) self.old.cached self.new.cached }
+        ensures cost { CostsWrite self.old.goes_ahead result address (length bytes.now / 512)
+            (M.state self.old.medium) (M.state self.new.medium) self.old.cached self.new.cached }
     {
         self.finish()?;
         self.begin_batch(address, bytes);

@@ -1,7 +1,6 @@
 use Rattle.std.proofs.Common.{◌≤◌, inl, inr, refl, sym, subst, arith}
 use Rattle.std.proofs.lemmas.Result.{err_from_is_err_and, IfOk-weaker, IfErr-weaker}
-use Rattle.journal.specs.Places.{sectors_of}
-use Rattle.journal.specs.Formats.{shape_of}
+use Rattle.journal.specs.{Places.sectors_of, Formats.shape_of}
 use Rattle.blocks.specs.Started.{MakesParts}
 use Rattle.blocks.proofs.KnownImages.{started, starts, started_kept}
 use Rattle.blocks.proofs.start.Parts.recovered.Goals as goal

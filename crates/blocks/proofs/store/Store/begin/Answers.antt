@@ -1,7 +1,5 @@
 use Rattle.std.proofs.Common.{rules}
-use Rattle.blocks.proofs.BookTurns.{is_batch}
-use Rattle.blocks.proofs.LogTurns.{begins_record, begins_nothing}
-use Rattle.blocks.proofs.Paid.{kept}
+use Rattle.blocks.proofs.{BookTurns.is_batch, LogTurns.begins_record, LogTurns.begins_nothing, Paid.kept}
 use Rattle.blocks.proofs.store.Store.begin.Goals as goal
 
 pub begin-requires-clause-batch : goal.begin-requires-clause-batch

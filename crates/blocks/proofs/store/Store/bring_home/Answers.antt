@@ -1,5 +1,4 @@
-use Rattle.std.proofs.Common.{arith, refl, rules}
-use Rattle.std.proofs.lemmas.Bool.Decides.{nat_tests}
+use Rattle.std.proofs.{Common.arith, Common.refl, Common.rules, lemmas.Bool.Decides.nat_tests}
 use Rattle.blocks.specs.StoreValue.{Cached}
 use Rattle.blocks.proofs.LogTurns.{home_fewer, brings_home, home_stays, paid_turn, turn_kept}
 use Rattle.redo_log.proofs.RecordSteps.{few_next}
@@ -9,7 +8,7 @@ pub invariant_of-self : goal.invariant_of-self
 invariant_of-self g c =
     let away = rw (← c.self.view_is) at c.requires.away in
     turn_kept c.home_ahead.result c.home_ahead.ensures (λ sent. home_stays _ _ away (sent away))
-    (rw (← c.self.view_is) at c.requires.idle) c.self.invariant
+    (rw (← c.self.view_is) at c.requires.idle.idle) c.self.invariant
 
 pub returns : goal.returns
 returns g c =
@@ -22,7 +21,7 @@ returns g c =
       passes = rw (← c.self.view_is) (paid_turn i.goes_ahead c.home_ahead.result c.home_ahead.ensures (λ view. (refl, refl, refl))
           (λ sent. home_stays _ _ away (sent away)) (omega (arith, few_next i.log)) (grind (arith, nat_tests))
           (λ sent. grind (arith, nat_tests, fewer (sent away))));
-      brings = rw (← c.self.view_is) (brings_home (rw (← c.self.view_is) at c.requires.live) c.home_ahead.result c.home_ahead.ensures away
-          (rw (← c.self.view_is) at c.requires.idle));
+      brings = rw (← c.self.view_is) (brings_home (rw (← c.self.view_is) at c.requires.idle.live) c.home_ahead.result c.home_ahead.ensures away
+          (rw (← c.self.view_is) at c.requires.idle.idle));
       answer = search rules;
     }

@@ -1,25 +1,17 @@
+use Rattle.std.proofs.{lemmas.Bool.cases_lt, lemmas.List.nil_from_length, lemmas.Result.on_ok_weaker, lemmas.Result.err_from_is_err_and}
 use Rattle.std.proofs.Common.{◌≡◌, ◌<◌, ◌≤◌, ◌+◌, ◌∙◌, [], length, ap, refl, sym, arith, true, false, rules}
 use Rattle.std.specs.Prelude.{OnOk}
-use Rattle.std.proofs.lemmas.Bool.{cases_lt}
-use Rattle.std.proofs.lemmas.List.{nil_from_length}
-use Rattle.std.proofs.lemmas.Result.{on_ok_weaker, err_from_is_err_and}
-use Rattle.medium.specs.Medium.{State}
-use Rattle.medium.specs.Sent.{sent}
-use Rattle.medium.specs.declared.fault.MediumFault.TheVariants.{Flush}
+use Rattle.medium.specs.{Medium.State, Sent.sent, declared.fault.MediumFault.TheVariants.Flush}
 use Rattle.journal.specs.Places.{limit_of}
 use Rattle.redo_log.specs.Value.{begun, most_steps}
 use Rattle.redo_log.proofs.RecordSteps.{few_steps_for}
-use Rattle.blocks.specs.OneBatch.{SendsOneBatch}
-use Rattle.blocks.specs.Retiring.{finished}
-use Rattle.blocks.specs.Steady.{IsFilling, IsSteady}
+use Rattle.blocks.specs.{OneBatch.SendsOneBatch, Retiring.finished, Steady.IsFilling, Steady.IsSteady}
 use Rattle.blocks.specs.StoreValue.{is_dead, firsts_in}
+use Rattle.blocks.proofs.{Steady.fills, Steady.stays_on, store.Store.finish.Given.Over, store.Store.finish.Goals.After-make_ready}
 use Rattle.blocks.proofs.OneBatchSent.{none_sent, record_sent, room_sent}
 use Rattle.blocks.proofs.Paid.{kept_paid, paid_then, paid_more, rested_paid}
 use Rattle.blocks.proofs.Room.{made_finished, finishes_under_way, finish_begun, flushes_begun}
-use Rattle.blocks.proofs.Steady.{fills, stays_on}
-use Rattle.blocks.proofs.store.Store.finish.Given.{Over}
 use Rattle.blocks.proofs.store.Store.finish.Goals as goal
-use Rattle.blocks.proofs.store.Store.finish.Goals.{After-make_ready}
 
 pub returns-then-is_dead-clause-passes : goal.returns-then-is_dead-clause-passes
 returns-then-is_dead-clause-passes g c = rested_paid g.met.M.Medium.follows_itself g.met.M.Medium.sound
@@ -65,13 +57,13 @@ made_room : (g : Over) (c : After-make_ready g) → {after : State}
     → SendsOneBatch c.args.self.now.goes_ahead (g.M.Medium.state c.args.self.now.medium) after c.args.self.now.cached.log
 made_room g c {after = after} few =
     let old = c.args.self.now in
-    let ready = c.make_ready.ensures.ready in
+    let ready = c.make_ready.ensures in
     room_sent old.goes_ahead (g.M.Medium.state old.medium) old.cached.log (g.M.Medium.state c.make_ready.new.self.medium) after
     ready.passes.sent (λ roomy. ap (λ m. sent (g.M.Medium.state m)) (ready.room.quiet roomy)) few
 
 pub returns-in_err-make_ready-clause-passes : goal.returns-in_err-make_ready-clause-passes
 returns-in_err-make_ready-clause-passes g c =
-    let passes = c.make_ready.ensures.ready.passes in paid_more passes (omega (arith, passes.sent))
+    let passes = c.make_ready.ensures.passes in paid_more passes (omega (arith, passes.sent))
 
 pub returns-in_err-make_ready-clause-one_batch : goal.returns-in_err-make_ready-clause-one_batch
 returns-in_err-make_ready-clause-one_batch g c =
@@ -79,12 +71,12 @@ returns-in_err-make_ready-clause-one_batch g c =
 
 pub returns-in_err-begin : goal.returns-in_err-begin
 returns-in_err-begin g c =
-    let ready = c.make_ready.ensures.ready in
+    let ready = c.make_ready.ensures in
     let begins = c.begin.ensures in
     let quiet = ap (λ m. sent (g.M.Medium.state m)) begins.keeps.medium in
     let failed = (err_from_is_err_and c.from_residual-in_err-begin.result c.from_residual-in_err-begin.ensures.1).1 in
     record {
-      passes = paid_then {last = 0} g.met.M.Medium.follows_through ready.passes c.in_ok-make_ready.ensures.ready.answer
+      passes = paid_then {last = 0} g.met.M.Medium.follows_through ready.passes c.in_ok-make_ready.ensures.answer
           (kept_paid g.met.M.Medium.follows_itself begins.keeps (λ live. omega (arith, begins.begins.falls live)))
           (omega (arith, ready.passes.sent, quiet));
       batch = record {
@@ -117,8 +109,8 @@ returns g c =
     let listed : 0 < length c.self.inside.frozen.numbers =
     grind (arith, cases_lt 0 (length c.self.inside.frozen.numbers), none, c.if-is_empty.false, c.is_empty.ensures) in
     let some : 0 < length numbers = rw (← c.self.view_is) listed in
-    let ready = c.make_ready.ensures.ready in
-    let room = c.in_ok-make_ready.ensures.ready in
+    let ready = c.make_ready.ensures in
+    let room = c.in_ok-make_ready.ensures in
     let begins = c.begin.ensures in
     let wrote = c.write_out-2.ensures in
     let first : c.begin.new.self.cached.log ≡ begun numbers (firsts_in old.frozen) c.make_ready.new.self.cached.log =

@@ -1,17 +1,11 @@
-use Rattle.std.proofs.Common.{◌≡◌, ◌+◌, ◌∙◌, ap, arith, inl}
-use Rattle.std.proofs.lemmas.Bool.Decides.{nat_tests}
+use Rattle.std.proofs.{Common.◌≡◌, Common.◌+◌, Common.◌∙◌, Common.ap, Common.arith, Common.inl, lemmas.Bool.Decides.nat_tests}
 use Rattle.journal.specs.Places.{Shape, limit_of}
-use Rattle.medium.specs.Sent.{sent}
-use Rattle.medium.specs.declared.fault.MediumFault.TheVariants.{Flush}
-use Rattle.blocks.specs.Ahead.{passed, passed_calls}
-use Rattle.blocks.specs.Passing.{PassesPaid}
-use Rattle.blocks.specs.Prepared.{NeedsNoneAhead}
-use Rattle.blocks.specs.Retiring.{HasSlots}
-use Rattle.blocks.proofs.Room.{none_ahead}
+use Rattle.medium.specs.{Sent.sent, declared.fault.MediumFault.TheVariants.Flush}
+use Rattle.blocks.specs.{Ahead.passed, Ahead.passed_calls, Passing.PassesPaid, Prepared.NeedsNoneAhead, Retiring.HasSlots}
+use Rattle.blocks.proofs.{Room.none_ahead, store.Store.go_ahead.Given.Over}
 use Rattle.blocks.proofs.Paid.{kept_paid, paid_more, paid_then, rested_paid}
-use Rattle.blocks.proofs.store.Store.go_ahead.Given.{Over}
-use Rattle.blocks.proofs.store.Store.go_ahead.Goals as goal
 use Rattle.blocks.proofs.store.Store.go_ahead.Goals.{Else-needs_none_ahead, After-pass_head, In_ok-pass_head}
+use Rattle.blocks.proofs.store.Store.go_ahead.Goals as goal
 
 -- something is to be done ahead
 few : (g : Over) (c : Else-needs_none_ahead g) → NeedsNoneAhead c.args.self.now.cached.log → ⊥

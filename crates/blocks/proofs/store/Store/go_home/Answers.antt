@@ -1,12 +1,9 @@
-use Rattle.std.proofs.Common.{refl, ◌∙◌, sym, arith}
-use Rattle.std.proofs.lemmas.Bool.{false≢true}
+use Rattle.std.proofs.{Common.refl, Common.◌∙◌, Common.sym, Common.arith, lemmas.Bool.false≢true}
 use Rattle.medium.specs.Sent.{sent}
 use Rattle.redo_log.specs.Value.{IsAway}
+use Rattle.blocks.proofs.{Paid.paid_then, Paid.rested_paid, store.Store.go_home.Given.Over, store.Store.go_home.Goals.After-bring_home}
 use Rattle.blocks.proofs.Room.{begins_home, goes_on_home, all_home, all_costs, all_sends, few_home, home_stays_head}
-use Rattle.blocks.proofs.Paid.{paid_then, rested_paid}
-use Rattle.blocks.proofs.store.Store.go_home.Given.{Over}
 use Rattle.blocks.proofs.store.Store.go_home.Goals as goal
-use Rattle.blocks.proofs.store.Store.go_home.Goals.{After-bring_home}
 
 away : (g : Over) (c : After-bring_home g) → IsAway c.loop-self.self.cached.log
 away g c = rw (← c.self-in-loop-self.view_is) (c.is_away.ensures.0 c.loop-self-test.true)

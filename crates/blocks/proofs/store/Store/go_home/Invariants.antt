@@ -1,9 +1,6 @@
 use Rattle.std.proofs.Common.{◌≡◌, ℕ, false}
-use Rattle.medium.specs.Sent.{sent, SendsUpTo}
-use Rattle.medium.specs.declared.fault.MediumFault.TheVariants.{Flush}
-use Rattle.blocks.specs.Background.{StaysIdle}
-use Rattle.blocks.specs.Passing.{PassesPaid}
-use Rattle.blocks.specs.StoreValue.{is_dead, steps_left}
+use Rattle.medium.specs.{Sent.sent, Sent.SendsUpTo, declared.fault.MediumFault.TheVariants.Flush}
+use Rattle.blocks.specs.{Background.StaysIdle, Passing.PassesPaid, StoreValue.is_dead, StoreValue.steps_left}
 use Rattle.blocks.proofs.Room.{GoesHome}
 use Rattle.blocks.proofs.store.Store.go_home.Given as goal
 

@@ -1,7 +1,6 @@
 use Rattle.std.proofs.Common.{◌≡◌, ◌<◌, ◌-◌, true, false, arith}
 use Rattle.redo_log.specs.Value.{HasRoom}
-use Rattle.blocks.proofs.Room.{still_room, free_is, full_is}
-use Rattle.blocks.proofs.Paid.{paid_more}
+use Rattle.blocks.proofs.{Room.still_room, Room.free_is, Room.full_is, Paid.paid_more}
 use Rattle.blocks.proofs.store.Store.make_ready.Goals as goal
 
 pub returns-then-has_room : goal.returns-then-has_room
@@ -13,30 +12,17 @@ returns-then-has_room g c =
     let free = free_is old.cached.log room.free in
     let still = still_room old.cached.log room in
     record {
-      ready = record {
-        passes = paid_more c.go_ahead.ensures.passes (omega (arith, c.go_ahead.ensures.passes.sent));
-        answer = going.answer;
-        room = rw ahead (grind (arith, going, c.go_ahead.ensures.rests, still, free));
-        cost = rw ahead (grind (arith, going.answer, going.calls, free));
-        flushed = grind (arith, going.answer, going.flushed, free);
-        blocks = λ on. rw (← c.self.view_is) c.has_room.ensures.owes.blocks;
-      };
+      passes = paid_more c.go_ahead.ensures.passes (omega (arith, c.go_ahead.ensures.passes.sent));
+      answer = going.answer;
+      room = rw ahead (grind (arith, going, c.go_ahead.ensures.rests, still, free));
+      cost = rw ahead (grind (arith, going.answer, going.calls, free));
+      flushed = grind (arith, going.answer, going.flushed, free);
+      blocks = λ on. rw (← c.self.view_is) c.has_room.ensures.owes.blocks;
     }
 
 pub returns-then-not-self : goal.returns-then-not-self
 returns-then-not-self g c =
-    let ahead : c.args.self.now.goes_ahead ≡ false = rw (← c.self.view_is) c.if-not-self.true in
-    let made = c.make_room.ensures in
-    record {
-      ready = record {
-        passes = made.passes;
-        answer = made.answer;
-        room = rw ahead (rw ahead at made.room);
-        cost = rw ahead made.cost;
-        flushed = made.flushes;
-        blocks = λ on. grind (arith, ahead, on);
-      };
-    }
+    let off : c.args.self.now.goes_ahead ≡ false = rw (← c.self.view_is) c.if-not-self.true in rw (← off) at c.make_room.ensures
 
 pub returns : goal.returns
 returns g c =
@@ -48,12 +34,10 @@ returns g c =
     let is = full_is old full in
     let made = c.make_room-2.ensures in
     record {
-      ready = record {
-        passes = made.passes;
-        answer = made.answer;
-        room = rw ahead (grind (arith, made.room, is));
-        cost = rw ahead (grind (arith, made.cost, is));
-        flushed = made.flushes;
-        blocks = λ on. rw (← c.self.view_is) c.has_room.ensures.owes.blocks;
-      };
+      passes = made.passes;
+      answer = made.answer;
+      room = rw ahead (grind (arith, made.room, is));
+      cost = rw ahead (grind (arith, made.cost, is));
+      flushed = made.flushed;
+      blocks = λ on. rw (← c.self.view_is) c.has_room.ensures.owes.blocks;
     }

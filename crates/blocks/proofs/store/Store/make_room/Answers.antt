@@ -1,17 +1,13 @@
 use Rattle.std.proofs.Common.{◌+◌, ◌≤◌, ◌<◌, ℕ, length, refl, ◌∙◌, ap, sym, inl, arith, rules}
 use Rattle.std.proofs.lemmas.Bool.{false≢true}
-use Rattle.medium.specs.Sent.{sent, SendsUpTo}
-use Rattle.medium.specs.declared.fault.MediumFault.TheVariants.{Flush}
+use Rattle.medium.specs.{Sent.sent, Sent.SendsUpTo, declared.fault.MediumFault.TheVariants.Flush}
 use Rattle.journal.specs.Places.{Shape}
 use Rattle.redo_log.specs.Value.{HasRoom, of_oldest, sends_of_oldest, most_retire_sends, turn_calls, turn_sends, turn_flushes}
-use Rattle.blocks.specs.StoreValue.{steps_left}
-use Rattle.blocks.specs.Passing.{PassesPaid}
-use Rattle.blocks.proofs.Room.{IsFull, none_counted, one_at_most, counts_more, counts_room, room_is_made, at_most_refused, more_calls}
-use Rattle.blocks.proofs.Room.{more_sends, more_flushes, next_few}
-use Rattle.blocks.proofs.Paid.{paid_then, on_paid, rested_paid}
-use Rattle.blocks.proofs.store.Store.make_room.Given.{Over}
+use Rattle.blocks.specs.{StoreValue.steps_left, Passing.PassesPaid}
+use Rattle.blocks.proofs.{Room.IsFull, Room.none_counted, Room.one_at_most, Room.counts_more, Room.counts_room, Room.room_is_made}
+use Rattle.blocks.proofs.{Room.at_most_refused, Room.more_calls, Room.more_sends, Room.more_flushes, Room.next_few, Paid.paid_then}
+use Rattle.blocks.proofs.{Paid.on_paid, Paid.rested_paid, store.Store.make_room.Given.Over, store.Store.make_room.Goals.After-retire}
 use Rattle.blocks.proofs.store.Store.make_room.Goals as goal
-use Rattle.blocks.proofs.store.Store.make_room.Goals.{After-retire}
 
 -- a record waits, and one of its steps is made
 must_step : (g : Over) (c : After-retire g) → (0 < length c.loop-self.self.cached.log.waiting) × (0 < steps_left c.loop-self.self.cached)
@@ -110,7 +106,8 @@ returns-in_err-retire g c = record {
       let room : HasRoom c.args.self.now.cached.log → ⊥ = λ room. full.full (rw (c.loop-self.invariant.stays room) room) in
       grind (arith, died.is, c.loop-self.invariant, c.retire.ensures.retiring, room);
   cost = search rules;
-  flushes = search rules;
+  flushed = search rules;
+  blocks = λ on. absurd (false≢true on);
 }
 
 pub returns : goal.returns
@@ -133,6 +130,7 @@ returns g c =
         frozen = so_far.frozen;
       };
       cost = counts_room so_far.stays (λ had. ap (λ m. (g.M.Medium.state m).calls) (so_far.quiet had)) room so_far.costs;
-      flushes = counts_room so_far.stays (λ had. ap (λ m. (g.M.Medium.state m).made Flush) (so_far.quiet had)) room
+      flushed = counts_room so_far.stays (λ had. ap (λ m. (g.M.Medium.state m).made Flush) (so_far.quiet had)) room
           so_far.flushes;
+      blocks = λ on. absurd (false≢true on);
     }

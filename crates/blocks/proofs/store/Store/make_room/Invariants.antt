@@ -1,8 +1,6 @@
 use Rattle.std.proofs.Common.{◌≡◌, ℕ, false}
-use Rattle.medium.specs.Sent.{sent, SendsUpTo}
-use Rattle.medium.specs.declared.fault.MediumFault.TheVariants.{Flush}
-use Rattle.blocks.specs.Passing.{PassesPaid}
-use Rattle.blocks.specs.StoreValue.{is_dead, steps_left}
+use Rattle.medium.specs.{Sent.sent, Sent.SendsUpTo, declared.fault.MediumFault.TheVariants.Flush}
+use Rattle.blocks.specs.{Passing.PassesPaid, StoreValue.is_dead, StoreValue.steps_left}
 use Rattle.redo_log.specs.Value.{HasRoom, turns_calls, turns_sends, turns_flushes}
 use Rattle.blocks.proofs.Room.{OneAtMost, CountsOldest, AtMostOldest}
 use Rattle.blocks.proofs.store.Store.make_room.Given as goal

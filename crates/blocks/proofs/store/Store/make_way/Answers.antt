@@ -1,8 +1,7 @@
 use Rattle.std.proofs.Common.{◌≡◌, ◌<◌, ◌⊎◌, ◌∙◌, sym, ap, arith, length, true, false}
 use Rattle.std.proofs.lemmas.Bool.{false≢true}
 use Rattle.redo_log.specs.Value.{LogValue, CanPass, IsAway}
-use Rattle.blocks.proofs.FlushesOnce.{counted_store, counted_waits, go_falls}
-use Rattle.blocks.proofs.Paid.{kept_then}
+use Rattle.blocks.proofs.{FlushesOnce.counted_store, FlushesOnce.counted_waits, FlushesOnce.go_falls, Paid.kept_then}
 use Rattle.blocks.proofs.store.Store.make_way.Goals as goal
 
 pub returns-then-not-self : goal.returns-then-not-self

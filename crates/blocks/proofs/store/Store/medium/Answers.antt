@@ -1,7 +1,5 @@
 use Rattle.std.proofs.Common.{arith}
-use Rattle.blocks.proofs.TurnsJoined.{exits}
-use Rattle.blocks.proofs.Limits.{has_limits}
-use Rattle.blocks.proofs.EmptyBatches.{settled}
+use Rattle.blocks.proofs.{TurnsJoined.exits, Limits.has_limits, EmptyBatches.settled}
 use Rattle.blocks.proofs.store.Store.medium.Goals as goal
 
 pub returns-clause-limits : goal.returns-clause-limits

@@ -1,5 +1,4 @@
-use Rattle.std.proofs.Common.{arith, refl, rules}
-use Rattle.std.proofs.lemmas.Bool.Decides.{nat_tests}
+use Rattle.std.proofs.{Common.arith, Common.refl, Common.rules, lemmas.Bool.Decides.nat_tests}
 use Rattle.blocks.specs.StoreValue.{Cached}
 use Rattle.blocks.proofs.LogTurns.{past_fewer, passes_head, past_stays, paid_turn, turn_kept}
 use Rattle.blocks.proofs.store.Store.pass_head.Goals as goal

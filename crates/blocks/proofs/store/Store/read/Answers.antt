@@ -1,11 +1,8 @@
 use Rattle.std.proofs.Common.{◌≤◌, ◌+◌, ◌/◌, ◌^◌, length, ap, refl, arith, rules}
 use Rattle.journal.specs.Places.{Shape}
 use Rattle.medium.proofs.Moments.{quiet_start}
-use Rattle.blocks.proofs.TurnsJoined.{quiet_turn}
-use Rattle.blocks.proofs.SectorsRead.{none_read}
-use Rattle.blocks.proofs.store.Store.read.Given.{Over}
+use Rattle.blocks.proofs.{TurnsJoined.quiet_turn, SectorsRead.none_read, store.Store.read.Given.Over, store.Store.read.Goals.Else-is_dead}
 use Rattle.blocks.proofs.store.Store.read.Goals as goal
-use Rattle.blocks.proofs.store.Store.read.Goals.{Else-is_dead}
 
 -- the number of a block is small
 small : (g : Over) (c : Else-is_dead g) → c.args.address + length c.args.to.now / 512 ≤ 2 ^ 31

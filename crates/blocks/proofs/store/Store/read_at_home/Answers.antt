@@ -2,8 +2,7 @@ use Rattle.std.proofs.Common.{◌≡◌, ◌+◌, ap, arith, subst, rules}
 use Rattle.medium.specs.Medium.{LooksOnly}
 use Rattle.medium.proofs.Moments.{quiet_call}
 use Rattle.journal.specs.Places.{Shape, first_home}
-use Rattle.blocks.proofs.ReadCalls.{costs_one}
-use Rattle.blocks.proofs.SectorsRead.{home_read}
+use Rattle.blocks.proofs.{ReadCalls.costs_one, SectorsRead.home_read}
 use Rattle.blocks.proofs.store.Store.read_at_home.Goals as goal
 
 pub returns : goal.returns

@@ -1,6 +1,5 @@
 use Rattle.std.proofs.Common.{◌∙◌, refl, arith, rules}
-use Rattle.blocks.proofs.ReadCalls.{durable_is, newest_is, reads_newest, reads_copy}
-use Rattle.blocks.proofs.SectorsRead.{none_read}
+use Rattle.blocks.proofs.{ReadCalls.durable_is, ReadCalls.newest_is, ReadCalls.reads_newest, ReadCalls.reads_copy, SectorsRead.none_read}
 use Rattle.blocks.proofs.store.Store.read_block.Goals as goal
 
 pub returns-in-Ok : goal.returns-in-Ok

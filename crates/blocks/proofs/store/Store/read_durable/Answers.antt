@@ -1,8 +1,6 @@
-use Rattle.std.proofs.Common.{◌∙◌, rules}
-use Rattle.std.proofs.lemmas.Result.{on_ok_weaker}
+use Rattle.std.proofs.{Common.◌∙◌, Common.rules, lemmas.Result.on_ok_weaker}
 use Rattle.redo_log.proofs.StoreFacts.{home_is}
-use Rattle.blocks.proofs.ReadCalls.{costs_one}
-use Rattle.blocks.proofs.SectorsRead.{log_read}
+use Rattle.blocks.proofs.{ReadCalls.costs_one, SectorsRead.log_read}
 use Rattle.blocks.proofs.store.Store.read_durable.Goals as goal
 
 pub returns-in-None : goal.returns-in-None

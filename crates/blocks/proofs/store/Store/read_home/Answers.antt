@@ -1,6 +1,5 @@
 use Rattle.std.proofs.Common.{◌≡◌, ◌*◌, ◌/◌, ◌-◌, ◌+◌, length, ◌≤◌, sym, subst, arith, rules}
-use Rattle.blocks.specs.Reads.{IsAtHome}
-use Rattle.blocks.specs.StoreValue.{Cached}
+use Rattle.blocks.specs.{Reads.IsAtHome, StoreValue.Cached}
 use Rattle.blocks.proofs.ReadCalls.{none_at, keeps_turn, all_read, keeps_more, calls_more, block_more}
 use Rattle.blocks.proofs.store.Store.read_home.Goals as goal
 

@@ -1,11 +1,7 @@
 use Rattle.std.proofs.Common.{◌≡◌, ◌∙◌, ap, sym, subst}
 use Rattle.journal.specs.Places.{Shape}
-use Rattle.blocks.specs.Ahead.{may_go_ahead}
-use Rattle.blocks.specs.Started.{IsStarted, LeavesMedium}
-use Rattle.blocks.specs.StoreValue.{Cached, layout_of}
-use Rattle.blocks.proofs.Headroom.{starts_with_room}
-use Rattle.blocks.proofs.KnownImages.{with_policy}
-use Rattle.blocks.proofs.Steady.{starts_filling, starts_reaching}
+use Rattle.blocks.specs.{Ahead.may_go_ahead, Started.IsStarted, Started.LeavesMedium, StoreValue.Cached, StoreValue.layout_of}
+use Rattle.blocks.proofs.{Headroom.starts_with_room, KnownImages.with_policy, Steady.starts_filling, Steady.starts_reaching}
 use Rattle.blocks.proofs.store.Store.start_ahead.Goals as goal
 
 pub returns : goal.returns

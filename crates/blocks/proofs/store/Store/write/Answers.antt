@@ -1,11 +1,8 @@
 use Rattle.std.proofs.Common.{ap, refl, arith, rules}
-use Rattle.medium.specs.declared.fault.MediumFault.TheVariants.{Flush}
+use Rattle.medium.specs.{declared.fault.MediumFault.TheVariants.Flush, Sent.sent}
 use Rattle.redo_log.specs.Value.{LogValue}
 use Rattle.blocks.specs.Headroom.{next_durable}
-use Rattle.blocks.proofs.TurnsJoined.{stays, not_written}
-use Rattle.medium.specs.Sent.{sent}
-use Rattle.blocks.proofs.OneBatchSent.{none_sent}
-use Rattle.blocks.proofs.Paid.{kept_on}
+use Rattle.blocks.proofs.{TurnsJoined.stays, TurnsJoined.not_written, OneBatchSent.none_sent, Paid.kept_on}
 use Rattle.blocks.proofs.store.Store.write.Goals as goal
 
 pub returns-then-is_dead-clause-passes : goal.returns-then-is_dead-clause-passes

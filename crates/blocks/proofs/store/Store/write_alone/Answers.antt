@@ -1,9 +1,6 @@
-use Rattle.std.proofs.Common.{arith, rules}
-use Rattle.std.proofs.lemmas.Result.{err_from_is_err_and}
+use Rattle.std.proofs.{Common.arith, Common.rules, lemmas.Result.err_from_is_err_and}
 use Rattle.blocks.specs.StoreValue.{firsts_in}
-use Rattle.blocks.proofs.Headroom.{headroom_finished, one_each}
-use Rattle.blocks.proofs.FlushesOnce.{one_durable}
-use Rattle.blocks.proofs.Paid.{paid_refused, paid_written}
+use Rattle.blocks.proofs.{Headroom.headroom_finished, Headroom.one_each, FlushesOnce.one_durable, Paid.paid_refused, Paid.paid_written}
 use Rattle.blocks.proofs.store.Store.write_alone.Goals as goal
 
 pub returns-in_err-finish-clause-writes : goal.returns-in_err-finish-clause-writes
@@ -39,9 +36,9 @@ returns-clause-cost g c =
     let flushes = rw (← begins.keeps.medium) at c.in_ok-finish.ensures.flushes in
     record {
       paid = search rules;
-      calls = search rules;
+      alone = search rules;
       flushes = search rules;
-      once = λ on head. rw (one_each old.frozen.numbers old.log head done.some) at flushes;
+      once = λ on head alone. rw (one_each old.frozen.numbers old.log head done.some) at flushes;
       as_many = λ on head live.
           let one = one_each old.frozen.numbers old.log head done.some in
           let records = one_durable old.frozen.numbers (firsts_in old.frozen) old.log head done.some in

@@ -1,15 +1,11 @@
 use Rattle.std.proofs.Common.{◌≡◌, ◌<◌, ◌∙◌, inl, refl, ap, sym, arith, false}
 use Rattle.std.proofs.lemmas.Bool.{false≢true}
 use Rattle.medium.proofs.Moments.{unchanged}
-use Rattle.blocks.specs.StoreValue.{is_dead}
-use Rattle.blocks.specs.Work.{MayWrite}
-use Rattle.blocks.specs.Written.{IsWritten}
-use Rattle.blocks.proofs.EmptyBatches.{steps_to_write}
-use Rattle.blocks.proofs.Paid.{kept_on, rested_on}
+use Rattle.blocks.specs.{StoreValue.is_dead, Work.MayWrite, Written.IsWritten}
+use Rattle.blocks.proofs.{EmptyBatches.steps_to_write, Paid.kept_on, Paid.rested_on, store.Store.write_back.Given.Over}
 use Rattle.blocks.proofs.FlushesOnce.{live_to_write, some_to_write}
-use Rattle.blocks.proofs.store.Store.write_back.Given.{Over}
-use Rattle.blocks.proofs.store.Store.write_back.Goals as goal
 use Rattle.blocks.proofs.store.Store.write_back.Goals.{Else-is_written, Then-self, Else-self}
+use Rattle.blocks.proofs.store.Store.write_back.Goals as goal
 
 pub returns-then-is_written : goal.returns-then-is_written
 returns-then-is_written g c =

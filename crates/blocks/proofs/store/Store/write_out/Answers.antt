@@ -2,11 +2,9 @@ use Rattle.std.proofs.Common.{ℕ, refl, ◌∙◌, arith, ap, rules}
 use Rattle.std.specs.Prelude.{Ok}
 use Rattle.medium.specs.Sent.{sent, SendsUpTo}
 use Rattle.blocks.specs.Passing.{PassesPaid}
-use Rattle.blocks.proofs.Room.{flushes_step, writes_more, writes_last}
-use Rattle.blocks.proofs.Paid.{paid_then, on_paid, rested_paid}
-use Rattle.blocks.proofs.store.Store.write_out.Given.{Over}
+use Rattle.blocks.proofs.{Room.flushes_step, Room.writes_more, Room.writes_last, Paid.paid_then, Paid.on_paid, Paid.rested_paid}
+use Rattle.blocks.proofs.{store.Store.write_out.Given.Over, store.Store.write_out.Goals.After-step}
 use Rattle.blocks.proofs.store.Store.write_out.Goals as goal
-use Rattle.blocks.proofs.store.Store.write_out.Goals.{After-step}
 
 -- a step is made
 step_passes : (g : Over) (c : After-step g) → {sends : ℕ}
