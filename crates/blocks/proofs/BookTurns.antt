@@ -1,7 +1,7 @@
 -- How the books that a store fits go on from turn to turn.
 use Rattle.std.specs.Prelude.{if◌then◌else◌, ◌==◌, nat_le, get_or, slice_range, unwrap_or}
 use Rattle.std.proofs.{lemmas.List.take-append-le, lemmas.List.drop-drop, Math.Seq.take-length, lemmas.Bool.Decides.nat_tests}
-use Rattle.std.proofs.Common.{◌≡◌, ◌≤◌, ◌<◌, ℕ, ◌+◌, ◌*◌, ◌-◌, ⊎_elim, arith, ◌∙◌, sym, ap, subst, refl, Bool, true, false, Option, Some}
+use Rattle.std.proofs.Common.{◌≡◌, ◌≤◌, ◌<◌, ℕ, ◌+◌, ◌*◌, ◌-◌, ⊎_elim, arith, ◌∙◌, sym, ap, refl, Bool, Option, Some}
 use Rattle.std.proofs.Common.{List, [], ◌∷◌, ◌++◌, length, take, drop, length-append, zero, suc, get_or}
 use Rattle.medium.specs.Medium.{State, Image}
 use Rattle.spec.specs.Blocks.{Array, Write, apply, after, chunks}
@@ -9,11 +9,11 @@ use Rattle.spec.specs.Book.{Book, after_first, array_of, with_write, promised}
 use Rattle.journal.specs.{Places.Shape, Record.with_blocks, Standing.IsOurs}
 use Rattle.cache.specs.{Blocks.Blocks, Blocks.blocks_of, Blocks.over, Blocks.with_range, Blocks.Listed, Entries.Entries, Entries.map_of}
 use Rattle.cache.proofs.Arrays.{over_put}
-use Rattle.redo_log.specs.Value.{LogValue, HasRoom, begun, IsBatch, entries_from, entries_of}
+use Rattle.redo_log.specs.Value.{LogValue, IsBatch, entries_from, entries_of}
 use Rattle.redo_log.specs.Held.{View, HoldsView, MayLeave, with_record}
-use Rattle.redo_log.proofs.{HeldLog.many, StoreFacts.begun_holds, StoreFacts.may_leave_ours}
+use Rattle.redo_log.proofs.{HeldLog.many, StoreFacts.may_leave_ours}
 use Rattle.blocks.specs.{Book.Same, Finding.StandsAs, Finding.MayFind, Kept.IsBatchOf}
-use Rattle.blocks.specs.StoreValue.{firsts_in, Cached, FitsBook, ShowsBook, wants}
+use Rattle.blocks.specs.StoreValue.{Cached, FitsBook, ShowsBook, wants}
 
 -- blocks over two arrays that have the same block
 pub over_same : (blocks : Blocks) (a c : Array) (b : ℕ) → a b ≡ c b → over blocks a b ≡ over blocks c b
@@ -39,8 +39,7 @@ first_all book = ap (after book.opening) (take-length book.writes)
 -- one test for both
 both : (t : Bool) (x y z d : List ℕ) (o : Option (List ℕ)) → x ≡ y → z ≡ unwrap_or o d
     → (if t then x else z) ≡ unwrap_or (if t then Some y else o) d
-both true x y z d o here there = here
-both false x y z d o here there = there
+both t x y z d o here there = grind (arith, here, there)
 
 -- the i-th block of some bytes
 range_is : (bytes : List ℕ) (i : ℕ) → slice_range bytes (512 * i) (512 * i + 512) ≡ take 512 (drop (512 * i) bytes)
@@ -67,8 +66,7 @@ with_entries numbers bytes a b = entries_over 0 numbers bytes a b
 
 -- an empty batch changes no array
 pub over_none : (numbers bytes : List ℕ) → numbers ≡ [] → (a : Array) (b : ℕ) → over (blocks_of numbers bytes) a b ≡ a b
-over_none [] bytes e a b = refl
-over_none (n ∷ numbers) bytes e a b = absurd (cc e)
+over_none numbers bytes e a b = rw e refl
 
 -- a batch wants a stamp or none
 pub wants_some : (numbers : List ℕ) → 0 < length numbers → wants numbers ≡ 1
@@ -77,19 +75,11 @@ wants_some numbers some = grind arith
 pub wants_none : (numbers : List ℕ) → numbers ≡ [] → wants numbers ≡ 0
 wants_none numbers e = grind arith
 
-pub wants_most : (numbers : List ℕ) → wants numbers ≤ 1
-wants_most numbers = grind arith
-
--- an image that is ours for an array is ours for one with the same blocks
-pub ours_same : (size : ℕ) (shape : Shape) (image : Image) (a c : Array) (next : ℕ) → Same shape.blocks a c → IsOurs size shape image a next
-    → IsOurs size shape image c next
-ours_same size shape image a c next same ours = grind (arith, ours, same)
-
--- it stands so for that array
+-- an image that is ours for an array stands so for one with the same blocks
 pub stands_as : (size blocks : ℕ) (shape : Shape) (image : Image) (a c : Array) (next : ℕ) → shape.blocks ≡ blocks → Same blocks a c
     → IsOurs size shape image a next → StandsAs size blocks image c next
 stands_as size blocks shape image a c next is same ours =
-    (shape, is, ours_same size shape image a c next (subst (λ n. Same n a c) (sym is) same) ours)
+    let alike : Same shape.blocks a c = rw is same in (shape, is, grind (arith, ours, alike))
 
 -- ---- what a store shows
 
@@ -145,13 +135,6 @@ shows_book {k = k} {n = n} f active blocks ours arrays stamps = record {
   stamps = stamps;
   ours = f.ours ∙ ours;
 }
-
--- the frozen batch is begun
-pub begins : {m : State} {s : Cached} {book : Book} → FitsBook m s book → HasRoom s.log
-    → IsBatch s.log.shape s.frozen.numbers s.frozen.bytes
-    → FitsBook m (record s { log = begun s.frozen.numbers (firsts_in s.frozen) s.log }) book
-begins f room batch =
-    moves f (begun_holds _ _ _ _ _ f.holds room batch) refl (λ some. refl) (λ some. wants_some _ batch.some) refl refl refl
 
 -- the record under way becomes durable, and the frozen batch is emptied
 pub becomes_durable : {m m' : State} {s : Cached} {book : Book} {log' : LogValue} {none : Entries} (f : FitsBook m s book)
@@ -216,7 +199,7 @@ appends {s = s} {book = book} more address bytes count put f =
       now_is = λ b below. over_put s.active more middle address count bytes put b
           ∙ (apply_same w (over (map_of s.active) middle) (array_of book) b (a.now_is b below)
           ∙ ap (λ (a : Array). a b) (sym (after_last book.opening book.writes w)));
-    }) (omega (arith, f.stamps, longer, wants_most more.numbers))
+    }) (grind (arith, f.stamps, longer))
 
 -- with both batches empty everything is durable
 pub settles : {m : State} {s : Cached} {book : Book} → s.frozen.numbers ≡ [] → s.active.numbers ≡ [] → FitsBook m s book

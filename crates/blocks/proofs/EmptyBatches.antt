@@ -1,5 +1,5 @@
 -- A store whose batches are empty: what fits, what is sent, how many steps are left else, and that at rest everything is at home.
-use Rattle.std.specs.Prelude.{false, ◌==◌}
+use Rattle.std.specs.Prelude.{false}
 use Rattle.std.proofs.{lemmas.List.nil_from_length, lemmas.Bool.cases_lt, lemmas.Bool.cases_Bool, lemmas.Bool.Decides.nat_tests}
 use Rattle.std.proofs.Common.{◌≡◌, ◌+◌, ◌<◌, ◌≤◌, ℕ, ◌∙◌, sym, ap, arith, true, false, List, [], length, ◌⊎◌, Bool, refl, inl, inr}
 use Rattle.medium.specs.{Medium.State, Medium.Image, Medium.IsSound, Moments.EachCut, Sent.SendsUpTo}
@@ -7,12 +7,12 @@ use Rattle.spec.specs.Book.{Book, array_of}
 use Rattle.journal.specs.{Record.home_of, Standing.Keeps}
 use Rattle.cache.specs.{Blocks.over, Entries.map_of, Entries.Entries}
 use Rattle.cache.proofs.Arrays.{unlisted_empty}
-use Rattle.redo_log.specs.Value.{LogValue, Owes, retire_steps_of, of_oldest, pass_calls, CanPass, IsCovered}
+use Rattle.redo_log.specs.Value.{LogValue, Owes, retire_steps_of, CanPass, IsCovered, IsAway}
 use Rattle.redo_log.proofs.{HeldLog.many, StoreFacts.home_is, StoreFacts.blocks_guarded, StoreFacts.put_head}
 use Rattle.blocks.specs.{Settled.IsAtHome, Settled.IsSettled, OneBatch.SendsOneBatch, Written.IsWritten, Ahead.is_covered, Ahead.counted}
-use Rattle.blocks.specs.{Prepared.RestsAhead, Background.PassesHead, Work.IsAheadStep, Work.GoesOnAhead, Work.with_counted}
+use Rattle.blocks.specs.{Prepared.RestsAhead, Work.IsAheadStep, Work.GoesOnAhead, Work.with_counted}
 use Rattle.blocks.specs.StoreValue.{Cached, layout_of, is_dead, steps_left, FitsBook, FitsBeside, active_of, transfer_limit, unwritten}
-use Rattle.blocks.proofs.{BookTurns.over_none, LogTurns.nothing_left, LogTurns.settles_all}
+use Rattle.blocks.proofs.{BookTurns.over_none, BookTurns.settles, LogTurns.nothing_left}
 
 -- ---- a store at rest has everything at home
 
@@ -58,7 +58,7 @@ module _ (m : State) (sound : IsSound m) (s : Cached) (live : is_dead s ≡ fals
     none_under_way = under_way;
     active = (nothing_left s none).1;
     frozen = (nothing_left s none).0;
-    durable = λ book f. settles_all none f;
+    durable = λ book f. settles (nothing_left s none).0 (nothing_left s none).1 f;
     home = at_home;
     cuts = cut_home;
   }
@@ -105,22 +105,17 @@ frozen_as old new same none = ap (λ (batch : Entries). batch.numbers) same ∙ 
 pub step_sent : (ahead : Bool) (before after : State) (log : LogValue) → SendsUpTo 2 before after → SendsOneBatch ahead before after log
 step_sent ahead before after log two = grind (arith, two)
 
--- the head may go past the oldest record where that is all that is to be done
-passes_alone : (log : LogValue) → is_covered log ≡ false → of_oldest log ≤ 2 → ¬ RestsAhead log → CanPass log
-passes_alone log not home some = elim (cases_Bool (pass_calls log == 1)) [
-  | inl one ↦ grind (arith, nat_tests, one)
-  | inr none ↦ absurd (some (record {
-    counted = λ (is : IsCovered log). grind (arith, nat_tests, not, is);
-    past = λ (can : CanPass log). grind (arith, nat_tests, none, can);
-    home = λ away. omega (arith, away, home);
-  }))
-]
+-- where no flush is counted, and something is to be done ahead, a step ahead does it
+does_some : (log : LogValue) → is_covered log ≡ false → ¬ RestsAhead log → CanPass log ⊎ IsAway log
+does_some log not some =
+    let rests = λ (c : ¬ IsCovered log) (p : ¬ CanPass log) (h : ¬ IsAway log). some (record { counted = c; past = p; home = h }) in
+    grind (arith, nat_tests, not, rests)
 
--- then a step ahead leaves one fewer at least
-fewer_past : (before after : State) (old new : Cached) → old.log.steps_left ≡ 0 → CanPass old.log → PassesHead before after old new
+-- a step ahead that does something leaves fewer
+pub go_falls : (before after : State) (old new : Cached) → GoesOnAhead before after old new → CanPass old.log ⊎ IsAway old.log
     → is_dead new ≡ false → steps_left new < steps_left old
-fewer_past before after old new idle can passes lives =
-    let log = passes.log lives in let stays = passes.stays in grind (arith, nat_tests, log, can, stays, idle)
+go_falls before after old new goes (inl can) live = grind (arith, nat_tests, goes.active, goes.frozen, (goes.passes can).log live, can)
+go_falls before after old new goes (inr away) live = (goes.brings away).fewer live
 
 -- the flush that is counted takes a step
 fewer_counted : (old : Cached) → old.log.steps_left ≡ 0 → is_covered old.log ≡ true → steps_left (with_counted old) < steps_left old
@@ -129,15 +124,9 @@ fewer_counted old idle covered = grind (arith, nat_tests, covered, idle)
 -- and what a step ahead does behind it takes none back
 no_more_ahead : (before after : State) (old new : Cached) → GoesOnAhead before after old new → is_dead new ≡ false
     → steps_left new ≤ steps_left old
-no_more_ahead before after old new goes lives = elim (cases_lt 2 (of_oldest old.log)) [
-  | inl away ↦ omega (arith, (goes.brings away).fewer lives)
-  | inr home ↦ elim (cases_Bool (pass_calls old.log == 1)) [
-    | inl one ↦ let can : CanPass old.log = grind (arith, nat_tests, one) in (goes.passes can).fewer lives
-    | inr none ↦
-        let rests = goes.rests (λ (can : CanPass old.log). grind (arith, nat_tests, none, can)) (λ away. omega (arith, away, home)) in
-        omega (arith, ap (λ (s : Cached). steps_left s) rests.0)
-  ]
-]
+no_more_ahead before after old new goes lives =
+    let fewer = λ (does : CanPass old.log ⊎ IsAway old.log). go_falls before after old new goes does lives in
+    grind (arith, nat_tests, goes.rests, fewer)
 
 -- a step ahead leaves fewer where something is to be done ahead of the next record
 pub ahead_fewer : (before after : State) (old new : Cached) → IsAheadStep true before after old new → is_dead old ≡ false
@@ -149,10 +138,5 @@ ahead_fewer before after old new step live idle some lives =
       | inr not ↦
           let same : counted old.log ≡ old.log = rw not refl in
           let on : GoesOnAhead before after old new = rw same at goes in
-          elim (cases_lt 2 (of_oldest old.log)) [
-            | inl away ↦ (on.brings away).fewer lives
-            | inr home ↦
-                let can = passes_alone old.log not home some in
-                fewer_past before after old new idle can (on.passes can) lives
-          ]
+          go_falls before after old new on (does_some old.log not some) lives
     ]

@@ -1,7 +1,7 @@
 -- One step ahead, or one that writes back, keeps headroom, and each record makes one flush, whatever calls come between.
 use Rattle.std.specs.Prelude.{ℕ, List, [], ◌∷◌, length, true, false, Bool}
 use Rattle.std.proofs.{lemmas.Bool.cases_Bool, lemmas.Bool.cases_lt, lemmas.Bool.Decides.nat_tests, lemmas.List.nil_from_length}
-use Rattle.std.proofs.Common.{◌≡◌, ◌⊎◌, ◌<◌, ◌∙◌, inl, inr, refl, arith, length-append, ◌+◌, ap}
+use Rattle.std.proofs.Common.{◌≡◌, ◌⊎◌, ◌<◌, inl, inr, refl, arith, length-append, ◌+◌}
 use Rattle.medium.specs.{Medium.State, declared.fault.MediumFault.TheVariants.Flush}
 use Rattle.cache.specs.Entries.{Entries}
 use Rattle.redo_log.specs.Value.{LogValue, CanPass, IsAway, IsStepped, IsRetireStepped, next_step_flushes}
@@ -13,10 +13,9 @@ use Rattle.blocks.specs.StoreValue.{Cached, is_dead, steps_left, unwritten, Stor
 use Rattle.blocks.specs.Work.{GoesOnAhead, IsAheadStep, IsWriteBackStep, MayWrite, SparesSlots, with_counted, RetiresNone, IsWork, WorksBy}
 use Rattle.blocks.specs.Work.{DoesWork}
 use Rattle.blocks.specs.declared.work.Work.TheVariants.{Settle, Ahead, WriteBack}
-use Rattle.blocks.proofs.{EmptyBatches.written_live, Room.flushes_step, Room.steps_once}
-use Rattle.blocks.proofs.Headroom.{order_more, headroom_finished, two_with_headroom, rests_finished, rests_stepped, landed_stepped}
-use Rattle.blocks.proofs.Headroom.{landed_begun, headroom_stepped}
-use Rattle.blocks.proofs.Steady.{behind_more, with_more, finished_is}
+use Rattle.blocks.proofs.{EmptyBatches.written_live, Room.flushes_step, Room.steps_once, Headroom.order_more, Headroom.headroom_finished}
+use Rattle.blocks.proofs.{Headroom.two_with_headroom, Headroom.rests_finished, Headroom.rests_stepped, Headroom.landed_stepped}
+use Rattle.blocks.proofs.{Headroom.landed_begun, Headroom.headroom_stepped, Steady.behind_more, Steady.with_more, Steady.finished_is}
 
 -- ---- whether a record is left to write
 
@@ -33,18 +32,6 @@ some_to_write s left = elim (cases_lt 0 (unwritten s)) [ inl some ↦ some | inr
 pub next_some : (old new : Cached) → FreezesNext old new → 0 < unwritten old → 0 < length new.frozen.numbers
 next_some old new next some = grind (arith, next, some, nil_from_length old.frozen.numbers)
 
--- ---- a step ahead that does something leaves fewer
-
-pub go_falls : (before after : State) (old new : Cached) → GoesOnAhead before after old new → CanPass old.log ⊎ IsAway old.log
-    → is_dead new ≡ false → steps_left new < steps_left old
-go_falls before after old new goes (inl can) live = grind (arith, nat_tests, goes.active, goes.frozen, (goes.passes can).log live, can)
-go_falls before after old new goes (inr away) live = (goes.brings away).fewer live
-
--- it is a step ahead of the store before the flush was counted
-pub as_ahead : (before after : State) (old new : Cached) → is_dead old ≡ false → old.log.steps_left ≡ 0
-    → GoesOnAhead before after (with_counted old) new → IsAheadStep true before after old new
-as_ahead before after old new live idle goes = grind (arith, live, idle, goes)
-
 -- ---- slots are spared, or a step ahead does something
 
 pub spares_or_not : (log : LogValue) → SparesSlots log ⊎ (SparesSlots log → ⊥)
@@ -52,9 +39,6 @@ spares_or_not log = grind (arith, nat_tests)
 
 pub goes_with_room : (log : LogValue) → RestsWithRoom log → ¬ SparesSlots log → CanPass (counted log) ⊎ IsAway (counted log)
 goes_with_room log r few = grind (arith, nat_tests, r, few)
-
-pub counted_waits : (log : LogValue) → length (counted log).waiting ≡ length log.waiting
-counted_waits log = grind (arith, nat_tests)
 
 -- ---- room stays
 
@@ -70,17 +54,15 @@ room_with : (log : LogValue) → RestsWithRoom log → SparesSlots log → MayWr
 room_with log r spare = grind (arith, nat_tests, r, spare)
 
 pub may_or_not : (log : LogValue) → RestsWithRoom log → MayWrite true log ⊎ (MayWrite true log → ⊥)
-may_or_not log r = elim (spares_or_not log) [
-  | inl spare ↦ inl (room_with log r spare)
-  | inr few ↦ inr (λ (may : MayWrite true log). few (may.spares refl))
-]
+may_or_not log r = grind (arith, nat_tests, spares_or_not log, room_with log r)
 
 -- where none may be begun a step ahead is made
 pub way_ahead : (before after : State) (old new : Cached) → IsWriteBackStep true before after old new → ¬ IsWritten old
     → old.log.steps_left ≡ 0 → RestsWithRoom old.log → ¬ MayWrite true old.log → IsAheadStep true before after old new
 way_ahead before after old new step left idle r not =
-    as_ahead before after old new (live_to_write old left) idle
-    ((step.makes_way left idle not).goes (goes_with_room old.log r (λ spare. not (room_with old.log r spare))))
+    let live = live_to_write old left in
+    let goes = (step.makes_way left idle not).goes (goes_with_room old.log r (λ spare. not (room_with old.log r spare))) in
+    grind (arith, live, idle, goes)
 
 -- ---- one step ahead
 
@@ -92,9 +74,6 @@ rests_ahead : (before after : State) (old new : Cached) → GoesOnAhead before a
     → IsRetireStepped old.log new.log ⊎ (new.log ≡ old.log)
 rests_ahead before after old new goes live = grind (arith, nat_tests, goes)
 
-next_stepped : (old new : LogValue) → IsRetireStepped old new → new.next ≡ old.next
-next_stepped old new stepped = grind (arith, stepped)
-
 steps_ahead : (before after : State) (old new : Cached) → IsAheadStep true before after old new → RestsWithRoom old.log
     → is_dead new ≡ false → RestsWithRoom new.log × (new.log.next ≡ old.log.next)
 steps_ahead before after old new step r live = elim (cases_Bool (is_dead old)) [
@@ -103,23 +82,17 @@ steps_ahead before after old new step r live = elim (cases_Bool (is_dead old)) [
       let next : (counted old.log).next ≡ old.log.next = grind (arith, nat_tests) in
       let counts = rests_counted old.log r in
       elim (rests_ahead before after (with_counted old) new (step.goes refl alive r.order.idle) live) [
-        | inl stepped ↦ (rests_stepped (counted old.log) new.log counts stepped, next_stepped (counted old.log) new.log stepped ∙ next)
+        | inl stepped ↦ (rests_stepped (counted old.log) new.log counts stepped, grind (arith, stepped, next))
         | inr same ↦ rw same (counts, next)
       ]
 ]
 
 -- a store is known by its parts
 pub cached_is : (s t : Cached) → t.log ≡ counted s.log → t.active ≡ s.active → t.frozen ≡ s.frozen → t ≡ with_counted s
-cached_is s t log active frozen =
-    ap (λ (l : LogValue). record t { log = l }) log
-    ∙ ap (λ (b : Entries). record t { log = counted s.log; active = b }) active
-    ∙ ap (λ (b : Entries). record s { log = counted s.log; frozen = b }) frozen
+cached_is s t log active frozen = grind (arith, log, active, frozen)
 
 pub store_is : {M : Type 0} (s t : StoreValue M) → t.medium ≡ s.medium → t.cached ≡ s.cached → t.goes_ahead ≡ s.goes_ahead → t ≡ s
-store_is {M} s t medium cached policy =
-    ap (λ (m : M). record t { medium = m }) medium
-    ∙ ap (λ (c : Cached). record t { medium = s.medium; cached = c }) cached
-    ∙ ap (λ (b : Bool). record s { goes_ahead = b }) policy
+store_is s t medium cached policy = grind (arith, medium, cached, policy)
 
 -- a flush was counted
 pub counted_store : {M : Type 0} {state : M → State} {old mid : StoreValue M} → SettlesFlush state old mid

@@ -72,10 +72,7 @@ ready_still log r free = grind (arith, nat_tests)
 ready_room : (log : LogValue) → RestsWithRoom log → IsReady (ahead_room log)
 ready_room log r =
     let is : ahead_room log ≡ sent_home (passed log) = grind (arith, nat_tests) in
-    rw is (elim (passes log r) [
-      | inl home ↦ rw home.0 (ready_retired log r home.1)
-      | inr still ↦ rw still.0 (ready_still log r.order still.1)
-    ])
+    grind (arith, is, passes log r, ready_retired log r, ready_still log r.order)
 
 -- one record more, however many slots were free
 pub rests_finished : (numbers : List ℕ) (firsts : List (List ℕ)) (log : LogValue) → RestsWithRoom log → 0 < length numbers
@@ -123,21 +120,19 @@ pub headroom_stepped : (before after : State) (old new : Cached) → IsBackgroun
 headroom_stepped before after old new order head live =
     let may : MayBegin true old ⊎ (MayBegin true old → ⊥) = grind (arith, nat_tests) in
     let idles : old.log.steps_left ≡ 0 → RestsWithRoom old.log = λ (idle : old.log.steps_left ≡ 0). grind (arith, head) in
-    elim (cases_Bool (is_dead old)) [
-      | inl dead ↦ grind (arith, order.dead dead, head)
-      | inr alive ↦ elim (cases_lt 0 old.log.steps_left) [
-        | inl some ↦ let step = (order.goes_on alive some).live live in rw (landed_stepped step.1 old.log new.log some step.2.log) head
-        | inr few ↦ elim may [
-          | inl begins ↦
-              let b = order.begins alive begins in
-              let some : 0 < length new.frozen.numbers = grind (arith, b.next, begins, nil_from_length old.frozen.numbers) in
-              rw ((b.live live).1, landed_begun new.frozen.numbers (firsts_in new.frozen) old.log)
-              (rests_begun new.frozen.numbers (firsts_in new.frozen) old.log (idles (omega (arith, few))).order begins.0.1 some)
-          | inr not ↦
-              let r = order.retires alive (omega (arith, few)) not in
-              let empty = nil_from_length old.log.waiting in
-              grind (arith, cases_lt 0 (length old.log.waiting), empty, r.live, r.none_waits, idles, rests_stepped old.log new.log, head)
-        ]
+    let alive : is_dead old ≡ false = grind (arith, cases_Bool (is_dead old), order.dead, live) in
+    elim (cases_lt 0 old.log.steps_left) [
+      | inl some ↦ let step = (order.goes_on alive some).live live in rw (landed_stepped step.1 old.log new.log some step.2.log) head
+      | inr few ↦ elim may [
+        | inl begins ↦
+            let b = order.begins alive begins in
+            let some : 0 < length new.frozen.numbers = grind (arith, b.next, begins, nil_from_length old.frozen.numbers) in
+            rw ((b.live live).1, landed_begun new.frozen.numbers (firsts_in new.frozen) old.log)
+            (rests_begun new.frozen.numbers (firsts_in new.frozen) old.log (idles (omega (arith, few))).order begins.0.1 some)
+        | inr not ↦
+            let r = order.retires alive (omega (arith, few)) not in
+            let empty = nil_from_length old.log.waiting in
+            grind (arith, cases_lt 0 (length old.log.waiting), empty, r.live, r.none_waits, idles, rests_stepped old.log new.log, head)
       ]
     ]
 

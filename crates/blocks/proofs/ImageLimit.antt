@@ -18,7 +18,7 @@ some_limit size image there = (
 
 pub one_limit : (size limit other : ℕ) (image : Image) → HasLimit size limit image → HasLimit size other image → limit ≡ other
 one_limit size limit other image has is =
-    let one = StandsFor-one size size has.shape is.shape image has.array is.array has.next is.next has.stands is.stands in
+    let one = StandsFor-one _ _ _ _ _ _ _ _ _ has.stands is.stands in
     has.limit_is ∙ ap (λ (s : Shape). limit_of s.format) one.0 ∙ sym is.limit_is
 
 -- an image for which an image before stood has the limit of that one
@@ -26,8 +26,7 @@ limit_of_one : (before : State) (limit : ℕ) → EachCut (HasLimit before.size 
     → HasLimit before.size limit image
 limit_of_one before limit has image is =
     let was = has is.before is.allowed in
-    let one =
-    StandsFor-one before.size before.size was.shape is.shape is.before was.array is.array was.next is.next was.stands is.was.stands in
+    let one = StandsFor-one _ _ _ _ _ _ _ _ _ was.stands is.was.stands in
     let limit_is : limit ≡ limit_of is.shape.format = was.limit_is ∙ ap (λ (s : Shape). limit_of s.format) one.0 in
     ⊎_elim
     (λ here. record { shape = is.shape; array = is.array; next = is.next; stands = here.stands; limit_is = limit_is })

@@ -6,8 +6,8 @@ use Rattle.std.proofs.lemmas.Bool.{false≢true}
 use Rattle.medium.specs.{Medium.State, Medium.Image, Medium.IsSound, Moments.EachCut, Moments.IsFlushed, Moments.LeavesOnly}
 use Rattle.medium.proofs.Moments.{at_exit, only_image}
 use Rattle.spec.specs.{Blocks.Array, Blocks.Write, Blocks.apply, Blocks.after, Book.Book, Book.after_first, Book.opened, Book.with_write}
-use Rattle.journal.specs.{Places.Shape, Places.limit_of, Places.sectors_of, declared.super_sector.Super.Super}
-use Rattle.journal.specs.{declared.log_format.LogFormat.LogFormat, Formats.shape_of, Formats.CarriesBelow, Sectors.IsSuper}
+use Rattle.journal.specs.{Places.Shape, Places.limit_of, declared.log_format.LogFormat.LogFormat, Formats.shape_of, Formats.CarriesBelow}
+use Rattle.journal.specs.{Sectors.IsSuper, declared.super_sector.Super.Super}
 use Rattle.journal.specs.Standing.{StandsFor, Stands, IsOurs, Keeps}
 use Rattle.journal.specs.Standing as image
 use Rattle.journal.proofs.StandingLaws.{StandsFor-one, HasFault-stands}
@@ -17,8 +17,8 @@ use Rattle.redo_log.proofs.StoreFacts.{idle_holds}
 use Rattle.recovery.specs.{declared.start_fault.StartFault.StartFault, declared.recovered.Recovered.Recovered}
 use Rattle.recovery.specs.Recovered.{IsOursForSome, StandsForOneOf, IsRecoveredFrom}
 use Rattle.recovery.specs.Recovered as recovered
-use Rattle.blocks.specs.{Book.Same, Finding.StandsAs, Finding.MayFind, Finding.FoundWith, Opening.StandsForOpening, Opening.OpensOn}
-use Rattle.blocks.specs.{Opening.IsCauseFor, Started.IsStartCause, Started.IsStarted, Ahead.may_go_ahead, Kept.Invariant}
+use Rattle.blocks.specs.{Kept.Invariant, Ahead.may_go_ahead, Book.Same, Finding.StandsAs, Finding.MayFind, Finding.FoundWith}
+use Rattle.blocks.specs.{Started.IsStartCause, Started.IsStarted, Opening.StandsForOpening, Opening.OpensOn, Opening.IsCauseFor}
 use Rattle.blocks.specs.StoreValue.{Cached, layout_of, blocks_of, FitsBook}
 use Rattle.blocks.proofs.BookTurns.{stands_as, apply_same, shows_book, may_find}
 
@@ -47,7 +47,7 @@ each_ours m book on is_ours image cut =
 pub ours_for_opening : (size : ℕ) (book : Book) (image : Image) → StandsForOpening size book image → IsOursForSome size image
     → StandsAs size book.blocks image book.opening book.stamp
 ours_for_opening size book image there is =
-    let one = StandsFor-one size size is.0 there.0 image is.1 book.opening is.2 book.stamp is.3.stands there.2 in
+    let one = StandsFor-one _ _ _ _ _ _ _ _ _ is.3.stands there.2 in
     let blocks_same : is.0.blocks ≡ book.blocks = ap (λ (x : Shape). x.blocks) one.0 ∙ there.1 in
     let arrays : Same book.blocks is.1 book.opening = subst (λ (n : ℕ). Same n is.1 book.opening) blocks_same one.2 in
     subst (λ (t : ℕ). StandsAs size book.blocks image book.opening t) one.1
@@ -82,16 +82,10 @@ pub serves : (before after : State) (s : Cached) (array : Array) (next : ℕ) �
     → ((ours : Bool) → (ours ≡ true → EachCut (IsOursForSome before.size) before) → FitsBook after s (opened (blocks_of s) array next ours))
     → (book : Book) → OpensOn before book → FitsBook after s book
 serves before after s array next stood fits book on =
-    let one = StandsFor-one before.size before.size (layout_of s) on.stands.0 before.content array book.opening next book.stamp stood
-    on.stands.2 in
+    let one = StandsFor-one _ _ _ _ _ _ _ _ _ stood on.stands.2 in
     let blocks : blocks_of s ≡ book.blocks = ap (λ (x : Shape). x.blocks) one.0 ∙ on.stands.1 in
     let f = reopened after s (opened (blocks_of s) array next book.ours) book.opening one.2 (fits book.ours (each_ours before book on)) in
     rw (on.opens, ← blocks, ← one.1) f
-
--- contents that stand for something open a book that claims no more
-pub opens_on : (m : State) (shape : Shape) (array : Array) (next : ℕ) → StandsFor m.size shape m.content array next
-    → OpensOn m (opened shape.blocks array next false)
-opens_on m shape array next stood = record { opens = refl; stands = (shape, refl, stood); ours = λ ours. absurd (false≢true ours) }
 
 -- ---- what a start leaves
 
@@ -104,8 +98,7 @@ module _ (before after : State) (sound : IsSound after) (size_stays : after.size
       let was : IsOurs before.size one.shape before.content one.array one.next =
       subst (λ (i : Image). IsOurs before.size one.shape i one.array one.next)
       (only_image before.content before.may_leave flushed one.before one.allowed) one.was in
-      let same = StandsFor-one before.size before.size on.stands.0 one.shape before.content book.opening one.array book.stamp one.next
-      on.stands.2 was.stands in
+      let same = StandsFor-one _ _ _ _ _ _ _ _ _ on.stands.2 was.stands in
       let blocks_same : one.shape.blocks ≡ book.blocks = sym (ap (λ (x : Shape). x.blocks) same.0) ∙ on.stands.1 in
       let arrays : Same book.blocks book.opening one.array = subst (λ (n : ℕ). Same n book.opening one.array) on.stands.1 same.2 in
       let stamps : book.stamp ≡ one.next = same.1 in
@@ -125,9 +118,7 @@ module _ (before after : State) (book : Book) (on : OpensOn before book) where
 
   used_up : image.HasNoStampLeft before.size before.content → 2 ^ 63 ≤ book.stamp
   used_up (shape, array, next, stood, past) =
-      let same = StandsFor-one before.size before.size shape on.stands.0 before.content array book.opening next book.stamp stood
-      on.stands.2 in
-      omega (arith, same.1, past)
+      let same = StandsFor-one _ _ _ _ _ _ _ _ _ stood on.stands.2 in omega (arith, same.1, past)
 
   -- contents that stand for a book have no fault but that their stamps may be used up
   pub is_cause_for : (fault : StartFault) → IsStartCause before after fault → IsCauseFor book before after fault
@@ -164,12 +155,7 @@ empty_batch format = record { room = limit_of format; numbers = []; bytes = [] }
 abbrev pub started : Shape → ℕ → Cached
 started shape next = record { log = idle_from shape next; active = empty_batch shape.format; frozen = empty_batch shape.format }
 
--- it is kept as every store is
-pub started_kept : (size : ℕ) (sizes : Super) (next : ℕ) → sectors_of (shape_of sizes) ≤ size
-    → Invariant size sizes (started (shape_of sizes) next) false false
-started_kept size sizes next fits = grind (arith, fits)
-
--- so it is where it goes ahead, if its log allows that
+-- what is kept of a store is so where it goes ahead, if its log allows that
 pub with_policy : (size : ℕ) (sizes : Super) (s : Cached) (writing ahead b : Bool) → Invariant size sizes s writing ahead
     → (b ≡ true → may_go_ahead s.log.shape ≡ true) → Invariant size sizes s writing b
 with_policy size sizes s writing ahead b k may = grind (arith, k, may)
@@ -199,8 +185,7 @@ module _ (before after : State) (answer : Recovered) (from : IsRecoveredFrom bef
   was_ours : EachCut (IsOursForSome before.size) before → IsOurs before.size (shape_of answer.sizes) before.content from.array answer.next
   was_ours each =
       let e = each before.content sound.holds_content in
-      let one = StandsFor-one before.size before.size (shape_of answer.sizes) e.0 before.content from.array e.1 answer.next e.2 from.stood
-      e.3.stands in
+      let one = StandsFor-one _ _ _ _ _ _ _ _ _ from.stood e.3.stands in
       let carries = subst (λ (s : Shape). CarriesBelow s before.content e.2) (sym one.0) e.3.carries in
       record {
         stands = from.stood;
@@ -227,7 +212,7 @@ module _ (before after : State) (answer : Recovered) (from : IsRecoveredFrom bef
     stamp_left = from.stamp_left;
     fits = fits;
     serves = serves before after (started (shape_of answer.sizes) answer.next) from.array answer.next from.stood fits;
-    opens = opens_on before (shape_of answer.sizes) from.array answer.next from.stood;
+    opens = record { opens = refl; stands = (shape_of answer.sizes, refl, from.stood); ours = λ ours. absurd (false≢true ours) };
     live = refl;
     empty = refl;
     rests = refl;

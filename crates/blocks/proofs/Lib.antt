@@ -8,7 +8,6 @@ pub mod Headroom
 pub mod FlushesOnce
 pub mod OneBatchSent
 pub mod EmptyBatches
-pub mod Paid
 pub mod Room
 pub mod Steady
 pub mod LogTurns

@@ -1,5 +1,5 @@
 -- How many blocks a transfer has at most, and how many steps are left at most.
-use Rattle.std.proofs.Common.{◌≡◌, ◌≤◌, ℕ, ◌+◌, ◌*◌, ap, arith, Bool}
+use Rattle.std.proofs.Common.{◌≡◌, ◌≤◌, ℕ, ◌+◌, ◌*◌, ap, arith, rules, Bool}
 use Rattle.journal.specs.{Places.Shape, Places.limit_of, declared.log_format.LogFormat.LogFormat, declared.super_sector.Super.Super}
 use Rattle.journal.specs.declared.log_format.LogFormat.TheVariants.{One, Two}
 use Rattle.blocks.specs.StoreValue.{Cached, layout_of, blocks_of, slots_of, transfer_limit, batch_steps, steps_for, waiting, HasLimits}
@@ -25,20 +25,11 @@ pub has_limits : (size : ℕ) (sizes : Super) (s : Cached) (writing ahead : Bool
 has_limits size sizes s writing ahead kept =
     let format : LogFormat = (layout_of s).format in
     let blocks : blocks_of s ≡ sizes.blocks = ap (λ (shape : Shape). shape.blocks) kept.shape in
-    record {
-      some_blocks = omega (arith, blocks, sizes.some_blocks);
-      most_blocks = omega (arith, blocks, sizes.most_blocks);
-      least_limit = limit_least format;
-      most_limit = limit_most format;
-      active_fits = omega (arith, kept.active.well_formed.within, kept.active.room);
-      few_steps = few format (slots_of s) s.log.steps_left s.log.retire_steps_left
-          (waiting s.log.steps_left (steps_for (batch_steps s) s.frozen.numbers)) (steps_for (batch_steps s) s.active.numbers)
-          kept.few_steps kept.few_retire_steps (grind arith) (grind arith);
-    }
-
-few_batch : (format : LogFormat) → most_steps format + most_retire_steps format + 10 ≤ 3 * limit_of format + 16
-few_batch format = grind arith
+    let few_steps = few format (slots_of s) s.log.steps_left s.log.retire_steps_left
+    (waiting s.log.steps_left (steps_for (batch_steps s) s.frozen.numbers)) (steps_for (batch_steps s) s.active.numbers)
+    kept.few_steps kept.few_retire_steps (grind arith) (grind arith) in
+    search (rules, arith, limit_least format, limit_most format, few_steps)
 
 -- how many steps a batch takes, for the layers above, which know no format
 pub few_batch_steps : (s : Cached) → batch_steps s ≤ 3 * transfer_limit s + 16
-few_batch_steps s = few_batch (layout_of s).format
+few_batch_steps s = grind arith

@@ -5,20 +5,20 @@ use Rattle.std.proofs.Common.{◌≡◌, ◌≤◌, ◌<◌, ℕ, ◌+◌, ◌-�
 use Rattle.std.proofs.Common.{length, length-append}
 use Rattle.medium.specs.{Medium.State, Medium.IsSound, Moments.LeavesOnly}
 use Rattle.medium.proofs.{Moments.started, Moments.weaker, SparedSectors.spared_start}
-use Rattle.spec.specs.{Blocks.chunks, Blocks.Write, Book.Book, Book.promised}
+use Rattle.spec.specs.{Blocks.chunks, Blocks.Write, Book.Book}
 use Rattle.journal.specs.{Places.sectors_of, declared.super_sector.Super.Super}
 use Rattle.cache.specs.{Blocks.with_range, Entries.Entries, Entries.map_of}
 use Rattle.redo_log.specs.{Held.View, Held.HoldsView, Held.stamps_of, declared.fault.LogFault.LogFault, declared.progress.Progress.Progress}
 use Rattle.redo_log.specs.Value.{LogValue, Owes, CanPass, IsAway, IsSentHome, HasRoom, begun, died, IsCovered, IsRetireStepped, IsBatch}
-use Rattle.redo_log.specs.Value.{settled, entries_of, pass_calls, ahead_calls, next_calls, next_sends, next_turn_flushes}
+use Rattle.redo_log.specs.Value.{entries_of, pass_calls, ahead_calls, next_calls, next_sends, next_turn_flushes}
 use Rattle.redo_log.specs.Steps.{MakesTurns, MakesStep, CountsStep, LeavesLog}
 use Rattle.redo_log.specs.declared.progress.Progress.TheVariants.{More, Durable}
-use Rattle.redo_log.proofs.{HeldLog.many, StoreFacts.died_holds, StoreFacts.settled_holds}
+use Rattle.redo_log.proofs.{HeldLog.many, StoreFacts.died_holds, StoreFacts.settled_holds, StoreFacts.begun_holds}
 use Rattle.blocks.specs.{Ahead.counted, Ahead.is_covered, Finding.MayFind, Finding.Found, Kept.Invariant, Passing.PassesOn}
-use Rattle.blocks.specs.{Passing.PassesPaid, Stopping.stopped, Turns.GoesOn, Turns.IsTurn, Turns.IsWriteTurn}
+use Rattle.blocks.specs.{Passing.PassesPaid, Turns.GoesOn, Turns.IsTurn, Turns.IsWriteTurn}
 use Rattle.blocks.specs.StoreValue.{firsts_in, Cached, layout_of, steps_left, FitsBook, is_dead}
 use Rattle.blocks.specs.Background.{PassesHead, BringsHome, IsRetiring}
-use Rattle.blocks.proofs.BookTurns.{moves, begins, becomes_durable, freezes, appends, settles, finds}
+use Rattle.blocks.proofs.BookTurns.{moves, wants_some, becomes_durable, freezes, appends, finds}
 use Rattle.blocks.proofs.TurnsJoined.{exits}
 
 -- ---- what stays of a log of which a record goes home, is flushed there, or is retired
@@ -47,17 +47,15 @@ home_stays old new away sent = grind (arith, sent)
 
 -- ---- a call of the log
 
--- what a cut may leave at any moment of it may be found
-cuts_found : (before after : State) (s : Cached) → LeavesLog s.log before after
-    → (book : Book) → FitsBook before s book → book.ours ≡ true → LeavesOnly (MayFind before.size book) before after
-cuts_found before after s leaves book f ours =
-    weaker _ (MayFind before.size book) before after (λ image left. finds before s book f image left)
-    (leaves.cuts f.view f.holds (f.ours ∙ ours))
-
--- so it is a turn
+-- what a cut may leave at any moment of it may be found, and it is a turn
 turned : {before after : State} {s new : Cached} → ((book : Book) → FitsBook before s book → FitsBook after new book)
     → LeavesLog s.log before after → GoesOn before after s new → IsTurn before after s new
-turned {before} {after} {s} fits leaves goes_on = record { fits = fits; cuts = cuts_found before after s leaves; goes_on = goes_on }
+turned {before} {after} {s} fits leaves goes_on = record {
+  fits = fits;
+  cuts = λ book f ours. weaker _ (MayFind before.size book) before after (λ image left. finds before s book f image left)
+      (leaves.cuts f.view f.holds (f.ours ∙ ours));
+  goes_on = goes_on;
+}
 
 -- the medium is refused it, and the log is dead
 dies : (before after : State) (s : Cached) (log' : LogValue) → log' ≡ died s.log → after.failures ≡ before.failures + 1
@@ -166,27 +164,25 @@ module _ (m : State) (sound : IsSound m) (s : Cached) where
   still_found : (book : Book) → FitsBook m s book → book.ours ≡ true → LeavesOnly (MayFind m.size book) m m
   still_found book f ours = started (MayFind m.size book) m sound (exits m s book f ours)
 
+  in_place : {new : Cached} → new.log.shape ≡ s.log.shape → new.log.dead ≡ s.log.dead
+      → ((book : Book) → FitsBook m s book → FitsBook m new book) → IsTurn m m s new
+  in_place {new} shape dead fits = record { fits = fits; cuts = still_found; goes_on = here new shape dead }
+
   -- a flush is counted, or none is
   pub counts_turn : (log' : LogValue) → log' ≡ counted s.log → IsTurn m m s (record s { log = log' })
   counts_turn log' is = elim (cases_Bool (is_covered s.log)) [
     | inl covers ↦
         let covered : IsCovered s.log = grind (arith, nat_tests, covers) in
-        rw (is, covers) (record {
-          fits = λ book f. moves f (settled_holds s.log m f.view f.holds covered) refl f.under_way f.some refl refl refl;
-          cuts = still_found;
-          goes_on = here (record s { log = settled s.log }) refl refl;
-        })
-    | inr uncovered ↦ rw (is, uncovered) (record { fits = λ book f. f; cuts = still_found; goes_on = here s refl refl })
+        rw (is, covers)
+        (in_place refl refl (λ book f. moves f (settled_holds s.log m f.view f.holds covered) refl f.under_way f.some refl refl refl))
+    | inr uncovered ↦ rw (is, uncovered) (in_place refl refl (λ book f. f))
   ]
 
   -- the record of the frozen batch is begun
   pub begins_record : HasRoom s.log → IsBatch s.log.shape s.frozen.numbers s.frozen.bytes → IsTurn m m s
       (record s { log = begun s.frozen.numbers (firsts_in s.frozen) s.log })
-  begins_record room batch = record {
-    fits = λ book f. begins f room batch;
-    cuts = still_found;
-    goes_on = here (record s { log = begun s.frozen.numbers (firsts_in s.frozen) s.log }) refl refl;
-  }
+  begins_record room batch = in_place refl refl
+      (λ book f. moves f (begun_holds _ _ _ _ _ f.holds room batch) refl (λ some. refl) (λ some. wants_some _ batch.some) refl refl refl)
 
   -- no stamp is left for it, and the log is dead
   pub begins_nothing : HasRoom s.log → 0 < length s.frozen.numbers → s.log.next ≡ 2 ^ 63 - 1 → IsTurn m m s (record s { log = died s.log })
@@ -202,11 +198,7 @@ module _ (m : State) (sound : IsSound m) (s : Cached) where
 
   -- the active batch is frozen in place of an empty one
   pub freezes_active : s.log.steps_left ≡ 0 → s.frozen.numbers ≡ [] → IsTurn m m s (record s { active = s.frozen; frozen = s.active })
-  freezes_active idle empty = record {
-    fits = λ book f. freezes idle empty f;
-    cuts = still_found;
-    goes_on = here (record s { active = s.frozen; frozen = s.active }) refl refl;
-  }
+  freezes_active idle empty = in_place refl refl (λ book f. freezes idle empty f)
 
   -- the active batch takes a write
   pub appends_write : (more : Entries) (address : ℕ) (bytes : List ℕ) (count : ℕ)
@@ -221,14 +213,6 @@ module _ (m : State) (sound : IsSound m) (s : Cached) where
 -- where no step is left both batches are empty, and every write is durable
 pub nothing_left : (s : Cached) → steps_left s ≡ 0 → (s.frozen.numbers ≡ []) × (s.active.numbers ≡ [])
 nothing_left s none = grind (arith, nil_from_length s.frozen.numbers, nil_from_length s.active.numbers)
-
-pub settles_all : {m : State} {s : Cached} {book : Book} → steps_left s ≡ 0 → FitsBook m s book → FitsBook m s (promised book)
-settles_all {s = s} none f = let empty = nothing_left s none in settles empty.0 empty.1 f
-
--- a store that is given up from outside fits the books that it fitted
-pub stopped_fits : (m : State) (s : Cached) (book : Book) → FitsBook m s book → FitsBook m (stopped s) book
-stopped_fits m s book f =
-    moves f (died_holds s.log m f.view f.holds) refl f.under_way f.some refl refl refl
 
 -- ---- what the calls of the log that bring its oldest record on make of a store, and what they cost
 

@@ -1,14 +1,14 @@
 -- What a read gives, and how many calls of the medium it makes.
-use Rattle.std.specs.Prelude.{unwrap_or, Ok}
+use Rattle.std.specs.Prelude.{Ok}
 use Rattle.std.proofs.{lemmas.List.length-drop, lemmas.List.length-take-le, lemmas.List.take_all, lemmas.Slice.take-put_mid}
-use Rattle.std.proofs.Common.{◌≡◌, ℕ, zero, suc, ◌+◌, ◌*◌, ◌≤◌, ◌<◌, List, ◌++◌, length, take, drop, Option, None, ⊎_elim, sym, ◌∙◌, ap}
-use Rattle.std.proofs.Common.{arith, append_assoc, append-nil, add-zero, add-one, Result, false, refl, subst}
+use Rattle.std.proofs.Common.{◌≡◌, ℕ, zero, suc, ◌+◌, ◌*◌, ◌≤◌, ◌<◌, List, ◌++◌, length, take, drop, None, sym, ◌∙◌, ap}
+use Rattle.std.proofs.Common.{arith, inl, inr, append_assoc, append-nil, add-zero, add-one, Result, false, refl, subst}
 use borrow.Rule.Slice.PartMut.{put_mid}
 use Rattle.medium.specs.{Medium.State, Medium.Passes, Medium.IsSound, declared.fault.MediumFault.MediumFault, Sent.SendsUpTo}
 use Rattle.medium.specs.declared.fault.MediumFault.TheVariants.{Read}
 use Rattle.medium.proofs.{CallsSent.read_sends, Moments.quiet_joined}
 use Rattle.spec.specs.{Blocks.Array, Book.Book, Book.array_of, Book.blocks_at}
-use Rattle.cache.specs.{Blocks.over, Blocks.is_listed, Blocks.unlisted, Entries.map_of, Entries.Entries}
+use Rattle.cache.specs.{Blocks.is_listed, Blocks.unlisted, Entries.map_of, Entries.Entries}
 use Rattle.cache.proofs.{Maps.listed_is, Arrays.unlisted_most}
 use Rattle.blocks.specs.{Reads.IsInBatch, Reads.ReadsBlock, StoreValue.Cached, StoreValue.blocks_of, StoreValue.FitsBook}
 use Rattle.blocks.specs.{StoreValue.StoreValue, Calls.block_reads, Calls.reads_of, Calls.CostsReads, Passing.KeepsStore, Turns.IsTurn}
@@ -19,31 +19,19 @@ use Rattle.blocks.proofs.{SectorsRead.one_more, SectorsRead.fewer_read, TurnsJoi
 -- a block that no batch holds is the durable one
 pub durable_is : (m : State) (s : Cached) (book : Book) (f : FitsBook m s book) (b : ℕ) → b < blocks_of s → map_of s.active b ≡ None
     → map_of s.frozen b ≡ None → f.view.array b ≡ array_of book b
-durable_is m s book f b below active frozen =
-    let durable : List ℕ = f.view.array b in
-    sym (ap (λ (o : Option (List ℕ)). unwrap_or o (over (map_of s.frozen) f.view.array b)) active
-    ∙ ap (λ (o : Option (List ℕ)). unwrap_or o durable) frozen)
-    ∙ f.arrays.now_is b (omega (arith, below, f.blocks))
+durable_is m s book f b below active frozen = rw (active, frozen) at (f.arrays.now_is b (omega (arith, below, f.blocks)))
 
 -- a block that a batch holds is the newest one
 pub newest_is : (m : State) (s : Cached) (book : Book) (f : FitsBook m s book) (b : ℕ) (bytes : List ℕ) → b < blocks_of s
     → IsInBatch s b bytes → bytes ≡ array_of book b
-newest_is m s book f b bytes below held =
-    let durable : List ℕ = f.view.array b in
-    let behind : List ℕ = over (map_of s.frozen) f.view.array b in
-    let is : over (map_of s.active) (over (map_of s.frozen) f.view.array) b ≡ bytes = ⊎_elim
-    (λ active. ap (λ (o : Option (List ℕ)). unwrap_or o behind) active)
-    (λ both. ap (λ (o : Option (List ℕ)). unwrap_or o behind) both.0 ∙ ap (λ (o : Option (List ℕ)). unwrap_or o durable) both.1)
-    held in
-    sym is ∙ f.arrays.now_is b (omega (arith, below, f.blocks))
+newest_is m s book f b bytes below (inl active) = rw active at (f.arrays.now_is b (omega (arith, below, f.blocks)))
+newest_is m s book f b bytes below (inr both) = rw (both.0, both.1) at (f.arrays.now_is b (omega (arith, below, f.blocks)))
 
 one_block_suc : (array : Array) (address i : ℕ) → blocks_at array address (suc i) ≡ blocks_at array address i ++ array (address + i)
 one_block_suc array address zero = append-nil (array address) ∙ ap array (sym (add-zero address))
 one_block_suc array address (suc i) =
     let last : address + 1 + i ≡ address + suc i = omega arith in
-    ap (λ (l : List ℕ). array address ++ l) (one_block_suc array (address + 1) i)
-    ∙ (sym (append_assoc (array address) (blocks_at array (address + 1) i) (array (address + 1 + i)))
-    ∙ ap (λ (n : ℕ). blocks_at array address (suc i) ++ array n) last)
+    cc (one_block_suc array (address + 1) i, append_assoc (array address) (blocks_at array (address + 1) i) (array (address + 1 + i)), last)
 
 -- one block more
 one_block : (array : Array) (address i : ℕ) → blocks_at array address (i + 1) ≡ blocks_at array address i ++ array (address + i)
@@ -56,10 +44,10 @@ pub put_block : (array : Array) (address i at size end : ℕ) (to block : List �
 put_block array address i at size end to block at_is size_is end_is inside alike so_far is =
     let part : length (take size (drop at to)) ≡ size =
     length-take-le size (drop at to) (omega (arith, length-drop at to, at_is, size_is, end_is, inside)) in
-    take-put_mid at size to block end (omega (arith, at_is, size_is, end_is, alike, part)) (omega (arith, at_is, end_is, inside))
-    ∙ (ap (λ (n : ℕ). take n to ++ block) at_is
-    ∙ (ap (λ (l : List ℕ). l ++ block) so_far
-    ∙ (ap (λ (l : List ℕ). blocks_at array address i ++ l) is ∙ sym (one_block array address i))))
+    cc (
+      take-put_mid at size to block end (omega (arith, at_is, size_is, end_is, alike, part)) (omega (arith, at_is, end_is, inside)),
+      one_block array address i,
+    )
 
 reads_suc : (s : Cached) (address i : ℕ) → reads_of s address (suc i) ≡ reads_of s address i + block_reads s (address + i)
 reads_suc s address zero = grind arith

@@ -5,9 +5,7 @@ use Rattle.std.proofs.lemmas.List.Elements.{All-append, All-cons}
 use Rattle.std.specs.Prelude.{ℕ, zero, suc, List, [], ◌∷◌, ◌++◌, length, get_or, drop, sum_by, All, true}
 use Rattle.medium.specs.Medium.{State}
 use Rattle.cache.specs.Entries.{Entries}
-use Rattle.journal.specs.Places.{Shape}
-use Rattle.redo_log.specs.Value.{LogValue, HasRoom, behind_oldest, of_oldest, ahead_of, retire_steps_of, settled, begun, idle_from}
-use Rattle.redo_log.specs.Value.{turns_calls}
+use Rattle.redo_log.specs.Value.{LogValue, HasRoom, behind_oldest, of_oldest, ahead_of, retire_steps_of, settled, begun, turns_calls}
 use Rattle.blocks.specs.{Started.IsStarted, StoreValue.Cached, StoreValue.layout_of, StoreValue.firsts_in}
 use Rattle.blocks.specs.Ahead.{oldest_retired, ahead_room, ahead_room_calls, may_go_ahead}
 use Rattle.blocks.specs.Retiring.{written_out, finished_with, finished, both_calls}
@@ -162,13 +160,9 @@ reaches log f each empty batches blocks enough = grind (arith, fills_each batche
 
 -- ---- a store that starts
 
--- a log without records fills
-pub idle_fills : (shape : Shape) (next : ℕ) → may_go_ahead shape ≡ true → 0 < next → IsFilling (idle_from shape next)
-idle_fills shape next may some = grind (arith, nat_tests)
-
 pub starts_filling : (before after : State) (s : Cached) → IsStarted before after s → may_go_ahead (layout_of s) ≡ true → IsFilling s.log
 starts_filling before after s started may =
-    rw started.log (idle_fills (layout_of s) started.next may (omega (arith, started.stood.next_is)))
+    let some : 0 < started.next = omega (arith, started.stood.next_is) in rw started.log (grind (arith, nat_tests, may, some))
 
 pub starts_reaching : (before after : State) (s : Cached) → IsStarted before after s → may_go_ahead (layout_of s) ≡ true
     → ReachesSteady s.log

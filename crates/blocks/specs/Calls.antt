@@ -86,6 +86,8 @@ pub record WritesAlone {M A : Type 0} (state : M → State) (Follows : M → M �
   pub quiet : old.cached.frozen.numbers ≡ [] → (new.medium ≡ old.medium) × IsOk result
   pub answers : Answers result old new
   pub batches : WritesRange old.goes_ahead result address count old.cached new.cached
+  pub cost : CostsWrite old.goes_ahead result address count (state old.medium) (state new.medium)
+      old.cached new.cached
 
 -- The active batch takes the range, for which one more is to become a record at most. The log and
 -- the frozen batch stay.

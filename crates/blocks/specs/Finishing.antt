@@ -1,6 +1,6 @@
 -- What is durable after a call of a store that writes its batches out, and which records it retires
 -- for that.
-use Rattle.std.specs.Prelude.{◌≡◌, ◌+◌, ◌≤◌, ◌<◌, true, [], length, Bool, false, Result, OnOk, All}
+use Rattle.std.specs.Prelude.{◌≡◌, ◌+◌, ◌≤◌, ◌<◌, true, [], length, Bool, Result, OnOk, All}
 use Rattle.medium.specs.{Medium.State, declared.fault.MediumFault.TheVariants.Flush}
 use Rattle.journal.specs.declared.log_format.LogFormat.TheVariants.{Two}
 use Rattle.redo_log.specs.Value.{HasRoom, most_retire_sends}

@@ -99,14 +99,6 @@ pub record MakesParts (before after : State) (sizes : Super) (cached : Cached) :
   pub started : IsStarted before after cached
   pub kept : Invariant after.size sizes cached false false
 
--- It was not: contents that stand for something with a stamp left are refused by the device alone,
--- or for want of memory.
-pub record RefusesParts (before after : State) (fault : StartFault) : Type 0 where
-  pub cause : IsStartCause before after fault
-  pub served : (shape : Shape) (array : Array) (next : ℕ)
-      → StandsFor before.size shape before.content array next → next < 2 ^ 63
-      → IsDeviceFault fault ⊎ (fault ≡ NoMemory)
-
 -- A store that was started as any, and that goes ahead where its log allows it. The ring that
 -- records alone fill then is steady after as many syncs of one batch as it has slots but one.
 pub record StartsAhead {M : Type 0} (state : M → State) (Follows : M → M → Type 0) (medium : M)

@@ -9,7 +9,7 @@ ghost use Rattle.redo_log.specs.Value.{idle_from};
 ghost use Rattle.recovery.specs.Causes.{IsDeviceFault};
 ghost use Rattle.blocks.specs.Ahead.{may_go_ahead};
 ghost use Rattle.blocks.specs.Started.{IsStarted, IsStartCause, LeavesMedium, StartsAhead};
-ghost use Rattle.blocks.specs.Started.{RefusesStart, MakesParts, RefusesParts};
+ghost use Rattle.blocks.specs.Started.{RefusesStart, MakesParts};
 
 use crate::{StartError, Store};
 use cache::{Batch, Frozen};
@@ -35,7 +35,7 @@ impl Parts {
             parts.sizes
             (record { log = parts.log; active = parts.active; frozen = parts.frozen })) }
         ensures refused { IfErr result
-            (RefusesParts (M.state medium.old) (M.state medium.new)) }
+            (RefusesStart M.state M.follows medium.old medium.new) }
         ensures leaves { LeavesMedium M.state M.follows medium.old medium.new }
     {
         let recovered = recover(medium)?;

@@ -63,6 +63,7 @@ impl<M: Medium> Store<M> {
     }
 
     /// How many blocks a read and a write have at most, as many as a batch and a record of the log.
+    #[tactic(auto, using(crate::proofs::Limits::limit_least, crate::proofs::Limits::limit_most))]
     pub fn limit(&self) -> u32
         ensures is { result ≡ transfer_limit self.now.cached }
         ensures least { 48 ≤ result }

@@ -62,10 +62,8 @@ impl<M: Medium> Store<M> {
             address (length bytes.now) }
         requires alone { ¬ FitsBeside (transfer_limit self.old.cached) (active_of self.old.cached)
             address (length bytes.now / 512) }
-        ensures writes { WritesAlone M.state M.follows result (write_of address bytes.now)
+        ensures { WritesAlone M.state M.follows result (write_of address bytes.now)
             address (length bytes.now / 512) self.old self.new }
-        ensures cost { CostsWrite self.old.goes_ahead result address (length bytes.now / 512)
-            (M.state self.old.medium) (M.state self.new.medium) self.old.cached self.new.cached }
     {
         self.finish()?;
         self.begin_batch(address, bytes);

@@ -1,15 +1,19 @@
-use Rattle.std.proofs.Common.{◌≤◌, inl, inr, refl, sym, subst, arith}
+use Rattle.std.proofs.Common.{◌≤◌, inl, inr, refl, sym, subst, arith, rules}
 use Rattle.std.proofs.lemmas.Result.{err_from_is_err_and, IfOk-weaker, IfErr-weaker}
 use Rattle.journal.specs.{Places.sectors_of, Formats.shape_of}
 use Rattle.blocks.specs.Started.{MakesParts}
-use Rattle.blocks.proofs.KnownImages.{started, starts, started_kept}
+use Rattle.blocks.proofs.KnownImages.{started, starts}
 use Rattle.blocks.proofs.start.Parts.recovered.Goals as goal
 
 pub returns-in_err-recovered-clause-refused : goal.returns-in_err-recovered-clause-refused
 returns-in_err-recovered-clause-refused g c =
     let p = err_from_is_err_and c.from_residual.result c.from_residual.ensures.1 in
     let why = c.in_err-recovered.ensures.err in
-    rw (p.1, p.2) (record { cause = inl why.cause; served = λ shape array next stands left. inl (why.served shape array next stands left) })
+    rw (p.1, p.2) (record {
+      cause = inl why.cause;
+      served = λ shape array next stands left. inl (why.served shape array next stands left);
+      leaves = search rules;
+    })
 
 pub returns-clause-ok : goal.returns-clause-ok
 returns-clause-ok g c =
@@ -23,7 +27,7 @@ returns-clause-ok g c =
     let made : MakesParts before after sizes (started (shape_of sizes) recovered.next) = record {
       started = starts before after recovered found (g.met.M.Medium.sound c.args.medium.now) (g.met.M.Medium.sound c.recover.new.m) size
           c.in_ok-recovered.ensures.fresh;
-      kept = started_kept after.size sizes recovered.next fits;
+      kept = grind (arith, fits);
     } in
     IfOk-weaker c.new.result _ _
     (λ parts is. subst (λ p. MakesParts before after p.sizes (record { log = p.log; active = p.active; frozen = p.frozen })) (sym is) made)
@@ -33,4 +37,5 @@ pub returns-clause-refused : goal.returns-clause-refused
 returns-clause-refused g c = IfErr-weaker c.new.result _ _ (λ fault is. rw is (record {
   cause = inr (refl, c.in_ok-recovered.recovered, c.in_ok-recovered.ensures.ok);
   served = λ shape array next stands left. inr refl;
+  leaves = search rules;
 })) c.new.ensures.err

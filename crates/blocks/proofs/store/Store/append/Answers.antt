@@ -1,5 +1,5 @@
 use Rattle.std.proofs.Common.{◌/◌, length}
-use Rattle.blocks.proofs.{LogTurns.appends_write, Paid.kept}
+use Rattle.blocks.proofs.{LogTurns.appends_write, TurnsJoined.kept}
 use Rattle.blocks.proofs.store.Store.append.Goals as goal
 
 pub returns-clause-keeps : goal.returns-clause-keeps

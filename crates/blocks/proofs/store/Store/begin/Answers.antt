@@ -1,5 +1,5 @@
 use Rattle.std.proofs.Common.{rules}
-use Rattle.blocks.proofs.{BookTurns.is_batch, LogTurns.begins_record, LogTurns.begins_nothing, Paid.kept}
+use Rattle.blocks.proofs.{BookTurns.is_batch, LogTurns.begins_record, LogTurns.begins_nothing, TurnsJoined.kept}
 use Rattle.blocks.proofs.store.Store.begin.Goals as goal
 
 pub begin-requires-clause-batch : goal.begin-requires-clause-batch

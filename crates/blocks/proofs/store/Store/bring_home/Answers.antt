@@ -16,12 +16,12 @@ returns g c =
     let s : Cached = record { log = i.log; active = i.active; frozen = i.frozen } in
     let log = c.home_ahead.new.self in
     let away = rw (← c.self.view_is) at c.requires.away in
+    let idle = rw (← c.self.view_is) at c.requires.idle in
     let fewer = home_fewer s log away in
     record {
       passes = rw (← c.self.view_is) (paid_turn i.goes_ahead c.home_ahead.result c.home_ahead.ensures (λ view. (refl, refl, refl))
           (λ sent. home_stays _ _ away (sent away)) (omega (arith, few_next i.log)) (grind (arith, nat_tests))
           (λ sent. grind (arith, nat_tests, fewer (sent away))));
-      brings = rw (← c.self.view_is) (brings_home (rw (← c.self.view_is) at c.requires.idle.live) c.home_ahead.result c.home_ahead.ensures away
-          (rw (← c.self.view_is) at c.requires.idle.idle));
+      brings = rw (← c.self.view_is) (brings_home idle.live c.home_ahead.result c.home_ahead.ensures away idle.idle);
       answer = search rules;
     }

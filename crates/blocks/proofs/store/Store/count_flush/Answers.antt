@@ -1,5 +1,5 @@
 use Rattle.std.proofs.Common.{rules}
-use Rattle.blocks.proofs.{LogTurns.counts_turn, Paid.kept}
+use Rattle.blocks.proofs.{LogTurns.counts_turn, TurnsJoined.kept}
 use Rattle.blocks.proofs.store.Store.count_flush.Goals as goal
 
 pub returns : goal.returns

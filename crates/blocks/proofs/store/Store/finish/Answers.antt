@@ -5,12 +5,12 @@ use Rattle.medium.specs.{Medium.State, Sent.sent, declared.fault.MediumFault.The
 use Rattle.journal.specs.Places.{limit_of}
 use Rattle.redo_log.specs.Value.{begun, most_steps}
 use Rattle.redo_log.proofs.RecordSteps.{few_steps_for}
-use Rattle.blocks.specs.{OneBatch.SendsOneBatch, Retiring.finished, Steady.IsFilling, Steady.IsSteady}
+use Rattle.blocks.specs.{OneBatch.SendsOneBatch, Retiring.finished, Retiring.RetiresForRoom, Steady.IsFilling, Steady.IsSteady}
 use Rattle.blocks.specs.StoreValue.{is_dead, firsts_in}
-use Rattle.blocks.proofs.{Steady.fills, Steady.stays_on, store.Store.finish.Given.Over, store.Store.finish.Goals.After-make_ready}
-use Rattle.blocks.proofs.OneBatchSent.{none_sent, record_sent, room_sent}
-use Rattle.blocks.proofs.Paid.{kept_paid, paid_then, paid_more, rested_paid}
-use Rattle.blocks.proofs.Room.{made_finished, finishes_under_way, finish_begun, flushes_begun}
+use Rattle.blocks.proofs.{Steady.fills, Steady.stays_on, store.Store.finish.Given.Over, OneBatchSent.none_sent, OneBatchSent.record_sent}
+use Rattle.blocks.proofs.{OneBatchSent.room_sent, Room.made_finished, Room.finishes_under_way, Room.finish_begun, Room.flushes_begun}
+use Rattle.blocks.proofs.TurnsJoined.{kept_paid, paid_then, paid_more, rested_paid}
+use Rattle.blocks.proofs.store.Store.finish.Goals.{After-make_ready}
 use Rattle.blocks.proofs.store.Store.finish.Goals as goal
 
 pub returns-then-is_dead-clause-passes : goal.returns-then-is_dead-clause-passes
@@ -55,11 +55,10 @@ returns-then-is_empty g c =
 made_room : (g : Over) (c : After-make_ready g) → {after : State}
     → sent after ≤ sent (g.M.Medium.state c.make_ready.new.self.medium) + most_steps c.args.self.now.cached.log.shape.format
     → SendsOneBatch c.args.self.now.goes_ahead (g.M.Medium.state c.args.self.now.medium) after c.args.self.now.cached.log
-made_room g c {after = after} few =
-    let old = c.args.self.now in
+made_room g c few =
     let ready = c.make_ready.ensures in
-    room_sent old.goes_ahead (g.M.Medium.state old.medium) old.cached.log (g.M.Medium.state c.make_ready.new.self.medium) after
-    ready.passes.sent (λ roomy. ap (λ m. sent (g.M.Medium.state m)) (ready.room.quiet roomy)) few
+    room_sent _ _ _ (g.M.Medium.state c.make_ready.new.self.medium) _ ready.passes.sent
+    (λ roomy. ap (λ m. sent (g.M.Medium.state m)) (ready.room.quiet roomy)) few
 
 pub returns-in_err-make_ready-clause-passes : goal.returns-in_err-make_ready-clause-passes
 returns-in_err-make_ready-clause-passes g c =
@@ -79,18 +78,10 @@ returns-in_err-begin g c =
       passes = paid_then {last = 0} g.met.M.Medium.follows_through ready.passes c.in_ok-make_ready.ensures.answer
           (kept_paid g.met.M.Medium.follows_itself begins.keeps (λ live. omega (arith, begins.begins.falls live)))
           (omega (arith, ready.passes.sent, quiet));
-      batch = record {
-        answers = search rules;
-        done = search rules;
-        rests = search rules;
-        waits = search rules;
-        finishes = search rules;
-        retires = grind (arith, begins.begins.head, ready.room.retires);
-        active = search rules;
-        fills = λ on filling listed. rw failed tt;
-        stays = λ on steady. rw failed tt;
-        some = search rules;
-      };
+      batch =
+          let retires : RetiresForRoom c.args.self.now.goes_ahead c.args.self.now.cached.log c.begin.new.self.cached.log =
+          grind (arith, begins.begins.head, ready.room.retires) in
+          rw failed (search rules);
       cost = search rules;
       flushes = search rules;
       one_batch = made_room g (goal.at.returns-in_err-begin g c).After-make_ready (omega (arith, quiet));

@@ -1,5 +1,5 @@
 use Rattle.std.proofs.Common.{rules}
-use Rattle.blocks.proofs.{LogTurns.freezes_active, Paid.kept}
+use Rattle.blocks.proofs.{LogTurns.freezes_active, TurnsJoined.kept}
 use Rattle.blocks.proofs.store.Store.freeze.Goals as goal
 
 pub returns : goal.returns

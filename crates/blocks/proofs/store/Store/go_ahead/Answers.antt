@@ -3,7 +3,7 @@ use Rattle.journal.specs.Places.{Shape, limit_of}
 use Rattle.medium.specs.{Sent.sent, declared.fault.MediumFault.TheVariants.Flush}
 use Rattle.blocks.specs.{Ahead.passed, Ahead.passed_calls, Passing.PassesPaid, Prepared.NeedsNoneAhead, Retiring.HasSlots}
 use Rattle.blocks.proofs.{Room.none_ahead, store.Store.go_ahead.Given.Over}
-use Rattle.blocks.proofs.Paid.{kept_paid, paid_more, paid_then, rested_paid}
+use Rattle.blocks.proofs.TurnsJoined.{kept_paid, paid_more, paid_then, rested_paid}
 use Rattle.blocks.proofs.store.Store.go_ahead.Goals.{Else-needs_none_ahead, After-pass_head, In_ok-pass_head}
 use Rattle.blocks.proofs.store.Store.go_ahead.Goals as goal
 

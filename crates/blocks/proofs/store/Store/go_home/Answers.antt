@@ -1,21 +1,16 @@
-use Rattle.std.proofs.{Common.refl, Common.◌∙◌, Common.sym, Common.arith, lemmas.Bool.false≢true}
+use Rattle.std.proofs.{Common.◌∙◌, Common.sym, Common.arith, Common.rules, lemmas.Bool.false≢true}
 use Rattle.medium.specs.Sent.{sent}
 use Rattle.redo_log.specs.Value.{IsAway}
-use Rattle.blocks.proofs.{Paid.paid_then, Paid.rested_paid, store.Store.go_home.Given.Over, store.Store.go_home.Goals.After-bring_home}
+use Rattle.blocks.proofs.{TurnsJoined.paid_then, TurnsJoined.rested_paid, store.Store.go_home.Given.Over}
 use Rattle.blocks.proofs.Room.{begins_home, goes_on_home, all_home, all_costs, all_sends, few_home, home_stays_head}
+use Rattle.blocks.proofs.store.Store.go_home.Goals.{After-bring_home}
 use Rattle.blocks.proofs.store.Store.go_home.Goals as goal
 
 away : (g : Over) (c : After-bring_home g) → IsAway c.loop-self.self.cached.log
 away g c = rw (← c.self-in-loop-self.view_is) (c.is_away.ensures.0 c.loop-self-test.true)
 
 pub loop-self-init : goal.loop-self-init
-loop-self-init g c = record {
-  passes = λ sends few. rested_paid g.met.M.Medium.follows_itself g.met.M.Medium.sound;
-  live = c.requires.live;
-  home = begins_home _ _ _;
-  flushed = refl;
-  stays = record { active = refl; frozen = refl; idle = c.requires.idle; head = omega arith };
-}
+loop-self-init g c = search (rules, arith, rested_paid, g.met.M.Medium.follows_itself, g.met.M.Medium.sound, begins_home)
 
 pub loop-self-preserved : goal.loop-self-preserved
 loop-self-preserved g c =

@@ -1,5 +1,5 @@
 use Rattle.std.proofs.Common.{◌≡◌, ap, inl, arith, rules}
-use Rattle.blocks.proofs.Paid.{kept_on}
+use Rattle.blocks.proofs.TurnsJoined.{kept_on}
 use Rattle.blocks.proofs.store.Store.go_on.Goals as goal
 
 pub returns-then-may_begin : goal.returns-then-may_begin

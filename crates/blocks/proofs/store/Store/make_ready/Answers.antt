@@ -1,6 +1,6 @@
 use Rattle.std.proofs.Common.{◌≡◌, ◌<◌, ◌-◌, true, false, arith}
 use Rattle.redo_log.specs.Value.{HasRoom}
-use Rattle.blocks.proofs.{Room.still_room, Room.free_is, Room.full_is, Paid.paid_more}
+use Rattle.blocks.proofs.{Room.still_room, Room.free_is, Room.full_is, TurnsJoined.paid_more}
 use Rattle.blocks.proofs.store.Store.make_ready.Goals as goal
 
 pub returns-then-has_room : goal.returns-then-has_room

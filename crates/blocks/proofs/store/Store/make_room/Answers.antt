@@ -5,8 +5,9 @@ use Rattle.journal.specs.Places.{Shape}
 use Rattle.redo_log.specs.Value.{HasRoom, of_oldest, sends_of_oldest, most_retire_sends, turn_calls, turn_sends, turn_flushes}
 use Rattle.blocks.specs.{StoreValue.steps_left, Passing.PassesPaid}
 use Rattle.blocks.proofs.{Room.IsFull, Room.none_counted, Room.one_at_most, Room.counts_more, Room.counts_room, Room.room_is_made}
-use Rattle.blocks.proofs.{Room.at_most_refused, Room.more_calls, Room.more_sends, Room.more_flushes, Room.next_few, Paid.paid_then}
-use Rattle.blocks.proofs.{Paid.on_paid, Paid.rested_paid, store.Store.make_room.Given.Over, store.Store.make_room.Goals.After-retire}
+use Rattle.blocks.proofs.{Room.at_most_refused, Room.more_calls, Room.more_sends, Room.more_flushes, Room.next_few, TurnsJoined.paid_then}
+use Rattle.blocks.proofs.{TurnsJoined.on_paid, TurnsJoined.rested_paid, store.Store.make_room.Given.Over}
+use Rattle.blocks.proofs.store.Store.make_room.Goals.{After-retire}
 use Rattle.blocks.proofs.store.Store.make_room.Goals as goal
 
 -- a record waits, and one of its steps is made

@@ -1,7 +1,7 @@
 use Rattle.std.proofs.Common.{◌≡◌, ◌<◌, ◌⊎◌, ◌∙◌, sym, ap, arith, length, true, false}
-use Rattle.std.proofs.lemmas.Bool.{false≢true}
+use Rattle.std.proofs.lemmas.Bool.{false≢true, Decides.nat_tests}
 use Rattle.redo_log.specs.Value.{LogValue, CanPass, IsAway}
-use Rattle.blocks.proofs.{FlushesOnce.counted_store, FlushesOnce.counted_waits, FlushesOnce.go_falls, Paid.kept_then}
+use Rattle.blocks.proofs.{FlushesOnce.counted_store, EmptyBatches.go_falls, TurnsJoined.kept_then}
 use Rattle.blocks.proofs.store.Store.make_way.Goals as goal
 
 pub returns-then-not-self : goal.returns-then-not-self
@@ -49,7 +49,7 @@ returns g c =
       passes = kept_then c.count_flush.ensures.keeps c.retire-2.ensures.passes;
       way = rw on (record { goes = λ some. absurd (none some); retires = λ not. retiring });
       falls = λ live.
-          let waits : 0 < length log.waiting = omega (arith, c.requires.waits, same, counted_waits c.args.self.now.cached.log) in
+          let waits : 0 < length log.waiting = grind (arith, nat_tests, c.requires.waits, same) in
           let fewer = c.retire-2.ensures.counts.falls waits live in
           omega (arith, fewer, c.count_flush.ensures.counts.fewer);
       active = retiring.active;

@@ -22,8 +22,7 @@ read_each-requires-clause-small g c = small g (goal.at.read_each-requires-clause
 
 pub returns-then-is_dead-clause-turn : goal.returns-then-is_dead-clause-turn
 returns-then-is_dead-clause-turn g c =
-    let m = g.M.Medium.state c.args.self.now.medium in
-    quiet_turn m m c.args.self.now.cached (g.met.M.Medium.sound c.args.self.now.medium) (quiet_start m)
+    quiet_turn _ _ _ (g.met.M.Medium.sound c.args.self.now.medium) (quiet_start _)
 
 pub returns-then-is_dead-clause-keeps : goal.returns-then-is_dead-clause-keeps
 returns-then-is_dead-clause-keeps g c =

@@ -44,14 +44,4 @@ pub returns-in-Err : goal.returns-in-Err
 returns-in-Err g c =
     let s = c.args.self.now.cached in
     let none = c.in_default.ensures.gets.none refl in
-    record {
-      reads = record {
-        ok = search rules;
-        err = search rules;
-        keeps = c.read_durable.ensures.keeps;
-        cost =
-            let one = reads_copy s c.args.block none.0 none.1 in
-            grind (arith, c.read_durable.ensures.cost, one);
-      };
-      next = c.in_default.ensures.next;
-    }
+    search (rules, arith, c.read_durable.ensures, reads_copy s c.args.block none.0 none.1)

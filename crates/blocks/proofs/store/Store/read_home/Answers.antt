@@ -26,22 +26,13 @@ returns-in_err-read_home_block g c =
     let one = c.read_home_block.ensures in
     let more : c.loop-i.i + 1 ≤ length c.args.to.now / 512 = omega (arith, c.loop-i-test.true) in
     let keeps = keeps_more read g.met.M.Medium.follows_through more one.keeps in
-    record {
-      ok = search rules;
-      err = search rules;
-      keeps = keeps;
-      turn = keeps_turn g.met.M.Medium.sound keeps;
-      cost = let reads = calls_more read c.read_home_block.new.self more one.cost.reads in search (rules, arith, read, one);
-    }
+    let turn = keeps_turn g.met.M.Medium.sound keeps in
+    let reads = calls_more read c.read_home_block.new.self more one.cost.reads in
+    search (rules, arith, read, one)
 
 pub returns : goal.returns
 returns g c =
     let all : c.loop-i.i ≡ length c.args.to.now / 512 = omega arith in
     let read = rw all at c.loop-i.invariant in
-    record {
-      ok = all_read read (omega (arith, c.loop-i.auto.to, all, c.requires.range.whole));
-      err = search rules;
-      keeps = read.keeps;
-      turn = keeps_turn g.met.M.Medium.sound read.keeps;
-      cost = search (rules, arith, read);
-    }
+    let turn = keeps_turn g.met.M.Medium.sound read.keeps in
+    search (rules, arith, read, all_read read (omega (arith, c.loop-i.auto.to, all, c.requires.range.whole)))

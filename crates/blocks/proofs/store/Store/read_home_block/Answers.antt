@@ -27,9 +27,4 @@ returns-in-Ok g c =
 pub returns-in-Err : goal.returns-in-Err
 returns-in-Err g c =
     let one = reads_copy c.args.self.now.cached c.args.block c.requires.home.active c.requires.home.frozen in
-    record {
-      ok = search rules;
-      err = search rules;
-      keeps = c.read_at_home.ensures.keeps;
-      cost = grind (arith, c.read_at_home.ensures.cost, one);
-    }
+    search (rules, arith, c.read_at_home.ensures, one)

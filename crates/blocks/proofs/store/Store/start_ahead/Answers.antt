@@ -27,8 +27,5 @@ returns g c =
     }
 
 pub invariant_of-store : goal.invariant_of-store
-invariant_of-store g c =
-    let i = c.store.inside in
-    with_policy (g.M.Medium.state i.medium).size i.sizes (record { log = i.log; active = i.active; frozen = i.frozen }) i.writing
-    i.goes_ahead c.may_go_ahead.result c.store.invariant
+invariant_of-store g c = with_policy _ _ _ _ _ _ c.store.invariant
     (λ on. ap (λ (shape : Shape). may_go_ahead shape) c.store.invariant.shape ∙ (sym c.may_go_ahead.ensures ∙ on))

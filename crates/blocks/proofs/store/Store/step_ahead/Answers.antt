@@ -1,6 +1,6 @@
 use Rattle.std.proofs.Common.{arith, refl}
 use Rattle.medium.proofs.Moments.{unchanged}
-use Rattle.blocks.proofs.Paid.{rested_on}
+use Rattle.blocks.proofs.TurnsJoined.{rested_on}
 use Rattle.blocks.proofs.store.Store.step_ahead.Goals as goal
 
 pub returns : goal.returns

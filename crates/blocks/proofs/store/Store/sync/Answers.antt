@@ -6,8 +6,9 @@ use Rattle.journal.specs.Places.{Shape}
 use Rattle.blocks.specs.{Flushing.both_flushes, Retiring.finished, Retiring.both_calls, Sent.most_sent, Sent.batch_sends}
 use Rattle.blocks.specs.StoreValue.{Cached, StoreValue, firsts_in, steps_left}
 use Rattle.blocks.proofs.{EmptyBatches.none_of, BookTurns.settles, FlushesOnce.both_durable, FlushesOnce.store_is, Headroom.both_each}
-use Rattle.blocks.proofs.{Headroom.headroom_finished, Paid.swapped_steps, Paid.kept_paid, Paid.paid_then, Paid.paid_more, Room.calls_of}
-use Rattle.blocks.proofs.{Room.roomy_both, Room.flushes_of, Room.once, Steady.steady_sync, Steady.steady_roomy, store.Store.sync.Given.Over}
+use Rattle.blocks.proofs.{Headroom.headroom_finished, Steady.steady_sync, Steady.steady_roomy, store.Store.sync.Given.Over}
+use Rattle.blocks.proofs.TurnsJoined.{swapped_steps, kept_paid, paid_then, paid_more}
+use Rattle.blocks.proofs.Room.{calls_of, roomy_both, flushes_of, once}
 use Rattle.blocks.proofs.store.Store.sync.Goals as goal
 
 -- the batches change places, and all else stays

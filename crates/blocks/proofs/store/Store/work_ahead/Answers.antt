@@ -1,7 +1,7 @@
 use Rattle.std.proofs.Common.{◌≡◌, false, true, sym, ◌∙◌, refl, inl, ap, arith, rules}
 use Rattle.medium.proofs.Moments.{unchanged}
 use Rattle.blocks.specs.StoreValue.{is_dead}
-use Rattle.blocks.proofs.{FlushesOnce.counted_store, FlushesOnce.none_counted, Paid.kept_then, Paid.rested_on}
+use Rattle.blocks.proofs.{FlushesOnce.counted_store, FlushesOnce.none_counted, TurnsJoined.kept_then, TurnsJoined.rested_on}
 use Rattle.blocks.proofs.store.Store.work_ahead.Goals as goal
 
 pub returns-then-not-self : goal.returns-then-not-self

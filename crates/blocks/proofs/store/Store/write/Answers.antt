@@ -2,7 +2,7 @@ use Rattle.std.proofs.Common.{ap, refl, arith, rules}
 use Rattle.medium.specs.{declared.fault.MediumFault.TheVariants.Flush, Sent.sent}
 use Rattle.redo_log.specs.Value.{LogValue}
 use Rattle.blocks.specs.Headroom.{next_durable}
-use Rattle.blocks.proofs.{TurnsJoined.stays, TurnsJoined.not_written, OneBatchSent.none_sent, Paid.kept_on}
+use Rattle.blocks.proofs.{TurnsJoined.stays, TurnsJoined.not_written, OneBatchSent.none_sent, TurnsJoined.kept_on}
 use Rattle.blocks.proofs.store.Store.write.Goals as goal
 
 pub returns-then-is_dead-clause-passes : goal.returns-then-is_dead-clause-passes
@@ -25,8 +25,5 @@ returns-then-fits-clause-cost g c = record {
       let quiet = ap (λ m. (g.M.Medium.state m).made Flush) c.append.ensures.keeps.medium in
       let same = ap (λ (l : LogValue). next_durable l) c.append.ensures.batch.log in
       omega (arith, quiet, same);
-  one_batch =
-      let old = c.args.self.now in
-      none_sent old.goes_ahead (g.M.Medium.state old.medium) old.cached.log (g.M.Medium.state c.append.new.self.medium)
-      (ap (λ m. sent (g.M.Medium.state m)) c.append.ensures.keeps.medium);
+  one_batch = none_sent _ _ _ _ (ap (λ m. sent (g.M.Medium.state m)) c.append.ensures.keeps.medium);
 }

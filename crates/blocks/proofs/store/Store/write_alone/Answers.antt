@@ -1,21 +1,24 @@
 use Rattle.std.proofs.{Common.arith, Common.rules, lemmas.Result.err_from_is_err_and}
 use Rattle.blocks.specs.StoreValue.{firsts_in}
-use Rattle.blocks.proofs.{Headroom.headroom_finished, Headroom.one_each, FlushesOnce.one_durable, Paid.paid_refused, Paid.paid_written}
+use Rattle.blocks.proofs.{Headroom.headroom_finished, Headroom.one_each, FlushesOnce.one_durable}
+use Rattle.blocks.proofs.TurnsJoined.{paid_refused, paid_written}
 use Rattle.blocks.proofs.store.Store.write_alone.Goals as goal
 
-pub returns-in_err-finish-clause-writes : goal.returns-in_err-finish-clause-writes
-returns-in_err-finish-clause-writes g c = record {
+pub returns-in_err-finish : goal.returns-in_err-finish
+returns-in_err-finish g c = record {
   passes = rw (err_from_is_err_and c.from_residual.result c.from_residual.ensures.1).1 (paid_refused c.finish.ensures.passes);
   answers = search rules;
   batches = search rules;
   quiet = λ empty. grind (arith, c.finish.ensures.batch, c.requires.live, empty);
+  cost = let one_batch = c.finish.ensures.one_batch in search rules;
 }
 
-pub returns-clause-writes : goal.returns-clause-writes
-returns-clause-writes g c =
+pub returns : goal.returns
+returns g c =
     let old = c.args.self.now.cached in
     let begins = c.begin_batch.ensures in
     let done = c.in_ok-finish.ensures.batch in
+    let flushes = rw (← begins.keeps.medium) at c.in_ok-finish.ensures.flushes in
     record {
       passes = paid_written c.finish.ensures.passes done.answers.answer begins.keeps;
       answers = search rules;
@@ -26,22 +29,15 @@ returns-clause-writes g c =
         stays = λ on steady. rw begins.log (done.stays on steady);
         headroom = λ on head. rw (begins.log, done.finishes, on) (headroom_finished old.frozen.numbers (firsts_in old.frozen) old.log head);
       };
-    }
-
-pub returns-clause-cost : goal.returns-clause-cost
-returns-clause-cost g c =
-    let old = c.args.self.now.cached in
-    let begins = c.begin_batch.ensures in
-    let done = c.in_ok-finish.ensures.batch in
-    let flushes = rw (← begins.keeps.medium) at c.in_ok-finish.ensures.flushes in
-    record {
-      paid = search rules;
-      alone = search rules;
-      flushes = search rules;
-      once = λ on head alone. rw (one_each old.frozen.numbers old.log head done.some) at flushes;
-      as_many = λ on head live.
-          let one = one_each old.frozen.numbers old.log head done.some in
-          let records = one_durable old.frozen.numbers (firsts_in old.frozen) old.log head done.some in
-          rw (begins.log, done.finishes, on) (omega (arith, flushes, one, records));
-      one_batch = rw begins.keeps.medium c.finish.ensures.one_batch;
+      cost = record {
+        paid = search rules;
+        alone = search rules;
+        flushes = search rules;
+        once = λ on head alone. rw (one_each old.frozen.numbers old.log head done.some) at flushes;
+        as_many = λ on head live.
+            let one = one_each old.frozen.numbers old.log head done.some in
+            let records = one_durable old.frozen.numbers (firsts_in old.frozen) old.log head done.some in
+            rw (begins.log, done.finishes, on) (omega (arith, flushes, one, records));
+        one_batch = rw begins.keeps.medium c.finish.ensures.one_batch;
+      };
     }

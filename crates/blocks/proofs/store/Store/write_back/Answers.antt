@@ -2,7 +2,7 @@ use Rattle.std.proofs.Common.{◌≡◌, ◌<◌, ◌∙◌, inl, refl, ap, sym,
 use Rattle.std.proofs.lemmas.Bool.{false≢true}
 use Rattle.medium.proofs.Moments.{unchanged}
 use Rattle.blocks.specs.{StoreValue.is_dead, Work.MayWrite, Written.IsWritten}
-use Rattle.blocks.proofs.{EmptyBatches.steps_to_write, Paid.kept_on, Paid.rested_on, store.Store.write_back.Given.Over}
+use Rattle.blocks.proofs.{EmptyBatches.steps_to_write, TurnsJoined.kept_on, TurnsJoined.rested_on, store.Store.write_back.Given.Over}
 use Rattle.blocks.proofs.FlushesOnce.{live_to_write, some_to_write}
 use Rattle.blocks.proofs.store.Store.write_back.Goals.{Else-is_written, Then-self, Else-self}
 use Rattle.blocks.proofs.store.Store.write_back.Goals as goal

@@ -1,9 +1,9 @@
-use Rattle.std.proofs.Common.{ℕ, refl, ◌∙◌, arith, ap, rules}
+use Rattle.std.proofs.Common.{ℕ, ◌∙◌, arith, ap, rules}
 use Rattle.std.specs.Prelude.{Ok}
 use Rattle.medium.specs.Sent.{sent, SendsUpTo}
 use Rattle.blocks.specs.Passing.{PassesPaid}
-use Rattle.blocks.proofs.{Room.flushes_step, Room.writes_more, Room.writes_last, Paid.paid_then, Paid.on_paid, Paid.rested_paid}
-use Rattle.blocks.proofs.{store.Store.write_out.Given.Over, store.Store.write_out.Goals.After-step}
+use Rattle.blocks.proofs.{Room.flushes_step, Room.writes_more, Room.writes_last, TurnsJoined.paid_then, TurnsJoined.on_paid}
+use Rattle.blocks.proofs.{TurnsJoined.rested_paid, store.Store.write_out.Given.Over, store.Store.write_out.Goals.After-step}
 use Rattle.blocks.proofs.store.Store.write_out.Goals as goal
 
 -- a step is made
@@ -17,35 +17,20 @@ step_passes g c few =
     (on_paid (omega (arith, c.loop.invariant.under_way)) c.step.ensures.writes.falls (omega (arith, passes.calls)) passes) few
 
 pub loop-init : goal.loop-init
-loop-init g c = record {
-  passes = λ sends few. rested_paid g.met.M.Medium.follows_itself g.met.M.Medium.sound;
-  live = c.requires.live;
-  under_way = c.requires.under_way;
-  so_far = refl;
-  exactly = refl;
-  sends = omega arith;
-  flushes = refl;
-  head = refl;
-  active = refl;
-}
+loop-init g c = search (rules, arith, rested_paid, g.met.M.Medium.follows_itself, g.met.M.Medium.sound)
 
 pub returns-in_err-step : goal.returns-in_err-step
-returns-in_err-step g c = record {
-  passes = step_passes g (goal.at.returns-in_err-step g c).After-step
-      (omega (arith, c.loop.invariant.sends, c.step.ensures.passes.sent, c.loop.invariant.under_way));
-  answer = search rules;
-  batch = search rules;
-  exactly = search rules;
-  flushes = search rules;
-}
+returns-in_err-step g c =
+    let passes = step_passes g (goal.at.returns-in_err-step g c).After-step {sends = c.args.self.now.cached.log.steps_left}
+    (omega (arith, c.loop.invariant.sends, c.step.ensures.passes.sent, c.loop.invariant.under_way)) in
+    search rules
 
 pub loop-preserved : goal.loop-preserved
 loop-preserved g c =
     let gone = c.step.ensures.record_step.live c.in_ok-step.ensures.answer in
     let more = c.step.ensures.tells.more (c.in_ok-step.was ∙ ap Ok c.in-More.is) in
     let so_far = c.loop.invariant in
-    let wrote =
-    writes_more c.args.self.now.cached.log c.loop.self.cached.log c.step.new.self.cached.log gone.1 gone.2.log more so_far.so_far in
+    let wrote = writes_more c.args.self.now.cached.log _ _ _ gone.2.log more so_far.so_far in
     let less = flushes_step gone.1 c.loop.self.cached.log c.step.new.self.cached.log so_far.under_way gone.2.log in
     record {
       passes = λ sends few. step_passes g (goal.at.loop-preserved g c).After-step few;
@@ -64,8 +49,7 @@ returns g c =
     let gone = c.step.ensures.record_step.live c.in_ok-step.ensures.answer in
     let none = (c.step.ensures.tells.durable (c.in_ok-step.was ∙ ap Ok c.in_default.is)).0 in
     let so_far = c.loop.invariant in
-    let wrote =
-    writes_last c.args.self.now.cached.log c.loop.self.cached.log c.step.new.self.cached.log gone.1 gone.2.log none so_far.so_far in
+    let wrote = writes_last c.args.self.now.cached.log _ _ _ gone.2.log none so_far.so_far in
     let less = flushes_step gone.1 c.loop.self.cached.log c.step.new.self.cached.log so_far.under_way gone.2.log in
     record {
       passes = step_passes g (goal.at.returns g c).After-step
