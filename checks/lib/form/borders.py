@@ -11,7 +11,7 @@ from lib.form.functions import bodies, paths
 OWNERS = {"journal"}
 JUDGES = {"abstract_disk", "judging", "hosting", "power_loss", "random_lives", "late_lives", "damage", "worked", "bench"}
 # It tells a reader what a sector of either format is, and serves no device.
-SHOWS = {"scenes"}
+SHOWS = {"page"}
 # The sizes of slots, of descriptors and of the rounds that bring a record home.
 PLACES = re.compile(r"\b(?:49|50|248|249)\b|[%/] 3[01]\b|\b3[01] \*|\* 3[01]\b|div_ceil\(30\)|\+ 16 \*")
 # What code asks of a format: a match on it, by its first arm, or on a version; what it is equal to; its questions; what a number of it is equal to.

@@ -1,9 +1,10 @@
 //! The calls of the page.
 ghost use Rattle.std.specs.Prelude.{◌≡◌, ◌≤◌, ◌↔◌, ◌⊎◌};
-ghost use Rattle.scenes.specs.Scripts.{IsScript};
-ghost use Rattle.scenes.specs.Roles.{AreSizes, TellsRole};
-ghost use Rattle.scenes.specs.Told.{IsPlayed, LacksRoom};
+ghost use Rattle.page.specs.Scripts.{IsScript};
+ghost use Rattle.page.specs.Roles.{AreSizes, TellsRole};
+ghost use Rattle.page.specs.Told.{IsPlayed, LacksRoom};
 
+use crate::play::{look_at, play_plain_script, play_script};
 use std::alloc::Global;
 
 /// Plays a script on a new disk: 0, and what there is at its end stands at the front of the room as
@@ -21,7 +22,7 @@ pub extern "C" fn page_play(
     ensures room { result ≡ 3 → LacksRoom script.now told.new to.old }
     ensures left { (result ≡ 0) ⊎ ((result ≤ 3) × (to.new ≡ to.old)) }
 {
-    scenes::play_script(alloc, script, told, to)
+    play_script(alloc, script, told, to)
 }
 
 /// Plays a script on a disk without a log, and answers as `page_play` does. This disk is there to
@@ -33,7 +34,7 @@ pub extern "C" fn page_plain(
     told: &mut [u64; 16],
     to: &mut [u8],
 ) -> u32 {
-    scenes::play_plain_script(alloc, script, told, to)
+    play_plain_script(alloc, script, told, to)
 }
 
 /// Tells what a sector of an image of these sizes is, and what these bytes would say in it. 0 where
@@ -50,7 +51,7 @@ pub extern "C" fn page_sector(
     ensures role { AreSizes format slots blocks → TellsRole format slots blocks sector result }
     ensures none { (AreSizes format slots blocks → ⊥) → result ≡ 0 }
 {
-    match scenes::look_at(format, slots, blocks, sector, bytes) {
+    match look_at(format, slots, blocks, sector, bytes) {
         Some(seen) => {
             let (role, said) = seen;
             *words = said;

@@ -1,9 +1,0 @@
-use Rattle.std.proofs.Common.{◌≡◌, []}
-use Rattle.spec.specs.Book.{Book}
-use Rattle.scenes.specs.Scenes.{Shows, standing}
-use Rattle.scenes.specs.Scripts.{HasReached}
-use Rattle.scenes.proofs.script.play_all.Given as goal
-
-abbrev pub invariant-loop-i : goal.invariant-loop-i
-invariant-loop-i l = (book : Book) → Shows l.fn.first book → l.fn.answers.items ≡ []
-    → HasReached l.script (standing l.fn.first book) l.i l.answers.items l.scene
