@@ -13,9 +13,11 @@ mod frozen;
 mod index;
 mod parts;
 mod place;
+mod searches;
 
 pub use batch::Batch;
 pub use batch_error::BatchError;
 pub use counter::Steps;
 pub use entry::BLOCK;
 pub use frozen::Frozen;
+pub use searches::{search_among_48, search_among_none};

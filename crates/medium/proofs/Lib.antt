@@ -15,3 +15,4 @@ pub mod SimCalls
 pub mod ArmedCalls
 pub mod Driving
 pub mod Tallies
+pub mod RememberedMoments

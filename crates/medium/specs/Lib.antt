@@ -4,6 +4,8 @@ pub mod FileStory
 pub mod ImageFile
 pub mod ImageFileLaws
 pub mod ImageFileView
+pub mod History
+pub mod HistoryLaws
 pub mod Inlet
 pub mod Lengths
 pub mod Machine

@@ -2,8 +2,10 @@
 //! on what a cut could have left since an earlier moment by exactly that.
 ghost use Rattle.std.specs.Prelude.{◌≡◌, []};
 
+use crate::fault::MediumFault;
+use crate::medium::Medium;
 use crate::past::Past;
-use medium::{Medium, MediumFault, SimMedium};
+use crate::sim::SimMedium;
 use std::marker::Model;
 
 /// A medium in memory. What a cut since an earlier moment may have left is told of that moment, and
@@ -15,7 +17,7 @@ pub struct Remembering {
 }
 
 impl Model for Remembering {
-    ghost use Rattle.remembering.specs.History.{Remembered};
+    ghost use Rattle.medium.specs.History.{Remembered};
 
     ghost Value = { Remembered };
 
@@ -35,9 +37,9 @@ impl Remembering {
 }
 
 impl Medium for Remembering {
-    ghost use Rattle.remembering.specs.History.{state_of, ComesAfter};
-    ghost use Rattle.remembering.specs.HistoryLaws.{is_sound};
-    ghost use Rattle.remembering.specs.HistoryLaws.{comes_after_itself, comes_after_through};
+    ghost use Rattle.medium.specs.History.{state_of, ComesAfter};
+    ghost use Rattle.medium.specs.HistoryLaws.{is_sound};
+    ghost use Rattle.medium.specs.HistoryLaws.{comes_after_itself, comes_after_through};
 
     ghost state = { state_of };
 

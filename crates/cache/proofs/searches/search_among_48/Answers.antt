@@ -1,5 +1,5 @@
 use Rattle.std.proofs.Common.{◌≤◌, arith}
-use Rattle.remembering.proofs.searches.search_among_48.Goals as goal
+use Rattle.cache.proofs.searches.search_among_48.Goals as goal
 
 pub returns : goal.returns
 returns c =

@@ -6,7 +6,7 @@ use Rattle.medium.specs.Moments.{EachCut, LeavesOnly}
 use Rattle.medium.specs.Sim as sim
 use Rattle.medium.specs.Sim.{Sim, content_of, sets_of}
 use Rattle.medium.specs.SimLaws as sim_laws
-use Rattle.remembering.specs.History.{Remembered, LeftEarlier, EachMoment, state_of, ComesAfter}
+use Rattle.medium.specs.History.{Remembered, LeftEarlier, EachMoment, state_of, ComesAfter}
 use Rattle.medium.specs.declared.fault.MediumFault.{MediumFault}
 use Rattle.medium.proofs.Moments.{holds_updated}
 

@@ -4,7 +4,7 @@ use Rattle.std.proofs.Common.{inl, ⊎_elim, arith}
 use Rattle.medium.specs.Medium.{Image, IsSound}
 use Rattle.medium.specs.SimLaws as sim_laws
 use Rattle.medium.specs.Sim.{Sim}
-use Rattle.remembering.specs.History.{Remembered, LeftEarlier, state_of, ComesAfter}
+use Rattle.medium.specs.History.{Remembered, LeftEarlier, state_of, ComesAfter}
 
 -- no earlier moment has the number of this one
 none_earlier : (t : ℕ) (past : List Sim) (image : Image) → length past ≤ t

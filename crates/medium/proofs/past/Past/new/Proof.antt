@@ -21,11 +21,11 @@ use denote.Triple.Entry.{on_entry, alive}
 use denote.Triple.Spec.{Meets, triple_of}
 use denote.Triple.Table.{entered}
 use denote.Triple.Walked.{says, Stays, walk_of, Walks, ends_at, walked, walk_Meets}
-use Rattle.remembering.specs.contracts.past.Past.new.Key.{name as key}
-use Rattle.remembering.specs.contracts.past.Past.new as f
-use Rattle.remembering.proofs.past.Past.new.Statement as stated
-use Rattle.remembering.proofs.past.Past.new.Code as code
-use Rattle.remembering.specs.contracts.past.Past as made
+use Rattle.medium.specs.contracts.past.Past.new.Key.{name as key}
+use Rattle.medium.specs.contracts.past.Past.new as f
+use Rattle.medium.proofs.past.Past.new.Statement as stated
+use Rattle.medium.proofs.past.Past.new.Code as code
+use Rattle.medium.specs.contracts.past.Past as made
 
 abbrev stayed : Stays (f.ended).signature.params (f.ended).kept
 stayed = tt

@@ -1,12 +1,13 @@
 //! A sector that is put twice, and what a cut between could have left.
 ghost use Rattle.std.specs.Prelude.{◌≡◌, ◌<◌, ◌≤◌, ℕ, length, OnOk};
-ghost use Rattle.remembering.specs.History.{state_of, EachMoment};
+ghost use Rattle.medium.specs.History.{state_of, EachMoment};
 ghost use Rattle.medium.specs.Medium.{Image, CutLeaves, Holds, Only};
 ghost use Rattle.medium.specs.Moments.{EachCut, SparesFrom};
 ghost use Rattle.medium.specs.Sim as sim;
 
+use crate::fault::MediumFault;
+use crate::medium::Medium;
 use crate::remembering::Remembering;
-use medium::{Medium, MediumFault};
 
 // Writes the first sector and makes it durable.
 fn put<M: Medium>(m: &mut M, block: &[u8; 512]) -> Result<(), MediumFault>

@@ -3,7 +3,7 @@ ghost use Rattle.std.specs.Prelude.{◌≡◌, List, [], ◌∷◌};
 ghost use Rattle.std.specs.Borrow.{ftrue};
 ghost use Rattle.medium.specs.Sim.{Sim};
 
-use medium::SimMedium;
+use crate::sim::SimMedium;
 use std::marker::Model;
 
 #[derive(Drop)]

@@ -1,7 +1,8 @@
 //! Searches among the numbers of a batch, and the steps that they take.
 ghost use Rattle.std.specs.Prelude.{◌≡◌, ◌+◌, ◌≤◌, [], length};
 
-use cache::{Batch, Steps};
+use crate::batch::Batch;
+use crate::counter::Steps;
 
 /// A search among 48 blocks takes at most 6 steps.
 ///

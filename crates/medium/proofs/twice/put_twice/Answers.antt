@@ -1,7 +1,7 @@
-use Rattle.remembering.proofs.RememberedMoments.{after_good, at_each_moment, left_between}
+use Rattle.medium.proofs.RememberedMoments.{after_good, at_each_moment, left_between}
 use Rattle.medium.proofs.SparedSectors.{HasSpared, spared_joined}
-use Rattle.remembering.specs.History.{state_of}
-use Rattle.remembering.proofs.moments.put_twice.Goals as goal
+use Rattle.medium.specs.History.{state_of}
+use Rattle.medium.proofs.twice.put_twice.Goals as goal
 
 pub returns-clause-spares : goal.returns-clause-spares
 returns-clause-spares c =

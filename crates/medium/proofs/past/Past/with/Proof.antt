@@ -27,11 +27,11 @@ use denote.Triple.Entry.{on_entry, alive, Args}
 use denote.Triple.Spec.{Meets, triple_of}
 use denote.Triple.Table.{entered}
 use denote.Triple.Walked.{says, stay_none_ref, Stays, walk_of, Walks, ends_at, walked, Goes-none_ref, walk_Meets}
-use Rattle.remembering.specs.contracts.past.Past.with.Key.{name as key}
-use Rattle.remembering.specs.contracts.past.Past.with as f
-use Rattle.remembering.proofs.past.Past.with.Statement as stated
-use Rattle.remembering.proofs.past.Past.with.Code as code
-use Rattle.remembering.specs.contracts.past.Past as past
+use Rattle.medium.specs.contracts.past.Past.with.Key.{name as key}
+use Rattle.medium.specs.contracts.past.Past.with as f
+use Rattle.medium.proofs.past.Past.with.Statement as stated
+use Rattle.medium.proofs.past.Past.with.Code as code
+use Rattle.medium.specs.contracts.past.Past as past
 use Rattle.medium.specs.contracts.sim.SimMedium as medium
 
 abbrev stayed : Stays (f.ended).signature.params (f.ended).kept
