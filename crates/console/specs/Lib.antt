@@ -1,3 +1,5 @@
 pub mod Numbers
 pub mod Words
 pub mod Streams
+pub mod Program
+pub mod Status

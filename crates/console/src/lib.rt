@@ -1,13 +1,17 @@
-//! What the programs share: their words, the numbers in them, the standard streams, and the writing
-//! of answers.
+//! What the programs share: which of them is asked for, their words, the numbers in them, the
+//! standard streams, the writing of answers, and how a refused file or start is told.
 #![tactic(auto)]
 
+mod fault;
 mod number;
 mod output;
+mod program;
 mod streams;
 mod words;
 
+pub use fault::{file_status, file_text, start_status, start_text};
 pub use number::read_number;
 pub use output::write_out;
+pub use program::{Program, take_program};
 pub use streams::{StreamGuard, guard_streams};
 pub use words::{ArgumentFault, arguments, is_file_word, words_of};

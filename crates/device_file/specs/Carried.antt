@@ -1,5 +1,5 @@
 -- The calls of the file behind that carried out what a file of sectors was asked.
-use Rattle.std.specs.Prelude.{◌≡◌, ◌⊎◌, ℕ, ◌*◌, List, [], ◌∷◌, ◌++◌, length, All}
+use Rattle.std.specs.Prelude.{◌≡◌, ◌⊎◌, ℕ, ◌*◌, List, [], ◌∷◌, ◌++◌, length, All, Option, IfSome}
 use Rattle.std.specs.List.{flat_map}
 use Rattle.medium.specs.FileStory as file
 use Rattle.medium.specs.FileStory.{IsWriteWithin}
@@ -9,6 +9,7 @@ use Rattle.medium.specs.declared.file_call.FileCall.TheVariants.{Open, Lock, Mea
 use Rattle.window.specs.declared.call.DeviceCall.{DeviceCall}
 use Rattle.window.specs.declared.call.DeviceCall.TheVariants.{Flush}
 use Rattle.device_file.specs.Asked.{Told, writes_of}
+use Rattle.device_file.specs.FileValue.{FileValue}
 
 -- It was opened for this, locked, and only then measured, or emptied and given a length.
 abbrev pub IsOpening : Access → List FileCall → Type 0
@@ -60,3 +61,7 @@ pub record IsCarried (t : Told) (f : file.Told) : Type 0 where
   pub each : All IsPart parts
   pub asked : t.asked ≡ asked_in parts
   pub calls : f.asked ≡ opened ++ calls_in parts
+
+-- of a file of the system that comes back, this is so
+abbrev pub AreCalls : Option FileValue → Type 0
+AreCalls back = IfSome back (λ v. IsCarried v.told v.file)

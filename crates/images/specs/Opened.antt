@@ -1,6 +1,5 @@
 -- Files that were opened or made, and a window over that of an image.
 use Rattle.std.specs.Prelude.{◌≡◌, ◌⊎◌, ◌*◌, ◌+◌, ◌≤◌, ℕ, List, length, min, Option, Some}
-use Rattle.std.specs.Prelude.{IfSome}
 use Rattle.medium.specs.Writes.{sector_of}
 use Rattle.journal.specs.Sectors.{IsSuper}
 use Rattle.journal.specs.Formats.{shape_of}
@@ -9,7 +8,6 @@ use Rattle.window.specs.Window.{Window}
 use Rattle.window.specs.Window as window
 use Rattle.medium.specs.declared.file_call.Access.{Access}
 use Rattle.device_file.specs.Asked.{Told, begun}
-use Rattle.device_file.specs.Carried.{IsCarried}
 use Rattle.device_file.specs.FileValue.{FileValue, made_for}
 use Rattle.device_file.specs.FileValue as file
 use Rattle.device_file.specs.First.{IsUnopened, SpellsSuper, near_of}
@@ -70,10 +68,6 @@ pub record IsOpened (path : List ℕ) (access : Access) (back : Option FileValue
 -- what a file was asked that was made at this path, or emptied where it may be replaced: nothing
 abbrev pub made_at : List ℕ → Existing → Told
 made_at path existing = begun path (made_for existing)
-
--- of a file that comes back, the calls of the system carried out what it was asked
-abbrev pub AreCalls : Option FileValue → Type 0
-AreCalls back = IfSome back (λ v. IsCarried v.told v.file)
 
 -- no file was made or opened: it refused, or a stream
 abbrev pub IsUnmade : Refusal → Type 0

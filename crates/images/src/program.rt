@@ -20,7 +20,8 @@ ghost use Rattle.images.specs.Program.{
   made_text,
   version_text,
 };
-ghost use Rattle.images.specs.Opened.{AreCalls, made_at};
+ghost use Rattle.images.specs.Opened.{made_at};
+ghost use Rattle.device_file.specs.Carried.{AreCalls};
 ghost use Rattle.images.specs.Task.{image_wanted, wanted_of};
 ghost use Rattle.journal.specs.Formats.{shape_of};
 

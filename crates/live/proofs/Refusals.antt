@@ -17,55 +17,34 @@ use Rattle.device_file.specs.declared.fault.FileCall.TheVariants as call
 use Rattle.device_file.specs.declared.fault.FileFault.{FileFault}
 use Rattle.device_file.specs.declared.opening.OpenFault.{OpenFault}
 use Rattle.device_file.specs.declared.opening.OpenFault.TheVariants as opening
+use Rattle.console.proofs.Statuses.{file_refused, start_refused}
+use Rattle.console.specs.Status.{status_at, status_of_fault}
 use Rattle.runner.specs.Live.{IsLiveLine}
 use Rattle.runner.specs.Served.{IsStoppedBy}
 use Rattle.runner.specs.declared.player.ServeFault.{ServeFault}
 use Rattle.runner.specs.declared.player.ServeFault.TheVariants as serve
 use Rattle.live.specs.Missing.{DiskOn, medium_of}
 use Rattle.live.specs.Playing.{AnswersThrough, IsUnanswered}
-use Rattle.images.specs.Status.{status_at, status_of_fault, status_of_start}
 use Rattle.live.specs.Program.{IsUnopened, IsUnasked, IsLiveRefusedFor, IsLiveStopped}
 use Rattle.live.specs.Status.{status_of, refusal_of_open, refusal_of_serving}
 use Rattle.live.specs.declared.refusal.Refusal.{Refusal}
 use Rattle.live.specs.declared.refusal.Refusal.TheVariants as refused
 
--- a status is none of others
-pub record IsStatus (status : ℕ) : Type 0 where
-  pub most : status ≤ 5
-  pub some : status ≡ 0 → ⊥
-  pub no_words : status ≡ 2 → ⊥
-
-start_status : (fault : StartFault) → IsStatus (status_of_start fault)
-start_status start.NoMemory =
-    record { most = omega arith; some = λ is. omega (arith, is); no_words = λ is. omega (arith, is) }
-start_status _ = record { most = omega arith; some = λ is. omega (arith, is); no_words = λ is. omega (arith, is) }
-
-three_or_four : (kind : FileCall) (cause : ErrorKind) → (status_at kind cause ≡ 3) ⊎ (status_at kind cause ≡ 4)
-three_or_four call.Length causes.InvalidData = inl refl
-three_or_four _ _ = inr refl
-
-three_or_four_status : (n : ℕ) → (n ≡ 3) ⊎ (n ≡ 4) → IsStatus n
-three_or_four_status n (inl is) = rw is (record { most = omega arith; some = λ is. omega (arith, is); no_words = λ is. omega (arith, is) })
-three_or_four_status n (inr is) = rw is (record { most = omega arith; some = λ is. omega (arith, is); no_words = λ is. omega (arith, is) })
-
-file_status : (fault : FileFault) → IsStatus (status_of_fault fault)
-file_status fault = three_or_four_status _ (three_or_four fault.call fault.cause)
-
 -- a status is at most 5, and that of a refusal is never 0
 pub most_status : (refusal : Refusal) → status_of refusal ≤ 5
-most_status (refused.Image fault) = (start_status fault).most
-most_status (refused.File fault) = (file_status fault).most
+most_status (refused.Image fault) = (start_refused fault).most
+most_status (refused.File fault) = (file_refused fault).most
 most_status _ = omega arith
 
 pub some_status : (refusal : Refusal) → status_of refusal ≡ 0 → ⊥
-some_status (refused.Image fault) is = (start_status fault).some is
-some_status (refused.File fault) is = (file_status fault).some is
+some_status (refused.Image fault) is = (start_refused fault).some is
+some_status (refused.File fault) is = (file_refused fault).some is
 some_status _ is = omega (arith, is)
 
 status_of_words : (refusal : Refusal) → status_of refusal ≡ 2 → refusal ≡ refused.Words
 status_of_words refused.Words is = refl
-status_of_words (refused.Image fault) is = absurd ((start_status fault).no_words is)
-status_of_words (refused.File fault) is = absurd ((file_status fault).no_words is)
+status_of_words (refused.Image fault) is = absurd ((start_refused fault).no_words is)
+status_of_words (refused.File fault) is = absurd ((file_refused fault).no_words is)
 status_of_words _ is = absurd (omega (arith, is))
 
 open_not_words : (fault : OpenFault) → refusal_of_open fault ≡ refused.Words → ⊥

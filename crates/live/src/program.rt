@@ -2,7 +2,7 @@
 ghost use Rattle.std.specs.Prelude.{◌≡◌, ◌≢◌, ◌↔◌, None, IfOk, IfErr, MatchResult};
 ghost use Rattle.std.specs.Prelude.{map, drop, string_bytes};
 ghost use Rattle.spec.specs.Packets.{bytes_of};
-ghost use Rattle.images.specs.Opened.{AreCalls};
+ghost use Rattle.device_file.specs.Carried.{AreCalls};
 ghost use Rattle.live.specs.declared.refusal.Refusal.{Refusal};
 ghost use Rattle.live.specs.Program.{HasDoneLive, HasNoWords, IsLiveOn, IsLiveRefusedFor};
 ghost use Rattle.live.specs.Program.{IsLiveStatus, IsProgramRefused, IsStoppedOn};

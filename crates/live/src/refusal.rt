@@ -2,7 +2,7 @@
 ghost use Rattle.std.specs.Prelude.{◌≡◌};
 
 use bot_machine::StartFault;
-use console::ArgumentFault;
+use console::{ArgumentFault, file_status, file_text, start_status, start_text};
 use device_file::FileFault;
 
 /// Why an image file was not served to the end of the input.
@@ -36,8 +36,8 @@ impl Refusal {
         match *self {
             Refusal::Words => 2,
             Refusal::Line(_) => 1,
-            Refusal::Image(fault) => images::Refusal::Image(fault).status(),
-            Refusal::File(fault) => images::Refusal::File(fault).status(),
+            Refusal::Image(fault) => start_status(fault),
+            Refusal::File(fault) => file_status(fault),
             Refusal::Streams => 4,
             Refusal::Input => 4,
             Refusal::Output => 4,
@@ -50,8 +50,8 @@ impl Refusal {
         match self {
             Refusal::Words => "bad command line",
             Refusal::Line(_) => "not a script line",
-            Refusal::Image(fault) => images::Refusal::Image(fault).text(),
-            Refusal::File(fault) => images::Refusal::File(fault).text(),
+            Refusal::Image(fault) => start_text(fault),
+            Refusal::File(fault) => file_text(fault),
             Refusal::Streams => "the null device was not opened",
             Refusal::Input => "the input was not read",
             Refusal::Output => "an answer was not written",
