@@ -82,7 +82,7 @@ def try_wrappers(build):
     tried = [(it, steps_of(it)) for it in packets()]
     lines = [line for _, steps in tried for line, _ in steps]
     write_file("events", "".join(f"{it}\n" for it in lines).encode())
-    status, written, told = run([build.live, "image"], given="events")
+    status, written, told = run([*build.live, "image"], given="events")
     build.judge("wrappers", Ended(status, written, told, contents("image")), Ended(0, len(lines), b"", build.started))
     write_file("image", build.fresh)
     answers = iter(written.decode("latin-1").split("\n"))

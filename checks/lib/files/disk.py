@@ -16,7 +16,8 @@ class Disk(Trial):
 
     def __init__(self, name):
         super().__init__(name)
-        self.disk, self.live, self.image = (built(it) for it in ("usbdisk", "usbdisk_live", "usbdisk_image"))
+        self.disk = built("usbdisk")
+        self.live, self.image = (self.disk, "live"), (self.disk, "image")
         self.calls = library(f"{os.getcwd()}/calls.so", "calls.c")
         write_file("empty", b"")
         write_file("all.script", ALL)
@@ -25,7 +26,7 @@ class Disk(Trial):
         self.done([self.disk, "format", "fresh.img", *SIZES], self.formatted)
         self.played = self.left("played.img", [self.disk, "run", "new.img", "all.script"])
         self.left("begun.img", [self.disk, "run", "new.img", "first.script"])
-        self.left("unserved.img", [self.live, "new.img"])
+        self.left("unserved.img", [*self.live, "new.img"])
         self.left("migrated.img", [self.disk, "migrate", "new.img"])
         self.expect(contents("fresh.img") != contents("played.img"), "the script changes nothing")
 

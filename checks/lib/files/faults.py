@@ -39,7 +39,7 @@ def leave_faulty(disk):
         refused = by_disk(3, f"image refused: {number}")
         leaves = lambda wanted, words, **how: disk.leaves("faulty.img", "faulty.img", wanted, words, **how)
         for script in SCRIPTS:
-            leaves(by_file("new.img", cause), [disk.live, "new.img"], given=script)
+            leaves(by_file("new.img", cause), [*disk.live, "new.img"], given=script)
         leaves(refused, [disk.disk, "run", "new.img", "plain.script"])
         leaves(refused, [disk.disk, "migrate", "new.img"])
         for script in ("first.bad", "middle.bad"):
@@ -49,7 +49,7 @@ def leave_faulty(disk):
 def leave_good(disk):
     """A good image: at a bad line `run` leaves it as it was, and `usbdisk_live` as its events left it."""
     text = disk.run([disk.disk, "sim", "fresh.img", "plain.script"]).out
-    run, live = [disk.disk, "run", "new.img"], [disk.live, "new.img"]
+    run, live = [disk.disk, "run", "new.img"], [*disk.live, "new.img"]
     for script in ("first.bad", "middle.bad"):
         disk.leaves("fresh.img", "fresh.img", bad_line(script), [*run, script])
     disk.leaves("fresh.img", "unserved.img", good(text), [*run, "plain.script"])

@@ -27,7 +27,7 @@ REFUSED = (
 def watched(disk, words, short=None):
     """What `usbdisk_live` makes of an exchange, with each call of its file told. Where a number is given, no call moves more bytes than that."""
     more = {"LD_PRELOAD": disk.calls, **({"SHORT": str(short)} if short else {})}
-    return disk.run([disk.live, *words], given="all.script", more=tuple(more.items()), ninth="calls")
+    return disk.run([*disk.live, *words], given="all.script", more=tuple(more.items()), ninth="calls")
 
 
 def serve_named(disk):
@@ -59,14 +59,14 @@ def watch_calls(disk):
 
 def refuse_words(disk):
     """More words than a program has room for."""
-    for words in ([disk.live, *MANY], [disk.disk, "run", *MANY]):
+    for words in ([*disk.live, *MANY], [disk.disk, "run", *MANY]):
         disk.ends(words, BAD_WORDS, f"{words[0]}: 200 words", seconds=AT_ONCE)
 
 
 def serve(disk, path, story):
     """A story is served in less than 8 MB of memory, and answered as it has it. Gives the most memory that was used, in KiB, as the system tells it
     while the input is still open."""
-    program = Open([disk.live, path], kib=8192)
+    program = Open([*disk.live, path], kib=8192)
     program.send(story.script, story.text.count(b"\n"), AT_ONCE)
     most = program.memory()
     disk.ran = program.close()
@@ -97,7 +97,7 @@ def read_ends(blocks):
 
 def make_large(disk, blocks, kind):
     sizes = ["--blocks", str(blocks), "--slots", "8", "--format", str(kind), "--replace"]
-    disk.done([disk.image, "make", "big.img", *sizes], b"made\n")
+    disk.done([*disk.image, "make", "big.img", *sizes], b"made\n")
 
 
 def serve_large(disk):
@@ -114,7 +114,7 @@ def refuse_images(disk):
     write_file("odd.img", part_of("big.img", 0, 700))
     write_file("cut.img", part_of("big.img", 0, 69999616))
     for path, cause in REFUSED:
-        disk.ends([disk.live, path], by_file(path, cause), f"usbdisk_live {path}", given="all.script", seconds=AT_ONCE)
+        disk.ends([*disk.live, path], by_file(path, cause), f"usbdisk_live {path}", given="all.script", seconds=AT_ONCE)
     os.remove("cut.img")
 
 
@@ -131,7 +131,7 @@ def refuse_write(disk):
     write_file("big.script", story.script)
     for text in (answered, b""):
         wanted = by_file("big.img", "it was not written", text)
-        disk.ends([disk.live, "big.img"], wanted, "a write that the system refuses", given="big.script", blocks=100000)
+        disk.ends([*disk.live, "big.img"], wanted, "a write that the system refuses", given="big.script", blocks=100000)
     story = exchanges.Story()
     story.read(last, 0xB1)
     serve(disk, "big.img", story)

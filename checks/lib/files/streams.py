@@ -20,7 +20,7 @@ COMMANDS = (
 
 def words_of(disk, command):
     if command == "live":
-        return [disk.live, "new.img"]
+        return [*disk.live, "new.img"]
     return [disk.disk, command, "new.img", *{"format": SIZES, "migrate": ()}.get(command, ("all.script",))]
 
 
@@ -63,7 +63,7 @@ def refuse_held(disk):
 def hold_image(disk):
     """Two programs on one image: the first one has it open as long as its input is."""
     copy("fresh.img", "new.img")
-    holder = Open([disk.live, "new.img"])
+    holder = Open([*disk.live, "new.img"])
     disk.expect(holder.send(FIRST, 1, 20), "the program that holds the image does not answer")
     copy("new.img", "before.img")
     refuse_held(disk)

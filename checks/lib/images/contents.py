@@ -76,7 +76,7 @@ def show_and_migrate(tool):
 
 def stamps(tool, path):
     """The stamps of the records of two blocks that wait."""
-    shown = tool.run([tool.image, "show", path]).out.decode().splitlines()
+    shown = tool.run([*tool.image, "show", path]).out.decode().splitlines()
     return [int(it.split()[1]) for it in shown if it.startswith("record ") and it.endswith(" 2")]
 
 
@@ -145,7 +145,7 @@ def copy_records(tool, kind):
     """Records that wait, over blocks of an import: what is exported is what a start brings home."""
     tool.imports("plain.raw", "trip.img", 5, kind, "--replace")
     tool.plays("trip.img", RECORDS)
-    tool.run([tool.image, "show", "trip.img"])
+    tool.run([*tool.image, "show", "trip.img"])
     tool.expect(tool.ran.out.count(b"record") == 2, "export: no records wait")
     copy("trip.img", "before.img")
     tool.exports("trip.img", "back.raw", BLOCKS, "--replace")

@@ -1,4 +1,4 @@
-"""Files of 8 GiB and 1 TiB with holes, in less than 4 MB of memory, and what is told at a terminal."""
+"""Files of 8 GiB and 1 TiB with holes, in less than 4.5 MB of memory, and what is told at a terminal."""
 
 import os
 
@@ -44,10 +44,10 @@ def copy_large(tool):
 
 def migrate_large(tool):
     tool.makes("sparse.img", BLOCKS, 6, 1)
-    tool.ends([tool.image, "migrate", "sparse.img"], Ran(0, b"migrated\n", b""), kib=SMALL)
+    tool.ends([*tool.image, "migrate", "sparse.img"], Ran(0, b"migrated\n", b""), kib=SMALL)
     tool.expect(os.stat("sparse.img").st_blocks <= 1024, "migrate of 8 GiB: holes")
     lines = f"format 2\nblocks {BLOCKS}\nslots 1\nhome 302\nhead 2\n"
-    tool.ends([tool.image, "show", "sparse.img"], Ran(0, lines.encode(), b""), kib=SMALL)
+    tool.ends([*tool.image, "show", "sparse.img"], Ran(0, lines.encode(), b""), kib=SMALL)
     remove("sparse.img")
 
 
@@ -60,6 +60,6 @@ def tell_at_terminal(tool):
         (GAUGE, "export gauge.img gauge.back"),
         ("", "import plain.raw gauge.img --slots 5 --format 2 --replace"),
     ):
-        status, found = programs.told_at_terminal([tool.image, *words.split()])
+        status, found = programs.told_at_terminal([*tool.image, *words.split()])
         tool.expect((status, found.replace(b"\r", b"|").decode()) == (0, told), f"at a terminal: {words}: status {status}, {found}")
     remove("gauge.raw", "gauge.img", "gauge.back")

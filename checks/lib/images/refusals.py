@@ -142,7 +142,7 @@ def refuse_files(tool):
 def refuse_outputs(tool):
     """An output that takes nothing; a target that is larger than its system lets it be. (A migration changes its image all the same.)"""
     wanted = by_file("small.raw", "the file system has no files of this length")
-    tool.ends([tool.image, "export", "trip.img", "small.raw"], wanted, "export: a target that is too large", blocks=100)
+    tool.ends([*tool.image, "export", "trip.img", "small.raw"], wanted, "export: a target that is too large", blocks=100)
     for path, words in FULL:
         tool.refused(path, NO_ANSWER, *words.split(), out="/dev/full")
         for file, other in (("trip.img", "kept.trip"), ("plain.raw", "kept.raw")):

@@ -57,8 +57,8 @@ def move_few_bytes(tool):
         tool.plays("trip.img", RECORDS)
         copy("trip.img", "before.img")
         tool.exports("trip.img", "wanted.raw", BLOCKS, "--replace")
-        lines = tool.run([tool.image, "show", "trip.img"]).out
-        tool.run([tool.image, "migrate", "trip.img"])
+        lines = tool.run([*tool.image, "show", "trip.img"]).out
+        tool.run([*tool.image, "migrate", "trip.img"])
         tool.expect(tool.watched("show", "before.img", short=100).out == lines, "show by few bytes")
         tool.watched("export", "before.img", "back.raw", "--replace", short=100)
         tool.same("back.raw", "wanted.raw", "export by few bytes: other blocks")
@@ -76,9 +76,9 @@ def read_as_nobody(tool):
     os.mkdir("open")
     for path, mode in (("open", 0o777), (".", 0o755), ("trip.img", 0o444)):
         os.chmod(path, mode)
-    shutil.copy(tool.image, "program")
+    shutil.copy(tool.disk, "program")
     blocks = Ran(0, f"exported {BLOCKS} blocks\n".encode(), b"")
-    run = lambda *words: tool.run(programs.as_nobody(["./program", *words]))
+    run = lambda *words: tool.run(programs.as_nobody(["./program", "image", *words]))
     tool.expect(run("show", "trip.img").status == 0, "show by a user who may only read")
     tool.expect(run("export", "trip.img", "open/back.raw") == blocks, "export by a user who may only read")
     wanted = by_file("trip.img", "opening it is not allowed")
@@ -106,7 +106,7 @@ def close_streams(tool):
             name = f"{words[0]} with {closed} closed"
             copy(before, "new.img")
             copy("old.raw", "back.raw")
-            tool.expect(tool.run([tool.image, *words], closed=closed).status == status, name)
+            tool.expect(tool.run([*tool.image, *words], closed=closed).status == status, name)
             tool.same("new.img", left, f"{name}: another image")
             tool.stays("plain.raw", "kept.raw", name)
             if words[0] == "export":

@@ -1,9 +1,9 @@
-"""The words of a command: those that are refused, and the launcher at the root, which refuses the same ones at once."""
+"""The words of a command: those that are refused, and the launchers at the root, which refuse the same ones at once and hand the others on."""
 
 import os
 import shutil
 
-from lib.programs import ROOT, write_file
+from lib.programs import ROOT, Ran, write_file
 from lib.told import BAD_WORDS
 
 REFUSED = (
@@ -58,13 +58,23 @@ GOOD = (
     "make no/a.img --blocks 9 --slots 6 --format 2 --align 64K --replace",
 )
 OTHERS = ("-x", "--replace", "--slots", "--format", "--align", "0", "3", "09", "1x", "4K", "K")
-# The status of what the launcher is given in place of the program.
+# The status of what the launchers are given in place of the program.
 HANDED_ON = 77
+LAUNCHERS = ("usbdisk", "usbdisk_image", "usbdisk_live")
+LEFT_OUT = BAD_WORDS.err + b"usbdisk_image: a word is left out at the end, a file's name; usbdisk_image --help tells the commands\n"
+# What is asked of a launcher, and the words that the program gets behind its name.
+HANDED = (
+    ("usbdisk run a b", "run a b"),
+    ("usbdisk image show a", "image show a"),
+    ("usbdisk live a --packet 64", "live a --packet 64"),
+    ("usbdisk_image show a", "image show a"),
+    ("usbdisk_live a --packet 64", "live a --packet 64"),
+)
 
 
 def refuse_words(tool):
     for words in REFUSED:
-        tool.ends([tool.image, *words.split()], BAD_WORDS, f"the words '{words[:100]}'")
+        tool.ends([*tool.image, *words.split()], BAD_WORDS, f"the words '{words[:100]}'")
 
 
 def changed(words):
@@ -75,20 +85,29 @@ def changed(words):
             yield (*words[:at], *others, *words[at + 1 :])
 
 
-def copy_launcher():
-    """`usbdisk_image` at the root, with another program behind it."""
-    for path in ("usbdisk_image", "scripts/words", "crates/images/src/program.rt"):
+def copy_launchers():
+    """The launchers at the root, with another program behind them, which tells its words."""
+    for path in (*LAUNCHERS, "scripts/words", "crates/images/src/program.rt"):
         os.makedirs(os.path.dirname(f"copy/{path}"), exist_ok=True)
         shutil.copy(f"{ROOT}/{path}", f"copy/{path}")
-    write_file("copy/scripts/launch", f"#!/bin/sh\nexit {HANDED_ON}\n".encode())
+    write_file("copy/scripts/launch", f'#!/bin/sh\necho "$@"\nexit {HANDED_ON}\n'.encode())
     os.chmod("copy/scripts/launch", 0o755)
 
 
 def agree_on_words(tool):
     """The launcher answers these words at once where the program refuses them as words, and hands all others on."""
-    copy_launcher()
+    copy_launchers()
     for line in GOOD:
         for words in changed(line.split()):
-            is_bad = tool.run([tool.image, *words]).err.startswith(BAD_WORDS.err)
+            is_bad = tool.run([*tool.image, *words]).err.startswith(BAD_WORDS.err)
             wanted = BAD_WORDS.status if is_bad else HANDED_ON
             tool.expect(tool.run(["copy/usbdisk_image", *words]).status == wanted, f"the launcher is to end with {wanted}: {' '.join(words)}")
+
+
+def hand_on_words(tool):
+    """The launchers hand the same words on to one program, where they are no refused ones."""
+    for words, handed in HANDED:
+        launcher, *rest = words.split()
+        wanted = Ran(HANDED_ON, f"usbdisk {handed}\n".encode(), b"")
+        tool.ends([f"copy/{launcher}", *rest], wanted, f"{words}: the launcher hands other words on")
+    tool.ends(["copy/usbdisk", "image", "show"], Ran(2, b"", LEFT_OUT), "usbdisk image refuses what usbdisk_image does")
