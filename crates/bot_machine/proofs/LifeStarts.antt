@@ -113,7 +113,7 @@ pub stands_ours : {m : State} {place : Place} {blocks stamp : ℕ} {array : Arra
     → w.book.ours ≡ true → OpensOn m w.book
 stands_ours w ours = ⊎_elim (λ on. on) (λ is. absurd (false≢true (sym (ap (λ (b : Book). b.ours) is) ∙ ours))) w.stands
 
-next_opens : (m : Sim) (remains : Remains) (blocks : ℕ) (array : Array) (stamp : ℕ)
+pub next_opens : (m : Sim) (remains : Remains) (blocks : ℕ) (array : Array) (stamp : ℕ)
     → (remains.book.ours ≡ true → EachCut (FoundAt (state_of m).size (between remains)) (state_of m))
     → WouldOpen (state_of m) (between remains) blocks array stamp
 next_opens m remains blocks array stamp found = elim (cases_Bool remains.book.ours) [

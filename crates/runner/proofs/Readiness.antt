@@ -29,8 +29,8 @@ use Rattle.spec.specs.Lives.{LifeBegins, LivesStep, LivesRun, after_cut}
 use Rattle.bot_machine.specs.LivesValue.{OpensOn, HasLimit, book_at, FoundAt}
 use Rattle.spec.specs.Promise.{first_standing}
 use Rattle.bot_machine.specs.Lifetimes.{actions_of_all, armed_by}
-use Rattle.bot_machine.proofs.LifeStarts.{next_opens}
-use Rattle.bot_machine.proofs.UnitLaws.{knows_images, ours_stay}
+use Rattle.bot_machine.proofs.LifeStarts.{next_opens, stands_ours}
+use Rattle.bot_machine.proofs.UnitLaws.{knows_images, keeps_writes}
 use Rattle.runner.specs.Laws.{IsReadyFor, FormatIsReady, MigrationIsReady, LivesAreReady}
 
 -- where nothing is unflushed and the contents are ours for a book, a life opens with it
@@ -109,7 +109,7 @@ module _ (refused : Bool) where
 
   carried_ours : (block bytes : List ℕ) (old new : Conversation UnitState) (answer : Result (List ℕ) Sense)
       → CarriesOut refused block bytes old.unit answer new.unit → ours_in new ≡ ours_in old
-  carried_ours block bytes old new answer effect = ours_stay refused block bytes old.unit new.unit answer effect
+  carried_ours block bytes old new answer effect = (keeps_writes.life refused block bytes old.unit new.unit answer effect).ours
 
   opens_ours : (packet : List ℕ) (old new : Conversation UnitState) → OpensExchange Intends CarriesOut Ticks refused packet old new
       → ours_in new ≡ ours_in old
@@ -241,9 +241,9 @@ opens_next m book (before_first other) none is ours from rests found =
       refl,
     )
 opens_next m book (between remains) none is ours from rests found =
-    let w = next_opens m remains (λ is_ours. found) in
+    let w = next_opens m remains remains.book.blocks remains.book.opening remains.book.stamp (λ is_ours. found) in
     let next_ours : w.book.ours ≡ true = w.ours ∙ from ∙ ours in
-    (w.book, w.on next_ours, next_ours, w.opens)
+    (w.book, stands_ours w next_ours, next_ours, w.opens)
 opens_next m book _ none is ours from rests found = absurd rests
 
 pub lives_are_ready : LivesAreReady

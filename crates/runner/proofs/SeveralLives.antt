@@ -18,7 +18,8 @@ use Rattle.spec.specs.Lives.{Action, plays, Standing, LivesRun}
 use Rattle.bot_machine.specs.LivesValue.{LivesValue, MayRefuse, LivesRefuseStart, HasLimit, FitsLives, OpensOn}
 use Rattle.bot_machine.specs.LivesValue.{IsAtRest, faults_armed}
 use Rattle.bot_machine.specs.Moving.{medium_in, has_refused, MovesBy}
-use Rattle.bot_machine.proofs.Moved.{few_causes, refused_events-append}
+use Rattle.bot_machine.proofs.Moved.{few_causes}
+use Rattle.bot_machine.proofs.Runs.{refused_events-append}
 use Rattle.runner.specs.declared.fault.ScriptError.{ScriptError as ErrorOf}
 use Rattle.runner.specs.declared.fault.ScriptFault.{ScriptFault}
 use Rattle.runner.specs.declared.fault.ScriptFault.TheVariants.{Line, TooLong, Start, Writer}
