@@ -79,14 +79,9 @@ module _ (size told : ℕ) (image : Image) where
     found_amid (Some write) grows few (inl found) = inl (found_since old.book.mark few (Some write) grows found)
     found_amid (Some write) (inl more) few (inr found) = inl (found_with old.book new.book life old.book.mark
         (old.book.writes ++ write ∷ []) [] new.book.writes few (more ∙ sym (append-nil (old.book.writes ++ write ∷ []))) found)
-    found_amid (Some write) (inr refused) few (inr found) = inr (
-      refused.0,
-      (
-        write,
-        found_with old.book new.book life old.book.mark (old.book.writes ++ write ∷ []) [] (new.book.writes ++ write ∷ []) few
-            (rw refused.1 (sym (append-nil (old.book.writes ++ write ∷ [])))) found,
-      ),
-    )
+    found_amid (Some write) (inr refused) few (inr found) =
+        let later = found_with old.book new.book life old.book.mark (old.book.writes ++ write ∷ []) [] (new.book.writes ++ write ∷ [])
+        few (rw refused.1 (sym (append-nil (old.book.writes ++ write ∷ [])))) found in inr (refused.0, (write, later))
 
 -- ---- an event
 

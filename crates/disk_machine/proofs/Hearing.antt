@@ -15,7 +15,7 @@ use Rattle.disk_machine.specs.Room.{room_for}
 use Rattle.scsi_unit.specs.Background.{is_dead}
 use Rattle.disk_machine.specs.Asking.{counted, waits_behind, read_over, IsGivenUp, IsShownTo, IsDone, IsHonest}
 use Rattle.disk_machine.specs.Machine.{Machine, has_refused, under_way, carried}
-use Rattle.disk_machine.specs.Moves.{ServesAtRest, ServesOn, StaysSafe, is_behind}
+use Rattle.disk_machine.specs.Moves.{ServesAtRest, StaysSafe, is_behind}
 use Rattle.disk_machine.specs.declared.asked.Asked.{Asked}
 use Rattle.disk_machine.specs.declared.asked.Asked.TheVariants as asked
 use Rattle.window.specs.declared.done_fault.DoneFault.{DoneFault}
@@ -72,20 +72,17 @@ module _ (old new : Machine) (count : ℕ) (was : old.asked ≡ asked.Calls coun
   dead : (book : Book) → (unit_state new.disk.unit book).faulted ≡ true
   dead book = ap (λ s. s.unit.faulted) (given_up.refused.by_rules book)
 
-  given_up_serves : ServesOn old new
-  given_up_serves told book serves = record {
-    fits = given_up.refused.fits book serves.fits;
-    fewer = serves.fewer;
-    keeps = λ ours image left. rw same.size
-        (finds_same (state_of (medium_of old.disk)).size told image (unit_state old.disk.unit book) (unit_state new.disk.unit book)
-        (λ faulted. dead book) refl (serves.keeps ours image (leaves_no_more old new same reaches image left)));
-    all = λ none fine. absurd (false≢true (sym fine ∙ refuses));
-    faulted = λ refused. dead book;
-  }
-
   given_up_safe : StaysSafe old new
   given_up_safe = record {
-    serves = given_up_serves;
+    serves = λ told book serves. record {
+      fits = given_up.refused.fits book serves.fits;
+      fewer = serves.fewer;
+      keeps = λ ours image left. rw same.size
+          (finds_same (state_of (medium_of old.disk)).size told image (unit_state old.disk.unit book) (unit_state new.disk.unit book)
+          (λ faulted. dead book) refl (serves.keeps ours image (leaves_no_more old new same reaches image left)));
+      all = λ none fine. absurd (false≢true (sym fine ∙ refuses));
+      faulted = λ refused. dead book;
+    };
     leaves = leaves_no_more old new same reaches;
     goes_on = record {
       room = λ fits. record {

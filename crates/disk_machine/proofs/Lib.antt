@@ -3,6 +3,5 @@ pub mod Handing
 pub mod Hearing
 pub mod Events
 pub mod Playing
-pub mod PutOff
 pub mod Living
-pub mod Transferring
+pub mod PacketLaws

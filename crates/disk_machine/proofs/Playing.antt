@@ -1,6 +1,6 @@
 -- Packets, tokens, requests and steps, wherever the device is, and what they keep.
 use Rattle.std.proofs.Common.{◌≡◌, ◌≢◌, ◌⊎◌, inl, inr, ◌++◌, ◌&&◌, List, ℕ, Bool, true, length, ◌∙◌, ap, arith, [], zero, suc, false, refl}
-use Rattle.std.proofs.Common.{sym, subst, rules}
+use Rattle.std.proofs.Common.{sym, rules}
 use Rattle.journal.specs.Places.{Shape}
 use Rattle.window.specs.Story.{given}
 use Rattle.window.specs.declared.call.DeviceCall.{DeviceCall}
@@ -16,7 +16,7 @@ use Rattle.disk_machine.specs.Packets.{PlaysOut, waits_for, SendsIn, AnswersSetu
 use Rattle.disk_machine.specs.declared.asked.Asked.{Asked}
 use Rattle.disk_machine.specs.declared.waiting.Waiting.{Waiting}
 use Rattle.disk_machine.specs.declared.waiting.Waiting.TheVariants as waiting
-use Rattle.disk_machine.proofs.Handing.{IsSentStill, leaves_no_more, still, keeps_all}
+use Rattle.disk_machine.proofs.Handing.{leaves_no_more, still, keeps_all}
 use Rattle.window.specs.Window.{Window, state_of}
 use Rattle.spec.specs.Book.{Book}
 use Rattle.spec.specs.Conversation.{Conversation}
@@ -150,7 +150,7 @@ module _ {work : Work} (old new : Machine) (event : Event) (answer : Answer) (pl
   quiet_leaves book fits rests =
       let same : medium_of new.disk ≡ medium_of old.disk = ap (λ u. u.store.medium) (plays.step.rests book fits rests) in
       leaves_no_more old new
-      (subst (λ (w : Window). IsSentStill (medium_of old.disk) w) (sym same) (still (medium_of old.disk)))
+      (rw same (still (medium_of old.disk)))
       (omega (arith, ap (λ (w : Window). length w.seen.told.taken) same, ap (λ (s : Machine). under_way s.asked) others))
 
 -- a request

@@ -1,4 +1,4 @@
--- The room of a disk is enough, and what is read is in sight.
+-- The room of a disk is enough, and what is read is in sight; and why a start was refused.
 use Rattle.std.proofs.Common.{◌≡◌, ◌⊎◌, ◌<◌, ◌≤◌, ◌+◌, ◌++◌, [], ℕ, true, List, length, inl, inr, arith, refl, sym, ◌∙◌, ap, subst}
 use Rattle.std.proofs.Common.{false, length-append}
 use Rattle.std.specs.Prelude.{Option}

@@ -10,6 +10,7 @@ use Rattle.scsi_unit.specs.Calls.{most_sends_of}
 use Rattle.scsi_unit.specs.UnitValue.{IsOfSize}
 use Rattle.bot_machine.specs.Disk.{over}
 use Rattle.bot_machine.specs.Promising.{PromisesNone, QuietIn}
+-- handed on: that no call was refused from one moment to another, and in a start
 pub use Rattle.store_calls.specs.Rooms.{RefusesNothing, HasRoomToStart, HoldsImageLog}
 pub use Rattle.store_calls.specs.Rooms.{StartRefusesNothing}
 use Rattle.disk_machine.specs.Room.{most_sent, room_for}

@@ -5,7 +5,7 @@ use Rattle.std.proofs.lemmas.List.{nil_from_length}
 use Rattle.disk_machine.specs.Plays.{medium_of}
 use Rattle.disk_machine.specs.PuttingOff.{TellsNext, WaitsForSteps}
 use Rattle.disk_machine.specs.Refusals.{IsQuietPacket}
-use Rattle.disk_machine.proofs.PutOff.{plain_is_quiet, some_made, steps_fewer}
+use Rattle.disk_machine.proofs.PacketLaws.{plain_is_quiet, some_made, steps_fewer}
 use Rattle.disk_machine.proofs.Rooms.{some_book}
 use Rattle.disk_machine.proofs.Playing.{made_goes_on}
 use Rattle.disk_machine.proofs.machine.DiskMachine.put_off.Goals as goal

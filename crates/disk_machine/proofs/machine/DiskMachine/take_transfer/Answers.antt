@@ -1,7 +1,7 @@
 use Rattle.std.proofs.Common.{◌∙◌, ◌*◌, ℕ, inr, ap, sym, arith}
 use Rattle.disk_machine.specs.Packets.{TakesOut}
 use Rattle.disk_machine.specs.Transfers.{HasPacket, packet_at}
-use Rattle.disk_machine.proofs.Transferring.{size_stays, next_taken, taken_more, refused}
+use Rattle.disk_machine.proofs.PacketLaws.{size_stays, next_taken, taken_more, refused}
 use Rattle.disk_machine.proofs.machine.DiskMachine.take_transfer.Goals as goal
 use Rattle.disk_machine.proofs.machine.DiskMachine.take_transfer.Goals.{After-bulk_out-code}
 
