@@ -22,8 +22,7 @@ static const struct traffic traffics[] = {
     { "120 KiB with FUA", 240, false, true, 0, 0, 400 },
     { "4 KiB with FUA, at random", PAGE_BLOCKS, true, true, 0, 0, 2000 },
     { "4 KiB at random, a SYNCHRONIZE CACHE each 32", PAGE_BLOCKS, true, false, 0, 32, 3200 },
-    { "16 KiB at random, half of it READ, a SYNCHRONIZE CACHE each 64", 32, true, false, 50, 64,
-      2000 },
+    { "16 KiB at random, half READ, SYNCHRONIZE each 64", 32, true, false, 50, 64, 2000 },
 };
 
 static uint64_t seed;
