@@ -48,7 +48,10 @@ uint32_t usbdisk_blocks_read(struct usbdisk_blocks *blocks, uint64_t first, uint
 uint32_t usbdisk_blocks_write(struct usbdisk_blocks *blocks, uint64_t first, const uint8_t *bytes,
                               size_t count);
 
-/* Makes every accepted write durable. Answers 0; WRITE_REFUSED or FLUSH_REFUSED, as above; DEAD. */
+/* Makes every accepted write durable. Answers 0; WRITE_REFUSED or FLUSH_REFUSED, as above; DEAD.
+ *
+ * A write and a sync return when the device has nothing to do: they have it bring blocks of the
+ * record before home too, so that the next sync finds that done. */
 uint32_t usbdisk_blocks_sync(struct usbdisk_blocks *blocks);
 
 /* Nothing came for a while: brings home some of what was written. Answers true while more is left.
