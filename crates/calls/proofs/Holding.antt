@@ -1,5 +1,5 @@
 -- The first sectors that are read hold the log.
-use Rattle.std.proofs.Common.{◌≡◌, ◌<◌, ◌≤◌, ◌*◌, ◌∙◌, min, ℕ, List, [], ◌∷◌, length, sym, subst, ap, arith}
+use Rattle.std.proofs.Common.{◌≡◌, ◌<◌, ◌≤◌, ◌*◌, ◌∙◌, min, ℕ, List, [], ◌∷◌, Result, Ok, Err, IfOk, IfErr, MatchResult, length, sym, subst, ap, arith}
 use Rattle.medium.specs.Writes.{sector_of}
 use Rattle.journal.specs.Places.{Shape, first_home}
 use Rattle.journal.specs.Sectors.{IsSuper}
@@ -9,10 +9,14 @@ use Rattle.bot_machine.specs.Device.{Device}
 use Rattle.disk_machine.specs.Refusals.{HoldsImageLog, HoldsLog}
 use Rattle.disk_machine.specs.Machine.{Machine}
 use Rattle.store_calls.specs.Starts.{IsNoLength}
+use Rattle.store_calls.specs.MachineStart as stores
+use Rattle.store_calls.specs.StoreMachine as store
+use Rattle.store_calls.specs.declared.call_fault.CallFault.{CallFault}
 use Rattle.image_calls.specs.Reading.{Reading, IsSound, IsWhole, IsUntil}
 use Rattle.image_calls.specs.declared.reach.Reach.{Reach}
 use Rattle.image_calls.specs.declared.reach.Reach.TheVariants as reach
 use Rattle.recovery.specs.declared.start_fault.StartFault.{StartFault}
+use Rattle.calls.specs.Beginning.{HoldsRead, StoreIsNotStarted, StoreStartsOn}
 use Rattle.calls.specs.Starting.{StartsOn, IsRefusedOn}
 
 -- as many are read as lie before the first home sector, or as the device has
@@ -58,9 +62,39 @@ begins_on o sound whole content device near sectors s same many was =
           (holds o sound whole is starts.length_is content starts.on.0 starts.on.1))),
     )
 
+-- so does any window over it
+read : (o : Reading) (sound : IsSound o) (whole : IsWhole o) (content : List ℕ) → HoldsRead content o
+read o sound whole content = λ is length_is span room. holds o sound whole is length_is content span room
+
 -- none begins, as on what was read
-pub refused_on : (o : Reading) (content : List ℕ) (device : Device) (near : List ℕ) (sectors : ℕ) (why : StartFault) → near ≡ o.near
-    → sectors ≡ o.sectors → IsRefusedOn near sectors content device why → IsRefusedOn o.near o.sectors content device why
-refused_on o content device near sectors why same many was =
-    subst (λ (n : ℕ). IsRefusedOn o.near n content device why) many
-    (subst (λ (b : List ℕ). IsRefusedOn b sectors content device why) same was)
+pub refused_on : (o : Reading) (sound : IsSound o) (whole : IsWhole o) (content : List ℕ) (device : Device) (near : List ℕ) (sectors : ℕ)
+    (why : StartFault) → near ≡ o.near → sectors ≡ o.sectors → IsRefusedOn near sectors content device why
+    → IsRefusedOn o.near o.sectors content device why × HoldsRead content o
+refused_on o sound whole content device near sectors why same many was = (
+  subst (λ (n : ℕ). IsRefusedOn o.near n content device why) many
+      (subst (λ (b : List ℕ). IsRefusedOn b sectors content device why) same was),
+  read o sound whole content,
+)
+
+-- ---- a store
+
+store_starts : (o : Reading) (sound : IsSound o) (whole : IsWhole o) (content : List ℕ) (s : store.Machine)
+    → stores.StartsOn o.near o.sectors content s → StoreStartsOn content o s
+store_starts o sound whole content s starts = record {
+  starts = starts;
+  holds = λ is. starts.begins.holds (holds o sound whole is starts.length_is content starts.span starts.room);
+}
+
+-- a store that begins on what was read holds the log, or none begins
+pub store_on : (o : Reading) (sound : IsSound o) (whole : IsWhole o) (content near : List ℕ) (sectors : ℕ) (bytes : List ℕ) → near ≡ o.near
+    → sectors ≡ o.sectors → bytes ≡ content → (result : Result store.Machine CallFault) → IfOk result (stores.StartsOn near sectors bytes)
+    → IfErr result (stores.IsNotStarted near sectors bytes)
+    → MatchResult result (StoreStartsOn content o) (StoreIsNotStarted content o)
+store_on o sound whole content near sectors bytes same many held (Ok s) ok err = store_starts o sound whole content s
+    (subst (λ (b : List ℕ). stores.StartsOn o.near o.sectors b s) held (subst (λ (n : ℕ). stores.StartsOn o.near n bytes s) many
+    (subst (λ (b : List ℕ). stores.StartsOn b sectors bytes s) same ok)))
+store_on o sound whole content near sectors bytes same many held (Err why) ok err = (
+  subst (λ (b : List ℕ). stores.IsNotStarted o.near o.sectors b why) held (subst (λ (n : ℕ). stores.IsNotStarted o.near n bytes why) many
+      (subst (λ (b : List ℕ). stores.IsNotStarted b sectors bytes why) same err)),
+  read o sound whole content,
+)

@@ -17,7 +17,7 @@ use Rattle.disk_machine.specs.Moves.{begun, ServesAtRest, LeavesOfStart, HasRoom
 use Rattle.image_calls.specs.Reading.{Reading, unread, IsWhole}
 use Rattle.image_calls.specs.declared.reach.Reach.{Reach}
 use Rattle.image_calls.specs.declared.reach.Reach.TheVariants as reach
-use Rattle.calls.specs.Beginning.{BeginsStore, BeginsFormat, BeginsLog, BeginsMigration}
+use Rattle.calls.specs.Beginning.{HoldsRead, BeginsStore, BeginsFormat, BeginsLog, BeginsMigration}
 use Rattle.calls.specs.Handles.{Held}
 use Rattle.calls.specs.Recovers.{IsFirst}
 use Rattle.calls.specs.Reserve.{IsReserve}
@@ -64,7 +64,8 @@ IsRefusedOn near sectors content device why = (why ≡ start.NoMemory)
     × ((after : Window) × EndsIn first after why))
 
 -- A disk begins on what was read, or there is none. Where all before the first home sector was
--- read, it is all that events read of the log: none is refused a READ for want of sight of it.
+-- read, it is all that events read of the log: none is refused a READ for want of sight of it. So
+-- it is all that a refused start read.
 abbrev pub BeginsDisk : List ℕ → Reading → Device → Stage → Type 0
 BeginsDisk content o device (stage.Recovering b sectors) = ⊥
 BeginsDisk content o device (stage.Opening o') = ⊥
@@ -72,7 +73,8 @@ BeginsDisk content o device (stage.Disk s) = StartsOn o.near o.sectors content d
     × (o.reach ≡ reach.Near → HoldsLog s.disk)
 BeginsDisk content o device (stage.Store s) = ⊥
 BeginsDisk content o device (stage.Image s) = ⊥
-BeginsDisk content o device (stage.Failed why) = IsRefusedOn o.near o.sectors content device why
+BeginsDisk content o device (stage.Failed why) =
+    IsRefusedOn o.near o.sectors content device why × HoldsRead content o
 
 -- what was started begins
 abbrev pub BeginsAs : List ℕ → Purpose → Reading → Stage → Type 0

@@ -9,9 +9,7 @@ use crate::handle::UsbDisk;
 use crate::held::{Held, Stage};
 use crate::lending::held_in;
 use disk_machine::{ACK, BAD_LENGTH, EMPTY};
-use window::DeviceAsk;
-
-const SECTOR: usize = 512;
+use window::{DeviceAsk, SECTOR};
 
 /// The next call of the device, of which the bytes of writes go to the front of the buffer.
 pub fn next_call(h: &mut UsbDisk, call: &mut UsbDiskCall, buffer: &mut [u8]) -> u32

@@ -5,8 +5,7 @@ ghost use Rattle.journal.specs.Formats.{shape_of};
 
 use disk_machine::room_for;
 use journal::Super;
-
-const SECTOR: usize = 512;
+use window::SECTOR;
 
 /// For how many calls there is room where the first sectors are none of an image: as many as a
 /// start makes that has no record to bring home.

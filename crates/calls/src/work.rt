@@ -1,5 +1,6 @@
 //! A store, and the work on an image, begin where the first sectors of the device are read.
 ghost use Rattle.std.specs.Prelude.{◌≡◌, ℕ, List};
+ghost use Rattle.image_calls.specs.Reading.{IsWhole, IsSound};
 ghost use Rattle.calls.specs.Beginning.{BeginsStore, BeginsFormat, BeginsLog, BeginsMigration};
 ghost use Rattle.calls.specs.Beginning.{IsStore, IsImage, fault_of_call, fault_of_image};
 
@@ -13,6 +14,8 @@ use store_calls::{CallFault, StoreMachine, begin_machine};
 /// A store begins, or does not.
 pub(crate) fn begin_store(alloc: Global, opening: Opening) -> Stage
     ghost content: { List ℕ }
+    requires whole { IsWhole opening }
+    requires sound { IsSound opening }
     ensures { BeginsStore content opening result }
 {
     let sectors = opening.sectors();

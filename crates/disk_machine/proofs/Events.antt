@@ -28,7 +28,7 @@ use Rattle.bot_machine.proofs.BookLaws.{book_laws}
 use Rattle.disk_machine.specs.Plays.{medium_of, PlaysBy}
 use Rattle.disk_machine.specs.Machine.{Machine, MayLeave, Finds, Keeps, has_refused, under_way, carried, promising}
 use Rattle.disk_machine.specs.Moves.{ServesEvent}
-use Rattle.disk_machine.specs.declared.asked.Asked.{Asked}
+use Rattle.window.specs.declared.asked.Asked.{Asked}
 use Rattle.disk_machine.specs.declared.waiting.Waiting.TheVariants as waiting
 use Rattle.disk_machine.proofs.Handing.{KeepsAll}
 

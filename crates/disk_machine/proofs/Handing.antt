@@ -25,8 +25,8 @@ use Rattle.disk_machine.specs.Refused.{KeepsRest}
 use Rattle.disk_machine.specs.declared.lack.Lack.{Lack}
 use Rattle.window.specs.declared.ask.DeviceAsk.{DeviceAsk}
 use Rattle.window.specs.declared.ask.DeviceAsk.TheVariants as ask
-use Rattle.disk_machine.specs.declared.asked.Asked.{Asked}
-use Rattle.disk_machine.specs.declared.asked.Asked.TheVariants as asked
+use Rattle.window.specs.declared.asked.Asked.{Asked}
+use Rattle.window.specs.declared.asked.Asked.TheVariants as asked
 
 pub record Stands (old new : Machine) : Type 0 where
   pub others : IsRearmed old.disk new.disk

@@ -16,8 +16,8 @@ use Rattle.scsi_unit.specs.Background.{is_dead}
 use Rattle.disk_machine.specs.Asking.{counted, waits_behind, read_over, IsGivenUp, IsShownTo, IsDone, IsHonest}
 use Rattle.disk_machine.specs.Machine.{Machine, has_refused, under_way, carried}
 use Rattle.disk_machine.specs.Moves.{ServesAtRest, StaysSafe, is_behind}
-use Rattle.disk_machine.specs.declared.asked.Asked.{Asked}
-use Rattle.disk_machine.specs.declared.asked.Asked.TheVariants as asked
+use Rattle.window.specs.declared.asked.Asked.{Asked}
+use Rattle.window.specs.declared.asked.Asked.TheVariants as asked
 use Rattle.window.specs.declared.done_fault.DoneFault.{DoneFault}
 use Rattle.disk_machine.specs.declared.waiting.Waiting.{Waiting}
 use Rattle.disk_machine.specs.declared.waiting.Waiting.TheVariants as waiting

@@ -19,8 +19,8 @@ use Rattle.disk_machine.specs.Machine.{Machine, Serves, has_refused}
 use Rattle.disk_machine.specs.Turns.{Turn, played, refusal, TurnsRun, TurnsAreRun, turns_done, ticks, turns_one, turns_in, turns_ahead}
 use Rattle.disk_machine.specs.Turns.{turns_idle, turns_taken, turns_not_taken, turns_before, turns_of_taking, turns_at, turns_sent}
 use Rattle.disk_machine.specs.Turns.{turns_last, turns_of_sending, turns_into}
-use Rattle.disk_machine.specs.declared.asked.Asked.{Asked}
-use Rattle.disk_machine.specs.declared.asked.Asked.TheVariants as asked
+use Rattle.window.specs.declared.asked.Asked.{Asked}
+use Rattle.window.specs.declared.asked.Asked.TheVariants as asked
 use Rattle.disk_machine.proofs.Playing.{with_disk, steps_go_on, tick_serves}
 use Rattle.std.proofs.lemmas.Bool.{cases_Bool}
 use Rattle.std.proofs.lemmas.List.{append-nil}
@@ -195,8 +195,10 @@ idled old new (inr (free, makes, others)) on = stepped _ Settle makes.count old 
 
 gone_ahead : (old new : Machine) (gone : HasGoneAhead old new) → ServesOn old new → LivesOn old (turns_ahead old new gone) new
 gone_ahead old new (inl busy) on = nothing_changes old new busy.1
-gone_ahead old new (inr (rests, inl (some, writes), others)) on =
+gone_ahead old new (inr (rests, inl (some, inl (left, writes)), others)) on =
     stepped _ WriteBack writes.count old new writes.steps on
+gone_ahead old new (inr (rests, inl (some, inr stays), others)) on =
+    nothing_changes old new (others ∙ ap (λ (d : Disk). record old { disk = d }) stays.1)
 gone_ahead old new (inr (rests, inr (none, makes), others)) on = stepped _ Ahead makes.count old new makes.steps on
 
 looked : (old new : Machine) (first count : ℕ) (reads : Bool) → LooksAhead old first count new reads → LivesOn old [] new

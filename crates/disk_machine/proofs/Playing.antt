@@ -13,7 +13,7 @@ use Rattle.disk_machine.specs.Machine.{Machine, under_way, Serves, has_refused}
 use Rattle.disk_machine.specs.Moves.{KeepsGoing, HasRoomBeside, WaitsForDevice, LeavesNoMore, is_behind, ServesAtRest, ServesOn}
 use Rattle.disk_machine.specs.Moves.{ServesEvent, ServesToken}
 use Rattle.disk_machine.specs.Packets.{PlaysOut, waits_for, SendsIn, AnswersSetup, ServesOut}
-use Rattle.disk_machine.specs.declared.asked.Asked.{Asked}
+use Rattle.window.specs.declared.asked.Asked.{Asked}
 use Rattle.disk_machine.specs.declared.waiting.Waiting.{Waiting}
 use Rattle.disk_machine.specs.declared.waiting.Waiting.TheVariants as waiting
 use Rattle.disk_machine.proofs.Handing.{leaves_no_more, still, keeps_all}
@@ -266,6 +266,7 @@ idle_goes_on old new (inr made) = made_goes_on _ Settle made.1.count old new mad
 
 pub ahead_goes_on : (old new : Machine) → HasGoneAhead old new → GoesOn old new
 ahead_goes_on old new (inl busy) = rw busy.1 (itself old)
-ahead_goes_on old new (inr (rests, inl (some, writes), others)) =
+ahead_goes_on old new (inr (rests, inl (some, inl (left, writes)), others)) =
     made_goes_on _ WriteBack writes.count old new writes.steps others
+ahead_goes_on old new (inr (rests, inl (some, inr stays), others)) = rw others (rw stays.1 (itself old))
 ahead_goes_on old new (inr (rests, inr (none, makes), others)) = made_goes_on _ Ahead makes.count old new makes.steps others

@@ -6,7 +6,7 @@ use Rattle.scsi_unit.specs.UnitValue.{unit_limit}
 use Rattle.disk_machine.specs.Plays.{Disk, medium_of}
 use Rattle.disk_machine.specs.Machine.{Machine}
 use Rattle.disk_machine.specs.Moves.{StaysSafe}
-use Rattle.disk_machine.specs.declared.asked.Asked.TheVariants as asked
+use Rattle.window.specs.declared.asked.Asked.TheVariants as asked
 use Rattle.disk_machine.specs.declared.lack.Lack.TheVariants as lack
 
 -- The device is at no call, none waits for it, and since the last packet that was played it was

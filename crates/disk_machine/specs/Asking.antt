@@ -13,8 +13,8 @@ use Rattle.disk_machine.specs.Refused.{IsRefused, KeepsRest}
 use Rattle.disk_machine.specs.Machine.{Machine}
 use Rattle.window.specs.declared.ask.DeviceAsk.{DeviceAsk}
 use Rattle.window.specs.declared.ask.DeviceAsk.TheVariants as ask
-use Rattle.disk_machine.specs.declared.asked.Asked.{Asked}
-use Rattle.disk_machine.specs.declared.asked.Asked.TheVariants as asked
+use Rattle.window.specs.declared.asked.Asked.{Asked}
+use Rattle.window.specs.declared.asked.Asked.TheVariants as asked
 use Rattle.window.specs.declared.done_fault.DoneFault.{DoneFault}
 use Rattle.window.specs.declared.done_fault.DoneFault.TheVariants as fault
 use Rattle.disk_machine.specs.declared.lack.Lack.{Lack}

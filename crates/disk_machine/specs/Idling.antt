@@ -10,7 +10,8 @@ use Rattle.disk_machine.specs.Machine.{Machine}
 use Rattle.disk_machine.specs.Moves.{ServesOn, KeepsGoing}
 use Rattle.disk_machine.specs.Packets.{is_reading}
 use Rattle.disk_machine.specs.PuttingOff.{WritesOn}
-use Rattle.disk_machine.specs.declared.asked.Asked.TheVariants as asked
+use Rattle.disk_machine.specs.Refusals.{HasWritten}
+use Rattle.window.specs.declared.asked.Asked.TheVariants as asked
 use Rattle.disk_machine.specs.declared.lack.Lack.{Lack}
 use Rattle.disk_machine.specs.declared.lack.Lack.TheVariants as lack
 use Rattle.disk_machine.specs.declared.waiting.Waiting.{Waiting}
@@ -96,10 +97,15 @@ pub record IsResting (s : Machine) : Type 0 where
   pub nothing : is_waiting s.waiting ≡ false
   pub none_owed : owes_status s.disk.line.left ≡ false
 
+-- The record of a frozen batch is written, but by a disk that has faulted, which makes no step.
+abbrev pub WritesAtRest : ℕ → Disk → Disk → Type 0
+WritesAtRest most old new = ((¬ HasWritten old) × WritesOn most false WriteBack old new)
+    ⊎ (HasWritten old × (new ≡ old))
+
 -- The record of a frozen batch is written; where none is frozen, steps ahead are made.
 abbrev pub WorksAtRest : ℕ → Disk → Disk → Type 0
 WorksAtRest most old new =
-    ((old.unit.store.cached.frozen.numbers ≢ []) × WritesOn most false WriteBack old new)
+    ((old.unit.store.cached.frozen.numbers ≢ []) × WritesAtRest most old new)
     ⊎ ((old.unit.store.cached.frozen.numbers ≡ []) × MakesAhead most old new)
 
 -- so it does where the device rests

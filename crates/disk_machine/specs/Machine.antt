@@ -14,8 +14,8 @@ use Rattle.scsi_unit.specs.Books.{MayFind}
 use Rattle.scsi_unit.specs.UnitValue.{state_of as unit_state}
 use Rattle.bot_machine.specs.Disk.{FitsDisk}
 use Rattle.disk_machine.specs.Plays.{medium_of}
-use Rattle.disk_machine.specs.declared.asked.Asked.{Asked}
-use Rattle.disk_machine.specs.declared.asked.Asked.TheVariants as asked
+use Rattle.window.specs.declared.asked.Asked.{Asked}
+use Rattle.window.specs.declared.asked.Asked.TheVariants as asked
 use Rattle.disk_machine.specs.declared.machine.DiskMachine.{DiskMachine}
 use Rattle.disk_machine.specs.declared.waiting.Waiting.TheVariants as waiting
 

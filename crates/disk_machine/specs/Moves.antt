@@ -17,8 +17,8 @@ use Rattle.disk_machine.specs.Parts.{CoversParts}
 use Rattle.disk_machine.specs.Plays.{Disk, medium_of, layout_on}
 use Rattle.disk_machine.specs.Room.{room_for}
 use Rattle.disk_machine.specs.Machine.{Machine, MayLeave, Serves, IsCaughtUp, has_refused}
-use Rattle.disk_machine.specs.declared.asked.Asked.{Asked}
-use Rattle.disk_machine.specs.declared.asked.Asked.TheVariants as asked
+use Rattle.window.specs.declared.asked.Asked.{Asked}
+use Rattle.window.specs.declared.asked.Asked.TheVariants as asked
 use Rattle.window.specs.declared.state.MachineState.{MachineState}
 use Rattle.window.specs.declared.state.MachineState.TheVariants as state
 use Rattle.disk_machine.specs.declared.waiting.Waiting.{Waiting}

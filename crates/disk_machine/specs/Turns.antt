@@ -17,8 +17,8 @@ use Rattle.disk_machine.specs.Plays.{Disk}
 use Rattle.disk_machine.specs.PuttingOff.{WaitsForSteps, WaitsForCalls}
 use Rattle.disk_machine.specs.Transfers.{packet_at, TakesFirst, EndsTaking, TakesTransfer, SendsAt}
 use Rattle.disk_machine.specs.Transfers.{SendsFirst, EndsSending, SendsTransfer, SendsInto}
-use Rattle.disk_machine.specs.declared.asked.Asked.{Asked}
-use Rattle.disk_machine.specs.declared.asked.Asked.TheVariants as asked
+use Rattle.window.specs.declared.asked.Asked.{Asked}
+use Rattle.window.specs.declared.asked.Asked.TheVariants as asked
 
 -- an event and its answer; or the disk is told that its device refused a call
 pub data Turn : Type 0 where
@@ -97,7 +97,8 @@ turns_idle old new (inl held) = []
 turns_idle old new (inr (free, makes, others)) = ticks makes.count
 
 abbrev pub ticks_at_rest : (most : ℕ) (old new : Disk) → WorksAtRest most old new → List Turn
-ticks_at_rest most old new (inl (some, writes)) = ticks writes.count
+ticks_at_rest most old new (inl (some, inl (left, writes))) = ticks writes.count
+ticks_at_rest most old new (inl (some, inr stays)) = []
 ticks_at_rest most old new (inr (none, makes)) = ticks makes.count
 
 abbrev pub turns_ahead : (old new : Machine) → HasGoneAhead old new → List Turn

@@ -2,11 +2,10 @@
 ghost use Rattle.std.specs.Prelude.{IsTrue, ◌↔◌};
 ghost use Rattle.disk_machine.specs.Ahead.{AreReadable, IsFree, LooksAhead};
 
-use crate::asked::Asked;
 use crate::lack::Lack;
 use crate::machine::DiskMachine;
 use medium::Medium;
-use window::DeviceRead;
+use window::{Asked, DeviceRead};
 
 impl DiskMachine {
     /// The device is to read these sectors before a READ lacks them, as many as one READ moves at

@@ -4,13 +4,12 @@ ghost use Rattle.store_calls.specs.Outbox.{IsNoRoom};
 ghost use Rattle.disk_machine.specs.Plays.{medium_of};
 ghost use Rattle.disk_machine.specs.Asking.{AsksFor, IsOvertaken};
 ghost use Rattle.disk_machine.specs.Moves.{StaysSafe};
-ghost use Rattle.disk_machine.specs.declared.asked.Asked.TheVariants as asked;
+ghost use Rattle.window.specs.declared.asked.Asked.TheVariants as asked;
 
-use crate::asked::Asked;
 use crate::lack::Lack;
 use crate::machine::DiskMachine;
 use crate::run::gather;
-use window::{DeviceAsk, DeviceCall};
+use window::{Asked, DeviceAsk, DeviceCall};
 
 impl DiskMachine {
     /// What the device is to do next: nothing as long as it has not told the last call done. The

@@ -5,7 +5,6 @@
 #![tactic(auto)]
 
 mod ahead;
-mod asked;
 mod codes;
 mod device;
 mod identity;
@@ -27,7 +26,6 @@ mod transfers;
 mod waiting;
 mod wanted;
 
-pub use asked::Asked;
 pub use codes::{
     ACK, BAD_IDENTITY, BAD_LENGTH, BAD_PACKET_SIZE, BAD_RANGE, BAD_SIZES, DEAD, EMPTY, NAK, STALL,
     STARTED, TOO_LONG, UNREAD, number_of,

@@ -3,13 +3,12 @@ ghost use Rattle.std.specs.Prelude.{◌≡◌};
 ghost use Rattle.disk_machine.specs.Moves.{ServesAtRest, BeginsBehind, WaitsForDevice};
 ghost use Rattle.disk_machine.specs.Moves.{begun, state_by, state_of};
 
-use crate::asked::Asked;
 use crate::lack::Lack;
 use crate::play::foresee;
 use crate::waiting::Waiting;
 use bot_machine::Disk;
 use medium::Medium;
-use window::{MachineState, WindowMedium};
+use window::{Asked, MachineState, WindowMedium};
 
 /// A disk that says what its device is to do next, one call at a time, and takes packets while the
 /// device does it.

@@ -8,14 +8,13 @@ ghost use Rattle.disk_machine.specs.Moves.{is_behind};
 ghost use Rattle.disk_machine.specs.PuttingOff.{IsPromise};
 ghost use Rattle.disk_machine.specs.declared.lack.Lack.TheVariants as lack;
 
-use crate::asked::Asked;
 use crate::codes::{NAK, TOO_LONG};
 use crate::lack::Lack;
 use crate::machine::DiskMachine;
 use crate::play::play_packet;
 use crate::waiting::Waiting;
 use crate::wanted::unseen;
-use window::DeviceRead;
+use window::{Asked, DeviceRead};
 
 impl DiskMachine {
     /// A packet to Bulk-Out, and the number of its answer. It is told to come again while the
@@ -106,10 +105,7 @@ impl DiskMachine {
     fn lacks(&self, packet: &[u8]) -> Option<DeviceRead>
         ensures { MatchOption result (LacksNone self.now packet.now) (Lacks self.now packet.now) }
     {
-        let Some((first, count)) = unseen(&self.disk, packet) else {
-            return None;
-        };
-        let home = DeviceRead { first, count };
+        let home = unseen(&self.disk, packet)?;
         if self.is_unread(home) {
             return None;
         }

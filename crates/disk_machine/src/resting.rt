@@ -3,13 +3,12 @@ ghost use Rattle.std.specs.Prelude.{◌≡◌, ◌↔◌, IsTrue};
 ghost use Rattle.disk_machine.specs.Idling.{HasGoneAhead, IsResting, MakesAhead};
 ghost use Rattle.disk_machine.specs.Idling.{WorksAhead, WorksAtRest};
 
-use crate::asked::Asked;
 use crate::machine::DiskMachine;
 use crate::play::make_step;
 use crate::putting_off::write_records;
 use bot_machine::{Disk, Work};
 use medium::Medium;
-use window::WindowMedium;
+use window::{Asked, WindowMedium};
 
 // How many steps are made at most: the head goes past a record, and each block of the next goes
 // home, of which the longest record has 240.
@@ -49,13 +48,14 @@ impl DiskMachine {
     }
 }
 
-// The record of a frozen batch is written, and where none is frozen, steps ahead are made.
+// The record of a frozen batch is written, and where none is frozen, steps ahead are made. A disk
+// that has faulted tells a frozen batch, and none left to write.
 fn work_at_rest(disk: &mut Disk<WindowMedium>, most: usize)
     ensures { WorksAtRest most disk.old disk.new }
 {
     if disk.has_free_batch() {
         steps_ahead(disk, most);
-    } else {
+    } else if !disk.is_written() {
         write_records(disk, most, false, Work::WriteBack);
     }
 }

@@ -4,9 +4,7 @@ ghost use Rattle.disk_machine.specs.Plays.{medium_of};
 ghost use Rattle.disk_machine.specs.Refused.{KeepsRest};
 
 use bot_machine::Disk;
-use window::WindowMedium;
-
-const SECTOR: usize = 512;
+use window::{SECTOR, WindowMedium};
 
 /// Lets go of writes to the sectors from this one on, as long as they wait first and have room, and
 /// copies their bytes. How many they were.

@@ -4,15 +4,12 @@ ghost use Rattle.disk_machine.specs.Asking.{Hears, IsDone, IsHonest, HasRead};
 ghost use Rattle.disk_machine.specs.Asking.{IsGivenUp, counted, is_ahead, read_over};
 ghost use Rattle.disk_machine.specs.Moves.{StaysSafe, ServesAtRest};
 
-use crate::asked::Asked;
 use crate::lack::Lack;
 use crate::machine::DiskMachine;
 use crate::play::show_sectors;
 use crate::refused::refuse;
 use crate::waiting::Waiting;
-use window::{DeviceRead, DoneFault};
-
-const SECTOR: usize = 512;
+use window::{Asked, DeviceRead, DoneFault, SECTOR};
 
 impl DiskMachine {
     /// What the device was asked for last has ended, good or not; of a read these are the bytes of

@@ -12,7 +12,7 @@ use Rattle.window.proofs.OutboxCalls as asked
 use Rattle.window.specs.Window.{Window, state_of, mirror_of, reads, misses, gives}
 use Rattle.window.specs.WindowLaws.{is_sound}
 use Rattle.window.proofs.SectorsRead.{passes_read, looks_read, looks_missed, passes_given}
-use Rattle.window.proofs.Asked.{passes_missed, content_missed, sets_missed}
+use Rattle.window.proofs.OneCall.{passes_missed, content_missed, sets_missed}
 
 -- a sector was read, and the device holds these bytes there
 pub read_performed : (n : Window) (place : ℕ) (bytes got : List ℕ) → got ≡ (state_of n).content place

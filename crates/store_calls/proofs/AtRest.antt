@@ -12,7 +12,7 @@ use Rattle.blocks.specs.StoreValue.{FitsBook}
 use Rattle.store_calls.specs.Rooms.{CoversParts}
 use Rattle.store_calls.specs.Serving.{ServesAtRest, BeginsBehind}
 use Rattle.store_calls.specs.StoreMachine.{Machine, IsCaughtUp, MayLeave, under_way}
-use Rattle.store_calls.specs.declared.asked.Asked.{Asked}
+use Rattle.window.specs.declared.asked.Asked.{Asked}
 
 module _ (s : Machine) (parts : (new : Window) → ComesAfter s.store.medium new → CoversParts s.store.medium new)
     (at_rest : (book : Book) → FitsBook (state_of s.store.medium) s.store.cached book → book.ours ≡ true

@@ -26,8 +26,8 @@ use Rattle.store_calls.specs.Stores.{Store}
 use Rattle.window.specs.declared.ask.DeviceRead.{DeviceRead}
 use Rattle.store_calls.specs.Transfers.{IsDoneFree, Accepts, Waits, Promises, PutsOff}
 use Rattle.store_calls.specs.declared.store_fault.StoreFault.{StoreFault}
-use Rattle.store_calls.specs.declared.asked.Asked.{Asked}
-use Rattle.store_calls.specs.declared.asked.Asked.TheVariants as asked
+use Rattle.window.specs.declared.asked.Asked.{Asked}
+use Rattle.window.specs.declared.asked.Asked.TheVariants as asked
 use Rattle.store_calls.proofs.Served.{appends_none}
 use Rattle.store_calls.proofs.WrittenBack.{some_made}
 use Rattle.store_calls.proofs.Standing.{IsSentStill, stays_safe, left_on, keeps_going, wishes}

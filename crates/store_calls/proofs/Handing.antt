@@ -16,8 +16,8 @@ use Rattle.store_calls.specs.Asking.{AsksFor, HandsOut}
 use Rattle.store_calls.specs.Outbox.{without, writes_of, IsRun}
 use Rattle.store_calls.specs.Serving.{StaysSafe}
 use Rattle.store_calls.specs.StoreMachine.{Machine, under_way, is_behind}
-use Rattle.store_calls.specs.declared.asked.Asked.{Asked}
-use Rattle.store_calls.specs.declared.asked.Asked.TheVariants as asked
+use Rattle.window.specs.declared.asked.Asked.{Asked}
+use Rattle.window.specs.declared.asked.Asked.TheVariants as asked
 use Rattle.store_calls.proofs.Standing.{IsSentStill, Stands, stays_safe, store_stays, nothing_changes}
 
 one_goes : (calls : List DeviceCall) (w : Window) → w.outbox ≡ calls → sent (mirror_of (take_first calls w)) ≡ sent (mirror_of w)

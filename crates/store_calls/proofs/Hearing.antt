@@ -12,8 +12,8 @@ use Rattle.store_calls.specs.Calls.{Sees}
 use Rattle.store_calls.specs.Serving.{StaysSafe, WaitsForDevice}
 use Rattle.store_calls.specs.StoreMachine.{Machine, is_some, is_behind, under_way, carried}
 use Rattle.store_calls.specs.Stores.{Store}
-use Rattle.store_calls.specs.declared.asked.Asked.{Asked}
-use Rattle.store_calls.specs.declared.asked.Asked.TheVariants as asked
+use Rattle.window.specs.declared.asked.Asked.{Asked}
+use Rattle.window.specs.declared.asked.Asked.TheVariants as asked
 use Rattle.store_calls.proofs.Handing.{some_go, taken_by}
 use Rattle.store_calls.proofs.Standing.{IsSentStill, Stands, same_sent, stays_safe, store_stays, nothing_changes}
 

@@ -17,7 +17,8 @@ use Rattle.blocks.specs.Turns.{IsReadCause}
 use Rattle.blocks.specs.declared.fault.StoreFault.{StoreFault}
 use Rattle.blocks.specs.declared.fault.StoreFault.TheVariants.{ReadFault, Dead}
 use Rattle.store_calls.specs.Stores.{Store}
-use Rattle.store_calls.specs.Rooms.{RefusesNothing, Foresees, TakesCalls, HoldsLog, Appends, AreInSight}
+use Rattle.store_calls.specs.Rooms.{RefusesNothing, Foresees, TakesCalls, HoldsLog, Appends}
+use Rattle.window.specs.Sight.{AreInSight}
 use Rattle.store_calls.specs.Rooms.{HasRoomToStart, StartRefusesNothing}
 use Rattle.blocks.proofs.SectorsRead.{none}
 

@@ -17,7 +17,7 @@ use Rattle.store_calls.specs.Rooms.{room_for}
 use Rattle.store_calls.specs.Serving.{StaysSafe, KeepsGoing, WaitsForDevice, LeavesNoMore, LeavesSince, ServesOn}
 use Rattle.store_calls.specs.StoreMachine.{Machine, LeavesOf, carried, is_behind, under_way}
 use Rattle.store_calls.specs.Stores.{Store}
-use Rattle.store_calls.specs.declared.asked.Asked.{Asked}
+use Rattle.window.specs.declared.asked.Asked.{Asked}
 
 -- what was sent stays, however much of it has left the outbox
 pub record IsSentStill (old new : Window) : Type 0 where

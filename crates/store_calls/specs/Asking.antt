@@ -16,8 +16,8 @@ use Rattle.store_calls.specs.Outbox.{without, IsLongestRun, IsNoRoom}
 use Rattle.store_calls.specs.Refused.{IsRefused}
 use Rattle.store_calls.specs.Serving.{StaysSafe, Rests}
 use Rattle.store_calls.specs.StoreMachine.{Machine}
-use Rattle.store_calls.specs.declared.asked.Asked.{Asked}
-use Rattle.store_calls.specs.declared.asked.Asked.TheVariants as asked
+use Rattle.window.specs.declared.asked.Asked.{Asked}
+use Rattle.window.specs.declared.asked.Asked.TheVariants as asked
 use Rattle.store_calls.specs.declared.lack.Lack.{Lack}
 use Rattle.store_calls.specs.declared.lack.Lack.TheVariants as lack
 

@@ -86,20 +86,6 @@ pub record Appends (Room : Type 0) (old new : Store) : Type 0 where
   pub served : IsServed old.medium new.medium
   pub refuses : RefusesNothing Room (HoldsLog old) old.medium new.medium
 
--- each of count sectors from `home` on is in sight
-abbrev pub AreInSight : Window → ℕ → ℕ → Type 0
-AreInSight m home count = (s : ℕ) → home ≤ s → s < home + count → is_in_sight m s ≡ true
-
--- The sectors of a device that are to be shown, of count home sectors from `home` on: those behind
--- the first ones, which lie in memory, and not all of them are in sight.
-pub record AreMissing (m : Window) (home count first missing : ℕ) : Type 0 where
-  pub some : 0 < missing
-  pub few : missing ≤ 240
-  pub begin : first ≡ max home m.near
-  pub end : first + missing ≡ home + count
-  pub on_device : first + missing ≤ (state_of m).size
-  pub unseen : m.from ≤ first → m.from + m.held < first + missing
-
 -- ---- a start
 
 -- the first sectors begin with the super of an image that wants more room than this

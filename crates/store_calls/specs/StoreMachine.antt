@@ -15,8 +15,8 @@ use Rattle.blocks.specs.StoreValue.{FitsBook}
 use Rattle.window.specs.declared.state.MachineState.{MachineState}
 use Rattle.window.specs.declared.state.MachineState.TheVariants as state
 use Rattle.store_calls.specs.Stores.{Store}
-use Rattle.store_calls.specs.declared.asked.Asked.{Asked}
-use Rattle.store_calls.specs.declared.asked.Asked.TheVariants as asked
+use Rattle.window.specs.declared.asked.Asked.{Asked}
+use Rattle.window.specs.declared.asked.Asked.TheVariants as asked
 use Rattle.store_calls.specs.declared.lack.Lack.TheVariants as lack
 use Rattle.store_calls.specs.declared.machine.StoreMachine.{StoreMachine}
 

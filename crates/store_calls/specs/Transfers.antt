@@ -15,13 +15,14 @@ use Rattle.store_calls.specs.Calls.{IsWritten, CostsWrite}
 use Rattle.store_calls.specs.Asking.{to_read}
 use Rattle.store_calls.specs.Idling.{GoesAhead, TellsLeft}
 use Rattle.store_calls.specs.WritingBack.{IsLeft, WritesBack}
-use Rattle.store_calls.specs.Rooms.{Appends, AreInSight, AreMissing, IsRoomy}
+use Rattle.window.specs.Sight.{AreInSight, AreMissing}
+use Rattle.store_calls.specs.Rooms.{Appends, IsRoomy}
 use Rattle.store_calls.specs.Stores.{Store}
 use Rattle.store_calls.specs.Serving.{LeavesNoMore, LeavesSince, ServesOn, KeepsGoing}
 use Rattle.store_calls.specs.Serving.{StaysSafe}
 use Rattle.store_calls.specs.StoreMachine.{Machine, IsCaughtUp, Serves}
-use Rattle.store_calls.specs.declared.asked.Asked.{Asked}
-use Rattle.store_calls.specs.declared.asked.Asked.TheVariants as asked
+use Rattle.window.specs.declared.asked.Asked.{Asked}
+use Rattle.window.specs.declared.asked.Asked.TheVariants as asked
 use Rattle.store_calls.specs.declared.writing_back.Aim.{Aim}
 use Rattle.store_calls.specs.declared.writing_back.Aim.TheVariants as aim
 use Rattle.store_calls.specs.declared.lack.Lack.{Lack}

@@ -2,11 +2,10 @@
 ghost use Rattle.std.specs.Prelude.{◌≡◌, None};
 ghost use Rattle.store_calls.specs.Asking.{AsksIdle, TellsNext, HasRoomFor, to_read};
 
-use crate::asked::Asked;
 use crate::lack::Lack;
 use crate::machine::StoreMachine;
 use crate::run::gather;
-use window::{DeviceAsk, DeviceCall};
+use window::{Asked, DeviceAsk, DeviceCall};
 
 impl StoreMachine {
     /// What the device is to do next: nothing as long as it has not told the last call done. The

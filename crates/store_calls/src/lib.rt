@@ -6,7 +6,6 @@
 //! again: so the outbox has room for few calls.
 #![tactic(auto)]
 
-mod asked;
 mod background;
 mod call_fault;
 mod device;
@@ -28,7 +27,6 @@ mod transfers;
 mod writing;
 mod writing_back;
 
-pub use asked::Asked;
 pub use blocks::StartFault;
 pub use call_fault::CallFault;
 pub use lack::Lack;

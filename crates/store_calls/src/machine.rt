@@ -4,11 +4,10 @@ ghost use Rattle.blocks.specs.StoreValue.{blocks_of, transfer_limit};
 ghost use Rattle.store_calls.specs.StoreMachine.{stage_of, stage_by, IsCaughtUp};
 ghost use Rattle.store_calls.specs.Serving.{BeginsOver, Rests};
 
-use crate::asked::Asked;
 use crate::lack::Lack;
 use crate::sizes::Sizes;
 use blocks::Store;
-use window::{MachineState, WindowMedium, device_laws};
+use window::{Asked, MachineState, WindowMedium, device_laws};
 
 /// A store that says what its device is to do next, one call at a time. What it is asked for is
 /// done where the device has carried out all that it was told, or needs no call of it.

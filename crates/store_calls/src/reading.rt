@@ -2,24 +2,18 @@
 ghost use Rattle.std.specs.Prelude.{◌≡◌, ◌<◌, ◌≤◌, ◌+◌, ◌/◌, None, IfSome, OnOk, IfErr, length};
 ghost use Rattle.journal.specs.Places.{first_home};
 ghost use Rattle.blocks.specs.StoreValue.{layout_of, blocks_of};
-ghost use Rattle.store_calls.specs.Rooms.{AreInSight, AreMissing, Foresees};
+ghost use Rattle.window.specs.Sight.{AreInSight, AreMissing};
+ghost use Rattle.store_calls.specs.Rooms.{Foresees};
 ghost use Rattle.store_calls.specs.Calls.{MayMove, MayNotMove};
 ghost use Rattle.store_calls.specs.Calls.{IsRead, IsUnread, home_of};
 
 use crate::CallFault;
 use blocks::Store;
 use medium::Medium;
-use window::{WindowMedium, device_laws};
+use window::{DeviceRead, WindowMedium, device_laws};
 
 /// How many bytes a block has.
 pub(crate) const BLOCK: usize = 512;
-
-/// The home sectors that are to be shown before some blocks are read: the first, and how many.
-#[derive(Clone, Copy)]
-pub struct Missing {
-    pub first: u64,
-    pub count: u32,
-}
 
 // Does nothing. The laws of the outbox say of all that may come what it is for the device, and that
 // none of it is refused for which there is room.
@@ -53,9 +47,8 @@ pub(crate) fn may_move(
     Ok(())
 }
 
-// Those of the home sectors of `count` blocks that are neither in memory nor in sight: all from the
-// first of them on.
-pub(crate) fn unseen(store: &Store<WindowMedium>, address: u64, count: u32) -> Option<Missing>
+// Those of the home sectors of `count` blocks that are to be shown before these are read.
+pub(crate) fn unseen(store: &Store<WindowMedium>, address: u64, count: u32) -> Option<DeviceRead>
     requires some { 0 < count }
     requires few { count ≤ 240 }
     requires inside { address + count ≤ blocks_of store.now.cached }
@@ -65,17 +58,7 @@ pub(crate) fn unseen(store: &Store<WindowMedium>, address: u64, count: u32) -> O
         → AreInSight store.now.medium (home_of store.now address) count }
 {
     let home = store.home_of(address);
-    let _sectors = store.medium().sectors();
-    let end = home + u64::from(count);
-    let first = home.max(store.medium().near());
-    if end <= first {
-        return None;
-    }
-    let count = (end - first) as u32;
-    if store.medium().holds(first, u64::from(count)) {
-        return None;
-    }
-    Some(Missing { first, count })
+    store.medium().lacking(home, count)
 }
 
 // Reads blocks whose home sectors are in sight.

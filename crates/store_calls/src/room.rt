@@ -3,8 +3,7 @@ ghost use Rattle.std.specs.Prelude.{◌≡◌, ◌<◌, ◌↔◌, IsTrue};
 ghost use Rattle.store_calls.specs.Rooms.{most_left, WantsMore};
 
 use journal::Super;
-
-const SECTOR: usize = 512;
+use window::SECTOR;
 
 /// How many calls wait at most when a step is made.
 pub(crate) const MOST_WAITING: usize = 63;

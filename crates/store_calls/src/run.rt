@@ -3,9 +3,8 @@ ghost use Rattle.blocks.specs.Passing.{IsUntouched};
 ghost use Rattle.window.specs.Window.{state_of};
 ghost use Rattle.store_calls.specs.Outbox.{IsLongestRun};
 
-use crate::reading::BLOCK;
 use blocks::Store;
-use window::WindowMedium;
+use window::{SECTOR, WindowMedium};
 
 // Lets go of writes to the sectors from this one on, as long as they wait first and have room, and
 // copies their bytes. How many they were.
@@ -13,7 +12,7 @@ pub(crate) fn gather(store: &mut Store<WindowMedium>, first: u64, to: &mut [u8])
     ensures run { IsLongestRun store.old.medium store.new.medium first result to.old to.new }
     ensures untouched { IsUntouched state_of store.old store.new }
 {
-    let most = to.len() / BLOCK;
+    let most = to.len() / SECTOR;
     for at in 0..most {
         if !store.medium().copy_first(first, at as u64, to) {
             return at;

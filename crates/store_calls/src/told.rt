@@ -3,13 +3,11 @@ ghost use Rattle.std.specs.Prelude.{◌≡◌};
 ghost use Rattle.store_calls.specs.Asking.{Ends, EndsAs, EndsRead};
 ghost use Rattle.store_calls.specs.Asking.{EndsRefused, carried_out, read_ended};
 
-use crate::asked::Asked;
 use crate::lack::Lack;
 use crate::machine::StoreMachine;
 use crate::outbox::show_sectors;
-use crate::reading::BLOCK;
 use crate::refused::refuse;
-use window::{DeviceRead, DoneFault};
+use window::{Asked, DeviceRead, DoneFault, SECTOR};
 
 impl StoreMachine {
     /// What the device was asked for last has ended, good or not; of a read these are the bytes of
@@ -75,7 +73,7 @@ impl StoreMachine {
             self.end_read(home, false);
             return Ok(());
         }
-        if bytes.len() != BLOCK * home.count as usize {
+        if bytes.len() != SECTOR * home.count as usize {
             return Err(DoneFault::BadLength);
         }
         let taken = show_sectors(&mut self.store, home.first, bytes);

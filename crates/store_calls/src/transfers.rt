@@ -3,13 +3,12 @@ ghost use Rattle.std.specs.Prelude.{◌≡◌, ◌↔◌, ◌/◌, length};
 ghost use Rattle.std.specs.Prelude.{IsTrue, OnOk, IfErr, MatchResult};
 ghost use Rattle.window.specs.declared.ask.DeviceRead.{DeviceRead};
 ghost use Rattle.store_calls.specs.Calls.{MayMove, home_of};
-ghost use Rattle.store_calls.specs.Rooms.{AreInSight};
+ghost use Rattle.window.specs.Sight.{AreInSight};
 ghost use Rattle.store_calls.specs.Transfers.{MayNot, Reads, ReadsOn, ReadsNone, Waits};
 ghost use Rattle.store_calls.specs.Transfers.{Writes, Syncs, IdlesStore, IsIdle};
 ghost use Rattle.store_calls.specs.declared.lack.Lack.TheVariants as lack;
 
 use crate::CallFault;
-use crate::asked::Asked;
 use crate::background::make_steps;
 use crate::lack::Lack;
 use crate::machine::StoreMachine;
@@ -17,7 +16,7 @@ use crate::reading::{BLOCK, foresee, may_move, read_seen, unseen};
 use crate::store_fault::StoreFault;
 use crate::writing::put_blocks;
 use crate::writing_back::{Aim, write_records};
-use window::DeviceRead;
+use window::{Asked, DeviceRead};
 
 impl StoreMachine {
     /// Reads 1 to `limit` blocks from a block on, as they are after all accepted writes.
@@ -34,10 +33,7 @@ impl StoreMachine {
         self.may_move(block, to.len())?;
         let count = (to.len() / BLOCK) as u32;
         match unseen(&self.store, block, count) {
-            Some(missing) => Err(self.miss(DeviceRead {
-                first: missing.first,
-                count: missing.count,
-            })),
+            Some(missing) => Err(self.miss(missing)),
             None => self.read_in_sight(block, to),
         }
     }

@@ -7,5 +7,6 @@ returns-in-Ok g c = begins_on c.args.opening c.requires.1 c.requires.0 g.content
     c.sectors-sectors.ensures c.in-Ok.ensures
 
 pub returns-in-Err : goal.returns-in-Err
-returns-in-Err g c = refused_on c.args.opening g.content (device_by c.args.identity c.args.size Ahead) _ _ c.in-Err.why c.into_near.ensures
+returns-in-Err g c = refused_on c.args.opening c.requires.1 c.requires.0 g.content
+    (device_by c.args.identity c.args.size Ahead) _ _ c.in-Err.why c.into_near.ensures
     c.sectors-sectors.ensures c.in-Err.ensures

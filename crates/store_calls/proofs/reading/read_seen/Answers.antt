@@ -4,7 +4,8 @@ use Rattle.medium.specs.Sent.{SendsUpTo}
 use Rattle.blocks.specs.Passing.{KeepsStore}
 use Rattle.blocks.specs.Turns.{IsTurn}
 use Rattle.store_calls.specs.Stores.{Store}
-use Rattle.store_calls.specs.Rooms.{Foresees, AreInSight}
+use Rattle.window.specs.Sight.{AreInSight}
+use Rattle.store_calls.specs.Rooms.{Foresees}
 use Rattle.store_calls.specs.Calls.{KeepsAll, home_of}
 use Rattle.store_calls.proofs.Served.{appends_read, unread}
 use Rattle.store_calls.proofs.reading.read_seen.Goals as goal

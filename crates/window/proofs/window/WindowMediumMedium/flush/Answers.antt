@@ -4,7 +4,7 @@ use Rattle.window.specs.Story.{given}
 use Rattle.window.specs.MirrorLaws.{is_sound}
 use Rattle.window.specs.Seen.{refused}
 use Rattle.window.specs.Window.{mirror_of}
-use Rattle.window.proofs.Asked.{seen_on, given_on, refused_leaves, given_leaves}
+use Rattle.window.proofs.OneCall.{seen_on, given_on, refused_leaves, given_leaves}
 use Rattle.window.proofs.OutboxCalls.{given_none, given_some, whole_more, after-append}
 use Rattle.window.proofs.window.WindowMediumMedium.flush.Goals as goal
 
