@@ -1,6 +1,6 @@
 //! The numbers and the bytes of a sector.
-ghost use Rattle.std.specs.Prelude.{◌≡◌, ◌≤◌, ◌<◌, ◌*◌, ◌^◌, ◌+◌, ◌++◌, ◌∷◌, ◌↔◌};
-ghost use Rattle.std.specs.Prelude.{[], List, ℕ, length, All, slice_index, slice_range, IsTrue};
+ghost use Rattle.std.specs.Prelude.{◌≡◌, ◌≤◌, ◌<◌, ◌*◌, ◌^◌, ◌+◌, ◌++◌, ◌↔◌};
+ghost use Rattle.std.specs.Prelude.{List, ℕ, length, All, slice_index, slice_range, IsTrue};
 ghost use Rattle.byteorder.specs.Endian.{little_bytes};
 ghost use Rattle.journal.specs.Sectors.{padded, spelling, number_in, mark, AreItems, IsRising};
 ghost use Rattle.journal.specs.Sectors.{HasZeroRest};
@@ -17,9 +17,8 @@ pub(crate) fn mark_number(text: &[u8; 8]) -> u64
 
 /// Writes these bytes behind those that are written.
 #[tactic(auto, using(crate::proofs::SectorNumbers::padded_put))]
-pub(crate) fn append(sector: &mut [u8], at: usize, part: &[u8])
-    requires size { length sector.old ≡ 512 }
-    requires inside { at + length part.now ≤ 512 }
+pub(crate) fn append(sector: &mut [u8; 512], at: usize, part: &[u8])
+    requires { at + length part.now ≤ 512 }
     ensures { (before : List ℕ) → length before ≡ at → sector.old ≡ padded before
         → sector.new ≡ padded (before ++ part.now) }
 {
@@ -27,9 +26,8 @@ pub(crate) fn append(sector: &mut [u8], at: usize, part: &[u8])
 }
 
 /// Writes the eight bytes of this number behind those that are written.
-pub(crate) fn append_number(sector: &mut [u8], at: usize, number: u64)
-    requires size { length sector.old ≡ 512 }
-    requires inside { at + 8 ≤ 512 }
+pub(crate) fn append_number(sector: &mut [u8; 512], at: usize, number: u64)
+    requires { at + 8 ≤ 512 }
     ensures { (before : List ℕ) → length before ≡ at → sector.old ≡ padded before
         → sector.new ≡ padded (before ++ little_bytes 8 number) }
 {
@@ -48,25 +46,22 @@ pub(crate) fn eight_at(bytes: &[u8], at: usize) -> [u8; 8]
     eight
 }
 
-// Writes the i-th number of a sector.
-fn put(sector: &mut [u8], i: usize, number: u64)
-    requires size { length sector.old ≡ 512 }
-    requires inside { 8 * i + 8 ≤ 512 }
-    ensures { (numbers : List ℕ) → length numbers ≡ i → sector.old ≡ spelling numbers
-        → sector.new ≡ spelling (numbers ++ number ∷ []) }
+/// Writes the i-th block of these bytes to the sector.
+pub(crate) fn write_block(bytes: &[u8], i: usize, sector: &mut [u8; 512])
+    requires { 512 * i + 512 ≤ length bytes.now }
+    ensures { sector.new ≡ slice_range bytes.now (512 * i) (512 * i + 512) }
 {
-    append_number(sector, 8 * i, number);
+    sector.copy_from_slice(&bytes[512 * i..512 * i + 512]);
 }
 
 /// Writes these numbers behind the i numbers of a sector.
-pub(crate) fn put_all(sector: &mut [u8], i: usize, numbers: &[u64])
-    requires size { length sector.old ≡ 512 }
-    requires inside { 8 * i + 8 * length numbers.now ≤ 512 }
+pub(crate) fn put_all(sector: &mut [u8; 512], i: usize, numbers: &[u64])
+    requires { 8 * i + 8 * length numbers.now ≤ 512 }
     ensures { (before : List ℕ) → length before ≡ i → sector.old ≡ spelling before
         → sector.new ≡ spelling (before ++ numbers.now) }
 {
     for (k, number) in numbers.iter().enumerate() {
-        put(sector, i + k, *number);
+        append_number(sector, 8 * (i + k), *number);
     }
 }
 
@@ -81,9 +76,8 @@ pub(crate) fn spell(sector: &mut [u8; 512], numbers: &[u64])
 
 /// The i-th number of a sector.
 #[tactic(auto, unfolding(crate::specs::Sectors::number_in))]
-pub(crate) fn number_at(sector: &[u8], i: usize) -> u64
-    requires size { length sector.now ≡ 512 }
-    requires inside { 8 * i + 8 ≤ 512 }
+pub(crate) fn number_at(sector: &[u8; 512], i: usize) -> u64
+    requires { 8 * i + 8 ≤ 512 }
     ensures is { result ≡ number_in sector.now i }
     ensures spelled { (numbers : List ℕ) → i < length numbers → All (λ n. n < 2 ^ 64) numbers
         → sector.now ≡ spelling numbers → result ≡ slice_index numbers i }
@@ -92,9 +86,8 @@ pub(crate) fn number_at(sector: &[u8], i: usize) -> u64
 }
 
 /// The first `count` numbers of a sector from the fourth on.
-pub(crate) fn numbers_at(sector: &[u8], count: usize) -> ArrayVec<u64, 48>
-    requires size { length sector.now ≡ 512 }
-    requires few { count ≤ 48 }
+pub(crate) fn numbers_at(sector: &[u8; 512], count: usize) -> ArrayVec<u64, 48>
+    requires { count ≤ 48 }
     ensures { AreItems count (λ i. number_in sector.now (3 + i)) 0 result.items }
 {
     let mut numbers = ArrayVec::new();
@@ -115,8 +108,7 @@ pub(crate) fn list_of<const N: usize>(numbers: &[u64]) -> ArrayVec<u64, N>
 }
 
 /// Whether there are zeros behind the six numbers of a super.
-pub(crate) fn has_zero_rest(sector: &[u8]) -> bool
-    requires size { length sector.now ≡ 512 }
+pub(crate) fn has_zero_rest(sector: &[u8; 512]) -> bool
     ensures { IsTrue result ↔ HasZeroRest sector.now }
 {
     if sector[48..] == [0; 464] {

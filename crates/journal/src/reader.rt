@@ -53,7 +53,7 @@ impl RecordReader {
             IsReading self.now.stage × (place < first_home (shape_of self.now.sizes))
             × (place ≡ naming_place (shape_of self.now.sizes) self.now.stamp self.now.stage)) }
     {
-        let slot = slot_of(self.stamp, self.sizes.slots);
+        let slot = slot_of(self.stamp, self.sizes.slots) as u8;
         match self.stage {
             NamingStage::Descriptor => Some(v1::place_of(slot)),
             NamingStage::Commit => Some(v1::commit_place(slot)),
@@ -111,7 +111,7 @@ impl RecordReader {
             return;
         };
         self.read.append(&found.numbers, &found.firsts);
-        if index + 1 < v2::descriptors(count as usize) as u64 {
+        if index + 1 < v2::descriptors(count as u8) as u64 {
             self.stage = NamingStage::Descriptor2(count, index + 1);
         } else {
             self.stage = named_if(v2::are_blocks(&self.read.numbers, self.sizes.blocks));

@@ -1,8 +1,7 @@
 //! The sectors of a record, in the order in which they are written, and where they stand.
 ghost use Rattle.std.specs.Prelude.{◌≡◌, ◌≤◌, ◌<◌, ◌-◌, ◌^◌, ◌+◌, ◌*◌, length, All};
 ghost use Rattle.journal.specs.Places.{limit_of, first_data_of};
-ghost use Rattle.journal.specs.Sectors.{IsRising};
-ghost use Rattle.journal.specs.Record.{entries_of};
+ghost use Rattle.journal.specs.Record.{entries_of, CanWrite};
 ghost use Rattle.journal.specs.Formats.{layout_of};
 
 use crate::places::FIRST_SLOT;
@@ -18,14 +17,7 @@ pub fn write_part(
     p: usize,
     sector: &mut [u8; 512],
 ) -> u64
-    requires least { 1 ≤ stamp }
-    requires most { stamp < 2 ^ 63 - 1 }
-    requires some { 1 ≤ length numbers.now }
-    requires few { length numbers.now ≤ limit_of format }
-    requires rising { IsRising numbers.now }
-    requires small { All (λ b. b < 2 ^ 31) numbers.now }
-    requires size { length bytes.now ≡ 512 * length numbers.now }
-    requires inside { p < (layout_of format).parts (length numbers.now) }
+    requires { CanWrite (layout_of format).parts (limit_of format) stamp numbers.now bytes.now p }
     ensures offset { result ≡ (layout_of format).offset (length numbers.now) p }
     ensures sector { sector.new
         ≡ (layout_of format).part stamp (entries_of numbers.now bytes.now) p }
@@ -41,6 +33,7 @@ pub fn parts(format: LogFormat, count: usize) -> usize
     requires { count ≤ 240 }
     ensures { result ≡ (layout_of format).parts count }
 {
+    let count = count as u8;
     match format {
         LogFormat::One => v1::parts(count),
         LogFormat::Two => v2::parts(count),
@@ -52,6 +45,7 @@ pub fn early(format: LogFormat, count: usize) -> usize
     requires { count ≤ 240 }
     ensures { result ≡ (layout_of format).early count }
 {
+    let count = count as u8;
     match format {
         LogFormat::One => v1::early(count),
         LogFormat::Two => v2::early(count),

@@ -159,14 +159,13 @@ fn are_sizes(format: LogFormat, blocks: u64, slots: u64, home: u64) -> bool
         && blocks <= 1 << 31
         && 1 <= slots
         && slots <= 64
-        && is_first_home(format, slots, home)
+        && is_first_home(format, slots as u8, home)
 }
 
 // Whether home begins where a log of `slots` slots ends, or less than a slot behind that.
-fn is_first_home(format: LogFormat, slots: u64, home: u64) -> bool
-    requires { slots ≤ 64 }
+fn is_first_home(format: LogFormat, slots: u8, home: u64) -> bool
     ensures { IsTrue result ↔ IsFirstHome format slots home }
 {
-    let end = FIRST_SLOT + format.slot_sectors() * slots;
+    let end = FIRST_SLOT + format.slot_sectors() * u64::from(slots);
     end <= home && home < end + format.gap()
 }

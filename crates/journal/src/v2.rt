@@ -7,7 +7,7 @@ mod places;
 mod record;
 
 pub use commit::Commit;
-pub(crate) use data::write_data;
+pub(crate) use data::put_stamp;
 pub use data::{data_sector, is_data};
 pub use descriptor::Descriptor;
 pub(crate) use descriptor::firsts_in;

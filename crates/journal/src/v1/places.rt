@@ -1,5 +1,5 @@
 //! Where the parts of a record of format 1 stand.
-ghost use Rattle.std.specs.Prelude.{◌≡◌, ◌<◌, ◌+◌, ◌*◌};
+ghost use Rattle.std.specs.Prelude.{◌≡◌, ◌+◌, ◌*◌};
 
 use crate::places::FIRST_SLOT;
 
@@ -19,25 +19,21 @@ pub(crate) const FIRST_DATA: u64 = 1;
 pub(crate) const COMMIT: u64 = SLOT_SECTORS - 1;
 
 /// The first sector of a slot, which holds the descriptor of its record.
-pub fn place_of(slot: u64) -> u64
-    requires { slot < 64 }
+pub fn place_of(slot: u8) -> u64
     ensures { result ≡ 2 + 50 * slot }
 {
-    FIRST_SLOT + SLOT_SECTORS * slot
+    FIRST_SLOT + SLOT_SECTORS * u64::from(slot)
 }
 
 /// The sector of a slot that holds the i-th block of its record.
-pub fn data_place(slot: u64, i: u64) -> u64
-    requires slot { slot < 64 }
-    requires inside { i < 48 }
+pub fn data_place(slot: u8, i: u8) -> u64
     ensures { result ≡ 2 + 50 * slot + 1 + i }
 {
-    place_of(slot) + FIRST_DATA + i
+    place_of(slot) + FIRST_DATA + u64::from(i)
 }
 
 /// The last sector of a slot, which holds the commit of its record.
-pub fn commit_place(slot: u64) -> u64
-    requires { slot < 64 }
+pub fn commit_place(slot: u8) -> u64
     ensures { result ≡ 2 + 50 * slot + 49 }
 {
     place_of(slot) + COMMIT

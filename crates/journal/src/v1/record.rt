@@ -3,22 +3,21 @@ ghost use Rattle.std.specs.Prelude.{◌≡◌, ◌≤◌, ◌<◌, ◌-◌, ◌^
 ghost use Rattle.journal.specs.Record.{entries_of, CanWrite};
 ghost use Rattle.journal.specs.Formats.{format1};
 
+use crate::fields::write_block;
 use crate::v1::{COMMIT, Commit, Descriptor, FIRST_DATA};
 
 /// How many sectors a record of `count` blocks writes.
-pub(crate) fn parts(count: usize) -> usize
-    requires { count ≤ 240 }
+pub(crate) fn parts(count: u8) -> usize
     ensures { result ≡ format1.parts count }
 {
-    count + 2
+    usize::from(count) + 2
 }
 
 /// How many of them are flushed before the last one is written.
-pub(crate) fn early(count: usize) -> usize
-    requires { count ≤ 240 }
+pub(crate) fn early(count: u8) -> usize
     ensures { result ≡ format1.early count }
 {
-    count + 1
+    usize::from(count) + 1
 }
 
 /// Writes part p of a record to the sector, its descriptor, then its data places, then its commit,
@@ -43,15 +42,8 @@ pub(crate) fn write_part(
         write_block(bytes, p - 1, sector);
         FIRST_DATA + (p - 1) as u64
     } else {
-        Commit::new(stamp, count as u64).write_to(sector);
+        let count = count as u64;
+        Commit { stamp, count }.write_to(sector);
         COMMIT
     }
-}
-
-// Writes the i-th block of these bytes to the sector.
-fn write_block(bytes: &[u8], i: usize, sector: &mut [u8; 512])
-    requires { 512 * i + 512 ≤ length bytes.now }
-    ensures { sector.new ≡ slice_range bytes.now (512 * i) (512 * i + 512) }
-{
-    sector.copy_from_slice(&bytes[512 * i..512 * i + 512]);
 }

@@ -18,18 +18,6 @@ pub struct Commit {
 }
 
 impl Commit {
-    /// The commit of a record with this stamp and `count` blocks.
-    pub fn new(stamp: u64, count: u64) -> Commit
-        requires least { 1 ≤ stamp }
-        requires most { stamp < 2 ^ 63 - 1 }
-        requires some { 1 ≤ count }
-        requires few { count ≤ 240 }
-        ensures stamp { result.stamp ≡ stamp }
-        ensures count { result.count ≡ count }
-    {
-        Commit { stamp, count }
-    }
-
     /// The bytes of the commit.
     pub fn encode(&self) -> [u8; 512]
         ensures { IsCommitTwo self.now.stamp self.now.count result }

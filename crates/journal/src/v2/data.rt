@@ -5,22 +5,19 @@ ghost use Rattle.journal.specs.Format2.{place_bytes};
 use byteorder::{ByteOrder, LittleEndian};
 
 /// The bytes of a data place for this block.
-pub fn data_sector(stamp: u64, block: &[u8]) -> [u8; 512]
-    requires { length block.now ≡ 512 }
+pub fn data_sector(stamp: u64, block: &[u8; 512]) -> [u8; 512]
     ensures { result ≡ place_bytes stamp block.now }
 {
-    let mut sector = [0; 512];
-    write_data(stamp, block, &mut sector);
+    let mut sector = *block;
+    put_stamp(stamp, &mut sector);
     sector
 }
 
-/// Writes the bytes of a data place for this block to the sector.
+/// Makes the bytes of a block those of its data place.
 #[tactic(auto, unfolding(crate::specs::Format2::place_bytes))]
-pub(crate) fn write_data(stamp: u64, block: &[u8], sector: &mut [u8; 512])
-    requires { length block.now ≡ 512 }
-    ensures { sector.new ≡ place_bytes stamp block.now }
+pub(crate) fn put_stamp(stamp: u64, sector: &mut [u8; 512])
+    ensures { sector.new ≡ place_bytes stamp sector.old }
 {
-    sector.copy_from_slice(block);
     LittleEndian::write_u64(sector, stamp);
 }
 

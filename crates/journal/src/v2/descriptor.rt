@@ -102,7 +102,7 @@ impl Descriptor {
         if !are_small(&numbers) || !are_rising(&numbers) {
             return None;
         }
-        let firsts = firsts_at(sector, here);
+        let firsts = firsts_at(sector, &numbers);
         let descriptor = Descriptor {
             stamp,
             count,
@@ -163,8 +163,7 @@ pub(crate) fn firsts_in<const N: usize>(
 }
 
 // Writes these entries behind the 32 bytes of a header.
-fn append_entries(sector: &mut [u8], numbers: &[u64], firsts: &[[u8; 8]])
-    requires size { length sector.old ≡ 512 }
+fn append_entries(sector: &mut [u8; 512], numbers: &[u64], firsts: &[[u8; 8]])
     requires few { length numbers.now ≤ 30 }
     requires each { length firsts.now ≡ length numbers.now }
     requires sized { All (λ first. length first ≡ 8) firsts.now }
@@ -178,9 +177,8 @@ fn append_entries(sector: &mut [u8], numbers: &[u64], firsts: &[[u8; 8]])
 }
 
 // The numbers of `count` entries.
-fn numbers_at(sector: &[u8], count: usize) -> ArrayVec<u64, 30>
-    requires size { length sector.now ≡ 512 }
-    requires few { count ≤ 30 }
+fn numbers_at(sector: &[u8; 512], count: usize) -> ArrayVec<u64, 30>
+    requires { count ≤ 30 }
     ensures { AreItems count (λ i. number_in sector.now (4 + 2 * i)) 0 result.items }
 {
     let mut numbers = ArrayVec::new();
@@ -190,15 +188,13 @@ fn numbers_at(sector: &[u8], count: usize) -> ArrayVec<u64, 30>
     numbers
 }
 
-// The first bytes of `count` entries.
-fn firsts_at(sector: &[u8], count: usize) -> ArrayVec<[u8; 8], 30>
-    requires size { length sector.now ≡ 512 }
-    requires few { count ≤ 30 }
-    ensures { AreItems count (λ i. slice_range sector.now (40 + 16 * i) (40 + 16 * i + 8)) []
-        result.items }
+// The first bytes of the entries with these numbers.
+fn firsts_at(sector: &[u8; 512], numbers: &ArrayVec<u64, 30>) -> ArrayVec<[u8; 8], 30>
+    ensures { AreItems (length numbers.now.items)
+        (λ i. slice_range sector.now (40 + 16 * i) (40 + 16 * i + 8)) [] result.items }
 {
     let mut firsts = ArrayVec::new();
-    for i in 0..count {
+    for i in 0..numbers.len() {
         firsts.push(eight_at(sector, 40 + 16 * i));
     }
     firsts

@@ -23,34 +23,29 @@ pub(crate) const COMMIT: u64 = SLOT_SECTORS - 1;
 pub(crate) const ENTRIES: usize = 30;
 
 /// The first sector of a slot, which holds the first descriptor of its record.
-pub fn place_of(slot: u64) -> u64
-    requires { slot < 64 }
+pub fn place_of(slot: u8) -> u64
     ensures { result ≡ place_of slot }
 {
-    FIRST_SLOT + SLOT_SECTORS * slot
+    FIRST_SLOT + SLOT_SECTORS * u64::from(slot)
 }
 
 /// The sector of a slot that holds descriptor j of its record.
-pub fn descriptor_place(slot: u64, j: u64) -> u64
-    requires slot { slot < 64 }
-    requires inside { j < 8 }
+pub fn descriptor_place(slot: u8, j: u64) -> u64
+    requires { j < 8 }
     ensures { result ≡ descriptor_place slot j }
 {
     place_of(slot) + j
 }
 
 /// The sector of a slot that holds the i-th block of its record, but for its first 8 bytes.
-pub fn data_place(slot: u64, i: u64) -> u64
-    requires slot { slot < 64 }
-    requires inside { i < 240 }
+pub fn data_place(slot: u8, i: u8) -> u64
     ensures { result ≡ data_place slot i }
 {
-    place_of(slot) + FIRST_DATA + i
+    place_of(slot) + FIRST_DATA + u64::from(i)
 }
 
 /// The last sector of a slot, which holds the commit of its record.
-pub fn commit_place(slot: u64) -> u64
-    requires { slot < 64 }
+pub fn commit_place(slot: u8) -> u64
     ensures { result ≡ commit_place slot }
 {
     place_of(slot) + COMMIT

@@ -5,26 +5,25 @@ ghost use Rattle.journal.specs.Sectors.{IsRising};
 ghost use Rattle.journal.specs.Format2.{descriptors_of, place_bytes, format2};
 ghost use Rattle.journal.specs.Record.{entries_of, CanWrite};
 
-use crate::v2::{COMMIT, Commit, Descriptor, ENTRIES, FIRST_DATA, write_data};
+use crate::fields::write_block;
+use crate::v2::{COMMIT, Commit, Descriptor, ENTRIES, FIRST_DATA, put_stamp};
 
 /// How many descriptors a record of `count` blocks has.
-pub fn descriptors(count: usize) -> usize
-    requires { count ≤ 240 }
+pub fn descriptors(count: u8) -> usize
     ensures { result ≡ descriptors_of count }
 {
-    count.div_ceil(ENTRIES)
+    usize::from(count).div_ceil(ENTRIES)
 }
 
 /// How many sectors a record of `count` blocks writes.
-pub(crate) fn parts(count: usize) -> usize
-    requires { count ≤ 240 }
+pub(crate) fn parts(count: u8) -> usize
     ensures { result ≡ format2.parts count }
 {
-    descriptors(count) + count + 1
+    descriptors(count) + usize::from(count) + 1
 }
 
 /// How many of them are flushed before the last one is written.
-pub(crate) fn early(_count: usize) -> usize
+pub(crate) fn early(_count: u8) -> usize
     ensures { result ≡ 0 }
 {
     0
@@ -45,24 +44,18 @@ pub(crate) fn write_part(
     ensures sector { sector.new ≡ format2.part stamp (entries_of numbers.now bytes.now) p }
 {
     let count = numbers.len();
-    let first = descriptors(count);
+    let first = descriptors(count as u8);
     if p < first {
         Descriptor::new(stamp, numbers, bytes, p).write_to(sector);
         p as u64
     } else if p < first + count {
         let i = p - first;
-        write_place(stamp, bytes, i, sector);
+        write_block(bytes, i, sector);
+        put_stamp(stamp, sector);
         FIRST_DATA + i as u64
     } else {
-        Commit::new(stamp, count as u64).write_to(sector);
+        let count = count as u64;
+        Commit { stamp, count }.write_to(sector);
         COMMIT
     }
-}
-
-// Writes the data place of the i-th block of these bytes to the sector.
-fn write_place(stamp: u64, bytes: &[u8], i: usize, sector: &mut [u8; 512])
-    requires { 512 * i + 512 ≤ length bytes.now }
-    ensures { sector.new ≡ place_bytes stamp (slice_range bytes.now (512 * i) (512 * i + 512)) }
-{
-    write_data(stamp, &bytes[512 * i..512 * i + 512], sector);
 }

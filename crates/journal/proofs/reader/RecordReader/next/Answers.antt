@@ -2,8 +2,8 @@ use Rattle.std.proofs.Common.{arith}
 use Rattle.journal.proofs.SectorsRead.{within}
 use Rattle.journal.proofs.reader.RecordReader.next.Goals as goal
 
-pub descriptor_place-requires-clause-inside : goal.descriptor_place-requires-clause-inside
-descriptor_place-requires-clause-inside c =
+pub descriptor_place-requires : goal.descriptor_place-requires
+descriptor_place-requires c =
     let b = c.args.self.now.reads.behind_two _ _ c.in-Descriptor2.is in omega (arith, b.more, b.few)
 
 pub returns-in-Descriptor2 : goal.returns-in-Descriptor2

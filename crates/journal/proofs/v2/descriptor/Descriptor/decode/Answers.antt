@@ -1,4 +1,4 @@
-use Rattle.std.proofs.Common.{◌≡◌, ◌+◌, ◌*◌, rules, arith, ◌-◌, min}
+use Rattle.std.proofs.Common.{◌≡◌, ◌∙◌, ◌+◌, ◌*◌, rules, arith, ◌-◌, min}
 use Rattle.journal.proofs.SlotTwo.{header_says, numbers_are, firsts_are, sized_from, IsDescriptorTwo-one}
 use Rattle.journal.proofs.v2.descriptor.Descriptor.decode.Goals as goal
 
@@ -13,7 +13,8 @@ invariant_of-descriptor c =
     let used = c.has_entries.ensures.0 (search rules) in
     let rising = rw c.deref-else-not-are_small.ensures.0 at (c.are_rising.ensures.0 (search rules)) in
     let small = rw c.deref.ensures.0 at (c.are_small.ensures.0 (search rules)) in
-    let sized = sized_from c.args.sector.now (λ i. 40 + 16 * i) (λ i below. omega (arith, below)) c.firsts_at-firsts.ensures in
+    let sized = sized_from c.args.sector.now (λ i. 40 + 16 * i)
+    (λ i below. omega (arith, below, c.numbers_at-numbers.ensures.count, c.count_here-here.ensures)) c.firsts_at-firsts.ensures in
     search rules
 
 pub returns-then-spells-clause-all : goal.returns-then-spells-clause-all
@@ -25,7 +26,7 @@ returns-else-spells-clause-all c stamp count j numbers firsts d =
     let says = header_says d in
     let here : c.count_here-here.result ≡ min 30 (count - 30 * j) = cc (says.1, says.2) in
     let same = numbers_are d here c.numbers_at-numbers.ensures in
-    let first = firsts_are d here c.firsts_at-firsts.ensures in
+    let first = firsts_are d (c.numbers_at-numbers.ensures.count ∙ here) c.firsts_at-firsts.ensures in
     let its_stamp : c.number_at-stamp.result ≡ stamp = cc (says.0) in
     let its_count : c.number_at-count.result ≡ count = cc (says.1) in
     let its_index : c.number_at-index.result ≡ j = cc (says.2) in
