@@ -1,22 +1,114 @@
--- Format 2 keeps the laws of a layout, and so both formats do.
-use Rattle.std.proofs.Common.{◌≡◌, ℕ, ◌+◌, ◌-◌, ◌/◌, ◌<◌, ◌≤◌, List, [], ◌∷◌, length, arith, rules, ◌∙◌, inr, sym}
-use Rattle.std.specs.Prelude.{if◌then◌else◌, nat_lt, replicate}
+-- Both formats keep the laws of a layout.
+use Rattle.std.proofs.Common.{◌≡◌, ℕ, ◌+◌, ◌-◌, ◌<◌, ◌≤◌, List, length, arith, rules, ◌*◌, ◌%◌, [], get_or, ◌∙◌, ◌∷◌, All, ◌/◌, sym}
+use Rattle.std.proofs.Common.{inr}
 use Rattle.std.proofs.lemmas.Bool.{cases_lt}
 use Rattle.std.proofs.lemmas.Bool.Decides.{nat_tests}
-use Rattle.journal.specs.Sectors.{spelling, number_in}
-use Rattle.journal.specs.Record.{Entry, block_of, numbers_of}
-use Rattle.journal.specs.Layout.{IsRecordOf, Laws}
-use Rattle.journal.specs.Format2.{commit_mark, chunk_of, firsts_of, IsCommitTwo, format2, Carries2}
+use Rattle.std.proofs.lemmas.List.{length-map, ext_get_or}
+use Rattle.journal.specs.Sectors.{spelling, number_in, descriptor_mark, commit_mark, IsDescriptor, IsCommit}
+use Rattle.journal.specs.Record.{Entry, numbers_of, block_of}
+use Rattle.journal.specs.Layout.{AreEntries, IsWholeIn, IsRecordOf, Laws}
+use Rattle.journal.specs.Formats.{format1, Carries1, entry_in, record_in, layout_of}
+use Rattle.journal.proofs.SectorNumbers.{descriptor_says, commit_says, descriptor_number}
+use Rattle.std.proofs.Math.ListN.{get_or-map}
+use Rattle.std.proofs.lemmas.List.Elements.{All-from_get_or}
+use Rattle.std.proofs.lemmas.List.FromFn.{fill_by_all, get_or-map-range_with_len, length-map-range_with_len}
+use Rattle.medium.specs.Medium.{Image}
+use Rattle.journal.specs.Places.{Shape, limit_of, slot_sectors_of}
+use Rattle.journal.proofs.Wholeness.{record_of, parts}
+use Rattle.std.specs.Prelude.{if◌then◌else◌, nat_lt, replicate}
+use Rattle.journal.specs.Format2.{commit_mark as commit_mark_two, chunk_of, firsts_of, IsCommitTwo, format2, Carries2}
 use Rattle.journal.proofs.SlotTwo.{header_says, place_says, descriptor_two, record_read as read2}
-use Rattle.journal.proofs.SectorNumbers.{commit_says}
-use Rattle.journal.proofs.Format1Laws.{parts, ends_carry, carried1, commit_of, record_read as read1}
 use Rattle.journal.specs.declared.log_format.LogFormat.{LogFormat}
 use Rattle.journal.specs.declared.log_format.LogFormat.TheVariants.{One, Two}
-use Rattle.journal.specs.Places.{limit_of, slot_sectors_of}
-use Rattle.journal.specs.Formats.{format1, layout_of}
+
+module _ {blocks s : ℕ} {entries : List Entry} (r : IsRecordOf format1 blocks s entries) where
+  pub descriptor_of : IsDescriptor s (numbers_of entries)
+      (spelling (descriptor_mark ∷ s ∷ length (numbers_of entries) ∷ numbers_of entries))
+  descriptor_of = let long = length-map entries (λ (e : Entry). e.0) in search (rules, arith)
+
+  pub commit_of : IsCommit s (length entries) (spelling (commit_mark ∷ s ∷ length entries ∷ []))
+  commit_of = search rules
+
+  -- the descriptor and the commit carry the record's stamp
+  pub ends_carry : (p : ℕ) → (1 ≤ p → length entries + 1 ≤ p)
+      → Carries1 (format1.offset (length entries) p) s (format1.part s entries p)
+  ends_carry p ends = grind (arith, parts, descriptor_of, commit_of)
+
+-- a stamp that a sector carries is its second number
+pub carried1 : (o s : ℕ) (bytes : List ℕ) → Carries1 o s bytes → number_in bytes 1 ≡ s
+carried1 o s bytes c =
+    let commit = λ (high : 49 ≤ o). (commit_says (c.commit high).1).0 in
+    grind (arith, descriptor_says, commit, c.descriptor, c.place, cases_lt o 1)
+
+-- what is read where a descriptor stands
+module _ (image : Image) (at : ℕ) {stamp : ℕ} {numbers : List ℕ} (d : IsDescriptor stamp numbers (image at)) where
+  many : length (record_in image at) ≡ length numbers
+  many = length-map-range_with_len (entry_in image at) 0 _ ∙ (descriptor_says d).1
+
+  entry_read : (i : ℕ) → i < length numbers → get_or (record_in image at) i (0, []) ≡ (get_or numbers i 0, image (at + 1 + i))
+  entry_read i below = rw (
+    get_or-map-range_with_len (entry_in image at) 0 (number_in (image at) 2) i i (0, [])
+        (omega (arith, (descriptor_says d).1)) (omega arith),
+    descriptor_number d i below,
+  )
+
+  -- its block numbers
+  pub numbers_read : numbers_of (record_in image at) ≡ numbers
+  numbers_read =
+      let long = length-map (record_in image at) (λ (e : Entry). e.0) in
+      ext_get_or 0 _ numbers (long ∙ many) (λ i below.
+      rw (get_or-map (λ (e : Entry). e.0) (record_in image at) i (0, []), entry_read i (omega (arith, long, many))))
+
+module _ (shape : Shape) (image : Image) (s : ℕ) (es : List Entry) (w : IsWholeIn format1 shape image s es) where
+  pub descriptor_there : IsDescriptor s (numbers_of es) (image (2 + 50 * (s % shape.slots)))
+  descriptor_there = grind (arith, parts, w.there 0, descriptor_of (record_of w))
+
+  pub place_there : (i : ℕ) → i < length es → image (2 + 50 * (s % shape.slots) + 1 + i) ≡ block_of es i
+  place_there i below = grind (arith, parts, w.there (i + 1))
+
+  -- its commit
+  pub commit_there : IsCommit s (length (numbers_of es)) (image (2 + 50 * (s % shape.slots) + 49))
+  commit_there =
+      rw (length-map es (λ (e : Entry). e.0)) (grind (arith, parts, w.there (length es + 1), commit_of (record_of w)))
+
+  -- a whole record is the one that its slot spells
+  pub record_read : es ≡ record_in image (2 + 50 * (s % shape.slots))
+  record_read =
+      let many = length-map es (λ (e : Entry). e.0) in
+      let says = (descriptor_says descriptor_there).1 in
+      fill_by_all (entry_in image (2 + 50 * (s % shape.slots))) es _ (0, []) (omega (arith, many, says)) (λ i below. rw (
+        descriptor_number descriptor_there i (omega (arith, below, says)),
+        get_or-map (λ (e : Entry). e.0) es i (0, []),
+        place_there i (omega (arith, below, many, says)),
+      ))
+
+-- a record is whole where its descriptor and its commit are there
+module _ (shape : Shape) (image : Image) (stamp : ℕ) (numbers : List ℕ)
+    (described : IsDescriptor stamp numbers (image (2 + 50 * (stamp % shape.slots))))
+    (committed : IsCommit stamp (length numbers) (image (2 + 50 * (stamp % shape.slots) + 49)))
+    (below_all : All (λ b. b < shape.blocks) numbers)
+    (sized : (i : ℕ) → i < length numbers → length (image (2 + 50 * (stamp % shape.slots) + 1 + i)) ≡ 512) where
+  -- these are the blocks of a whole record
+  pub whole_in : IsWholeIn format1 shape image stamp (record_in image (2 + 50 * (stamp % shape.slots)))
+  whole_in =
+      let es = record_in image (2 + 50 * (stamp % shape.slots)) in
+      let long = many image _ described in
+      let names = numbers_read image _ described in
+      let blocks = All-from_get_or (λ e. length e.1 ≡ 512) es (0, []) (λ i below.
+      let inside : i < length numbers = omega (arith, below, long) in rw (entry_read image _ described i inside) (sized i inside)) in
+      let fit : AreEntries 48 shape.blocks es = grind (arith, names, long, blocks, described.block_numbers) in
+      record {
+        fit = fit;
+        least = described.least;
+        below = described.most;
+        there = λ p below.
+            grind (arith, parts, described.spelled, committed.spelled, names, long, entry_read image _ described (p - 1));
+      }
+
+-- ---- format 2, and both
 
 pub commit_two : {blocks s : ℕ} {entries : List Entry} → IsRecordOf format2 blocks s entries
-    → IsCommitTwo s (length entries) (spelling (commit_mark ∷ s ∷ length entries ∷ []))
+    → IsCommitTwo s (length entries) (spelling (commit_mark_two ∷ s ∷ length entries ∷ []))
 commit_two r = search rules
 
 pub carries2 : (blocks s : ℕ) (entries : List Entry) (p : ℕ) → IsRecordOf format2 blocks s entries
@@ -59,7 +151,7 @@ format1_laws = record {
       grind (arith, carried1 _ t _ c, carried1 _ s _ (ends_carry r p ends));
   last_part = λ s a b same. grind (arith, parts);
   count = λ blocks s a b ra rb e. grind (arith, parts, commit_says (commit_of ra), commit_says (commit_of rb));
-  read = read1;
+  read = record_read;
   zeros = λ o s c. sym (carried1 o s _ c);
 }
 

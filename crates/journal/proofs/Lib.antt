@@ -1,10 +1,8 @@
 pub mod SectorNumbers
 pub mod BatchEntries
 pub mod Engine
-pub mod Format1Laws
 pub mod Formats
 pub mod SectorsRead
-pub mod NamedBlocks
 pub mod StandingLaws
 pub mod SlotTwo
 pub mod Wholeness

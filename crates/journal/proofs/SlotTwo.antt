@@ -1,7 +1,7 @@
 -- What the sectors of a slot of format 2 say, and of which record, whole or not.
 use Rattle.std.proofs.Common.{◌≡◌, ℕ, ◌+◌, ◌*◌, ◌-◌, ◌^◌, ◌<◌, ◌≤◌, List, [], ◌∷◌, ◌++◌, length, get_or, take, drop}
 use Rattle.std.proofs.Common.{refl, sym, map, arith, rules, ◌∙◌, All, min, zip, slice_range, flat_map, ◌/◌, ◌%◌, ap}
-use Rattle.std.proofs.Common.{take-add, false, IsTrue}
+use Rattle.std.proofs.Common.{take-add}
 use Rattle.std.proofs.lemmas.List.{take_all, take_min, length-take, length-drop, append_assoc, append-nil, take_more}
 use Rattle.std.proofs.lemmas.List.{drop-drop, drop-take, ext_get_or, take-map, drop-map, length-map, length-take-le}
 use Rattle.std.proofs.lemmas.List.{take_at, get_or-take, get_or-drop, take-append-drop}
@@ -22,8 +22,7 @@ use Rattle.std.proofs.lemmas.List.FromFn.{get_or-map-range_with_len, length-map-
 use Rattle.medium.specs.Medium.{Image}
 use Rattle.journal.specs.Reading.{HasDescriptor, HasDescriptors, HasPlaces}
 use Rattle.journal.specs.Places.{Shape}
-use Rattle.journal.proofs.Format1Laws.{parts}
-use Rattle.journal.proofs.Wholeness.{record_of}
+use Rattle.journal.proofs.Wholeness.{record_of, parts}
 
 -- the stamp in a data place, which begins with it
 pub place_says : (s : ℕ) (block : List ℕ) → s < 2 ^ 64 → number_in (place_bytes s block) 0 ≡ s
@@ -262,10 +261,6 @@ module _ (image : Image) (at n : ℕ) where
         ext_get_or 0 numbers _ (long ∙ sym numbers_long) (λ i below.
         let same = chunk_numbers (simp long at (has (i / 30) (omega arith)).1) in
         cc (in_chunk numbers i, in_chunk (numbers_of read) i, numbers_of_chunk read (i / 30), same))
-
--- what is not true is nothing to show
-pub untrue : {P : Type 0} → IsTrue false → P
-untrue e = cc
 
 -- what a whole record's sectors are decoded to
 module _ (shape : Shape) (image : Image) (s : ℕ) (es : List Entry) (w : IsWholeIn format2 shape image s es) where

@@ -1,6 +1,6 @@
 -- Slots of a log, arrays with records laid over them, and whole records of an image.
-use Rattle.std.proofs.Common.{◌≢◌, ℕ, ◌+◌, ◌*◌, ◌<◌, arith, ◌%◌, ◌⊎◌, zero, suc, ◌≡◌, List, [], ◌∷◌, ◌++◌, length}
-use Rattle.std.proofs.Common.{get_or, refl, ap, rules, if◌then◌else◌, ◌==◌, ◌-◌, ◌≤◌, sym, ◌∙◌, subst}
+use Rattle.std.proofs.Common.{◌≢◌, ℕ, ◌+◌, ◌*◌, ◌<◌, arith, ◌%◌, ◌⊎◌, zero, suc, ◌≡◌, List, [], ◌∷◌, ◌++◌, length, get_or, refl, ap, rules}
+use Rattle.std.proofs.Common.{if◌then◌else◌, ◌==◌, ◌-◌, ◌≤◌, sym, ◌∙◌, subst}
 use Rattle.std.proofs.lemmas.Nat.{rows, mod_below}
 use Rattle.std.proofs.Math.Nat.{div-add-mod}
 use Rattle.std.proofs.lemmas.Bool.{cases_eq}
@@ -10,7 +10,7 @@ use Rattle.journal.specs.Record.{Entry, with_blocks, with_records, Hides, home_o
 use Rattle.medium.specs.Medium.{Image}
 use Rattle.journal.specs.declared.log_format.LogFormat.{LogFormat}
 use Rattle.journal.specs.Places.{Shape}
-use Rattle.journal.specs.Layout.{Layout, IsWholeIn, CarriesBelowIn, KeepsIn, slot_at, Laws, IsRecordOf}
+use Rattle.journal.specs.Layout.{Layout, IsWholeIn, CarriesBelowIn, KeepsIn, slot_at, Laws, IsRecordOf, by_part}
 use Rattle.journal.specs.Formats.{layout_of, IsWhole}
 
 -- a slot ends where the log ends, or before
@@ -149,3 +149,20 @@ module _ (L : Layout) (laws : Laws L) (shape : Shape) where
   slot_inside stamp some =
       let last = in_log L.slot_sectors (stamp % shape.slots) shape.slots (L.slot_sectors - 1) in
       grind (arith, last, mod_below stamp shape.slots some)
+
+-- ---- the parts of a record
+
+module _ {X : Type 0} (descriptor place : ℕ → X) (commit : X) (d n p : ℕ) where
+  pub by_descriptor : p < d → by_part descriptor place commit d n p ≡ descriptor p
+  unfolding by_part
+  by_descriptor below = grind (arith, nat_tests)
+
+  pub by_place : d ≤ p → p < d + n → by_part descriptor place commit d n p ≡ place (p - d)
+  unfolding by_part
+  by_place behind below = grind (arith, nat_tests)
+
+  pub by_commit : d + n ≤ p → by_part descriptor place commit d n p ≡ commit
+  unfolding by_part
+  by_commit behind = grind (arith, nat_tests)
+
+pub ruleset parts = (by_descriptor, by_place, by_commit)

@@ -77,10 +77,6 @@ IsCommitTwo stamp count bytes = IsCommitOf commit_mark 240 stamp count bytes
 abbrev pub place_of : ℕ → ℕ
 place_of slot = 2 + 249 * slot
 
--- the sector behind the last one of a slot
-abbrev pub slot_end : ℕ → ℕ
-slot_end slot = 2 + 249 * slot + 249
-
 -- the sector of a slot that holds descriptor j
 abbrev pub descriptor_place : ℕ → ℕ → ℕ
 descriptor_place slot j = 2 + 249 * slot + j

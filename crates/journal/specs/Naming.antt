@@ -64,12 +64,9 @@ IsFirstStage Two at = at ≡ stage.Commit2
 
 -- a sector is to be read
 abbrev pub IsReading : NamingStage → Type 0
-IsReading stage.Descriptor = Unit {0}
-IsReading stage.Commit = Unit {0}
-IsReading stage.Commit2 = Unit {0}
-IsReading (stage.Descriptor2 count index) = Unit {0}
 IsReading stage.Named = ⊥
 IsReading stage.Missing = ⊥
+IsReading _ = Unit {0}
 
 -- it is this one
 abbrev pub naming_place : Shape → ℕ → NamingStage → ℕ
@@ -77,8 +74,7 @@ naming_place shape stamp stage.Descriptor = 2 + 50 * (stamp % shape.slots)
 naming_place shape stamp stage.Commit = 2 + 50 * (stamp % shape.slots) + 49
 naming_place shape stamp stage.Commit2 = commit_place (stamp % shape.slots)
 naming_place shape stamp (stage.Descriptor2 count index) = place_of (stamp % shape.slots) + index
-naming_place shape stamp stage.Named = 0
-naming_place shape stamp stage.Missing = 0
+naming_place shape stamp _ = 0
 
 -- how many are left at most
 abbrev pub names_left : NamingStage → ℕ
@@ -86,8 +82,7 @@ names_left stage.Descriptor = 2
 names_left stage.Commit = 1
 names_left stage.Commit2 = 9
 names_left (stage.Descriptor2 count index) = 8 - index
-names_left stage.Named = 0
-names_left stage.Missing = 0
+names_left _ = 0
 
 -- the descriptor of format 1 was read
 pub record IsBehindOne (shape : Shape) (read : Record) : Type 0 where

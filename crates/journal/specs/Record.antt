@@ -80,7 +80,7 @@ pub record ReadsOne {M : Type 0} (state : M → State) (Follows : M → M → Ty
   pub looks : LooksOnly IsRead (state old) (state new)
 
 -- part p of a record with this stamp and these blocks can be written, where a record has at
--- most `limit` blocks, and as many parts as `parts` tells of their number
+-- most `limit` blocks, and as many such parts as `parts` tells of their number
 pub record CanWrite (parts : ℕ → ℕ) (limit stamp : ℕ) (numbers bytes : List ℕ) (p : ℕ)
     : Type 0 where
   pub least : 1 ≤ stamp
@@ -92,17 +92,7 @@ pub record CanWrite (parts : ℕ → ℕ) (limit stamp : ℕ) (numbers bytes : L
   pub size : length bytes ≡ 512 * length numbers
   pub inside : p < parts (length numbers)
 
--- a record of format 2 with this stamp and these blocks has a descriptor of this index
-pub record CanDescribe (stamp : ℕ) (numbers bytes : List ℕ) (index : ℕ) : Type 0 where
-  pub least : 1 ≤ stamp
-  pub most : stamp < 2 ^ 63 - 1
-  pub few : length numbers ≤ 240
-  pub rising : IsRising numbers
-  pub small : All (λ b. b < 2 ^ 31) numbers
-  pub size : length bytes ≡ 512 * length numbers
-  pub used : 30 * index < length numbers
-
--- these are the stamp, the count, the index and the entries of that descriptor
+-- these are the stamp, the count, the index and the entries of a descriptor of format 2
 pub record Describes (stamp : ℕ) (numbers bytes : List ℕ) (index its_stamp its_count its_index : ℕ)
     (its_numbers : List ℕ) (its_firsts : List (List ℕ)) : Type 0 where
   pub stamp_is : its_stamp ≡ stamp

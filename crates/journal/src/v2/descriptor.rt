@@ -4,8 +4,9 @@ ghost use Rattle.std.specs.Prelude.{ℕ, List, length, take, drop, All, slice_in
 ghost use Rattle.std.specs.Prelude.{slice_range, [], zip, min, IsTrue, IfSome, IsSomeAnd};
 ghost use Rattle.std.specs.List.{flat_map};
 ghost use Rattle.journal.specs.Sectors.{IsRising, padded, number_in, AreItems};
-ghost use Rattle.journal.specs.Format2.{AreEntriesTwo, IsDescriptorTwo, entries_here, entry_bytes};
-ghost use Rattle.journal.specs.Record.{CanDescribe, Describes};
+ghost use Rattle.journal.specs.Format2.{AreEntriesTwo, IsDescriptorTwo, descriptors_of};
+ghost use Rattle.journal.specs.Format2.{entries_here, entry_bytes};
+ghost use Rattle.journal.specs.Record.{CanWrite, Describes};
 
 use crate::fields::{
     append, append_number, are_rising, eight_at, list_of, mark_number, number_at, spell,
@@ -36,7 +37,7 @@ impl Descriptor {
     /// after the other.
     #[tactic(auto, using(crate::proofs::SlotTwo::items_here))]
     pub fn new(stamp: u64, numbers: &[u64], bytes: &[u8], index: usize) -> Descriptor
-        requires { CanDescribe stamp numbers.now bytes.now index }
+        requires { CanWrite descriptors_of 240 stamp numbers.now bytes.now index }
         ensures { Describes stamp numbers.now bytes.now index result.stamp result.count
             result.index result.numbers.items result.firsts.items }
     {

@@ -31,7 +31,7 @@ pub(crate) fn early(_count: u8) -> usize
 
 /// Writes part p of a record to the sector, its descriptors, then its data places, then its commit,
 /// and tells where it stands in the slot.
-#[tactic(auto, using(crate::proofs::Format1Laws::parts, crate::proofs::BatchEntries::batch))]
+#[tactic(auto, using(crate::proofs::Wholeness::parts, crate::proofs::BatchEntries::batch))]
 pub(crate) fn write_part(
     stamp: u64,
     numbers: &[u64],

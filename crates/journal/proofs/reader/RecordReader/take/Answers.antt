@@ -1,5 +1,5 @@
 use Rattle.std.proofs.Common.{◌≡◌, ◌+◌, ⊎_elim, refl, arith}
-use Rattle.journal.proofs.NamedBlocks.{ended, unended, counts}
+use Rattle.journal.proofs.SectorsRead.{ended, unended, counts}
 use Rattle.journal.proofs.reader.RecordReader.take.Goals as goal
 
 pub returns-in-Commit-clause-learns : goal.returns-in-Commit-clause-learns

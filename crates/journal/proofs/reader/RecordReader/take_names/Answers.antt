@@ -1,9 +1,9 @@
-use Rattle.std.proofs.Common.{refl, ◌≡◌, ◌+◌, ◌*◌, ◌%◌, ◌<◌, ◌≤◌, length, ⊎_elim, arith}
+use Rattle.std.proofs.Common.{refl, ◌≡◌, ◌+◌, ◌%◌, ◌<◌, ◌≤◌, length, ⊎_elim, arith}
 use Rattle.std.proofs.lemmas.List.{length-append}
 use Rattle.medium.specs.Medium.{Image}
 use Rattle.journal.specs.Format2.{descriptors_of, place_of}
 use Rattle.journal.specs.Naming.{AreNamedTo, IsBehindTwo}
-use Rattle.journal.proofs.NamedBlocks.{unnamed, named_on, named_good, named_bad}
+use Rattle.journal.proofs.SectorsRead.{unnamed, named_on, named_good, named_bad}
 use Rattle.journal.proofs.reader.RecordReader.take_names.Goals as goal
 use Rattle.journal.proofs.reader.RecordReader.take_names.Goals.{After-append}
 use Rattle.journal.specs.Formats.{shape_of}
@@ -22,46 +22,19 @@ returns-in_default c =
       },
     )
 
-pub append-requires-clause-numbers_fit : goal.append-requires-clause-numbers_fit
-append-requires-clause-numbers_fit c =
+pub append-requires : goal.append-requires
+append-requires c =
     let b = c.args.self.now.reads.behind_two _ _ c.requires in
-    let d = c.in-Some.ensures.entries in
-    rw c.deref.ensures.0 (omega (arith, b.numbers_long, d.many, d.used, d.few))
-
-pub append-requires-clause-firsts_fit : goal.append-requires-clause-firsts_fit
-append-requires-clause-firsts_fit c =
-    let b = c.args.self.now.reads.behind_two _ _ c.requires in
-    let d = c.in-Some.ensures.entries in
-    rw c.deref-2.ensures.0 (omega (arith, b.firsts_long, d.each, d.many, d.used, d.few))
+    let d = c.in-Some.ensures.entries in grind (arith, c.deref.ensures, c.deref-2.ensures)
 
 -- how much was read with this descriptor
-long : (c : After-append) → (length c.append.new.self.numbers.items + 30 * c.args.index ≤ 480)
-    × (30 * c.args.index < length c.append.new.self.numbers.items)
+long : (c : After-append) → (0 < length c.append.new.self.numbers.items) × (length c.append.new.self.numbers.items ≤ 240)
     × (c.args.index + 1 < descriptors_of c.args.count
     → IsBehindTwo (shape_of c.args.self.now.sizes) c.args.count (c.args.index + 1) c.append.new.self)
-    × (length c.append.new.self.numbers.items ≤ 240)
 long c =
     let b = c.args.self.now.reads.behind_two _ _ c.requires in
     let d = c.in-Some.ensures.entries in
-    let numbers_are : length c.append.new.self.numbers.items
-    ≡ length c.args.self.now.read.numbers.items + length c.in-Some.found.numbers.items =
-    rw (c.append.ensures.numbers, c.deref.ensures.0)
-    (length-append c.args.self.now.read.numbers.items c.in-Some.found.numbers.items) in
-    let firsts_are : length c.append.new.self.firsts.items
-    ≡ length c.args.self.now.read.firsts.items + length c.in-Some.found.firsts.items =
-    rw (c.append.ensures.firsts, c.deref-2.ensures.0)
-    (length-append c.args.self.now.read.firsts.items c.in-Some.found.firsts.items) in (
-      omega (arith, numbers_are, b.numbers_long, d.many, d.used, d.few),
-      omega (arith, numbers_are, b.numbers_long, d.many, d.used, d.few),
-      λ more. record {
-        two = b.two;
-        few = b.few;
-        more = more;
-        numbers_long = omega (arith, more, numbers_are, b.numbers_long, d.many, d.used, d.few);
-        firsts_long = omega (arith, more, firsts_are, b.firsts_long, d.each, d.many, d.used, d.few);
-      },
-      omega (arith, numbers_are, b.numbers_long, d.many, d.used, d.few),
-    )
+    grind (arith, length-append, c.append.ensures, c.deref.ensures, c.deref-2.ensures, b, d)
 
 -- what they are then
 named_to : (c : After-append) (image : Image)
@@ -78,48 +51,15 @@ named_to c image here so_far =
 
 pub invariant_of-self-then-index-descriptors : goal.invariant_of-self-then-index-descriptors
 invariant_of-self-then-index-descriptors c =
-    let more : c.args.index + 1 < descriptors_of c.args.count =
-    omega (arith, c.if-index-descriptors.true, c.descriptors.ensures) in
     let all = long (goal.at.invariant_of-self-then-index-descriptors c).After-append in
-    record {
-      reads = record {
-        one = λ e. cc e;
-        behind_one = λ e. cc e;
-        two = λ e. cc e;
-        behind_two = λ n i e.
-            let one : c.args.count ≡ n = cc e in
-            let two : c.args.index + 1 ≡ i = cc e in
-            rw (← one, ← two) (all.2 more);
-        named = λ e. cc e;
-      };
-    }
+    grind (arith, all, c.if-index-descriptors.true, c.descriptors.ensures)
 
 pub invariant_of-self-else-index-descriptors : goal.invariant_of-self-else-index-descriptors
 invariant_of-self-else-index-descriptors c =
     let b = c.args.self.now.reads.behind_two _ _ c.requires in
     let all = long (goal.at.invariant_of-self-else-index-descriptors c).After-append in
-    record {
-      reads = ⊎_elim (λ yes.
-          let blocks = rw c.deref-else-index-descriptors.ensures.0 at (c.are_blocks.ensures.0 yes.1) in
-          rw yes.0 (record {
-            one = λ e. cc e;
-            behind_one = λ e. cc e;
-            two = λ e. cc e;
-            behind_two = λ n i e. cc e;
-            named = λ e. record {
-              some = omega (arith, all.1);
-              few = rw b.two (omega (arith, all.3));
-              rising = blocks.0;
-              inside = blocks.1;
-            };
-          })) (λ no. rw no.0 (record {
-            one = λ e. cc e;
-            behind_one = λ e. cc e;
-            two = λ e. cc e;
-            behind_two = λ n i e. cc e;
-            named = λ e. cc e;
-          })) c.named_if-self.ensures;
-    }
+    let blocks = rw c.deref-else-index-descriptors.ensures.0 at c.are_blocks.ensures in
+    grind (arith, all, b.two, blocks, c.named_if-self.ensures)
 
 pub returns-then-index-descriptors : goal.returns-then-index-descriptors
 returns-then-index-descriptors c =

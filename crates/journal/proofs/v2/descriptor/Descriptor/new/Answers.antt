@@ -10,7 +10,7 @@ invariant_of-result c =
     let long = ap (λ (l : List ℕ). length l) items in
     let sized = sized_from c.args.bytes.now (λ i. 512 * (from + i))
     (λ i below. omega (arith, below, c.count_here-here.ensures, c.requires.size)) c.firsts_in.ensures in
-    let entries = entries_cut numbers c.list_of.result.items c.firsts_in.result.items c.args.index c.requires.few c.requires.used
-    c.requires.rising c.requires.small items
+    let entries = entries_cut numbers c.list_of.result.items c.firsts_in.result.items c.args.index c.requires.few
+    (omega (arith, c.requires.inside)) c.requires.rising c.requires.small items
     (omega (arith, c.firsts_in.ensures.count, long, length-take 30 (drop from numbers), length-drop from numbers)) sized in
     search rules
