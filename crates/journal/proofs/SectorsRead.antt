@@ -24,7 +24,7 @@ use Rattle.std.proofs.lemmas.List.{map-append, take_all}
 use Rattle.journal.specs.Sectors.{IsCommit, IsDescriptor, IsRising}
 use Rattle.journal.specs.declared.naming_stage.NamingStage.{NamingStage}
 use Rattle.journal.specs.declared.naming_stage.NamingStage.TheVariants.{Descriptor2, Missing}
-use Rattle.journal.specs.Naming.{IsDescribed, AreNamedTo, IsFound, IsKnown, names_left}
+use Rattle.journal.specs.Naming.{IsDescribed, AreNamedTo, IsFound, IsKnown}
 
 -- a data place stands before home
 pub place_before : (format : LogFormat) (slots home slot i : ℕ) → IsFirstHome format slots home → slot < slots → i < limit_of format
@@ -138,18 +138,18 @@ module _ (sizes : Super) (image : Image) (stamp : ℕ) (read : Record) where
     pub counts : (found : Option ℕ) (next : NamingStage) (bytes : List ℕ) → bytes ≡ image (2 + 249 * (stamp % sizes.slots) + 248)
         → MatchOption found ((n : ℕ) → ¬ IsCommitTwo stamp n bytes) (λ n. IsCommitTwo stamp n bytes)
         → MatchOption found (next ≡ Missing) (λ n. next ≡ Descriptor2 n 0) → read.numbers.items ≡ [] → read.firsts.items ≡ []
-        → IsKnown (shape_of sizes) image stamp 1 next read × (names_left next ≤ 8)
+        → IsKnown (shape_of sizes) image stamp 1 next read
     counts None next bytes here says goes numbers firsts = rw goes (record {
-        some = tt;
-        all = λ entries whole. (rw here at says) _ (commit_whole _ _ _ _ (as_format two whole));
-        exact = rw two (inl (rw here at says, refl));
-      }, omega arith)
-    counts (Some n) next bytes here says goes numbers firsts = rw goes ((refl, record {
-        committed = rw here at says;
-        there = λ j below. absurd (omega (arith, below));
-        numbers_are = numbers;
-        firsts_are = firsts;
-      }), omega arith)
+      some = tt;
+      all = λ entries whole. (rw here at says) _ (commit_whole _ _ _ _ (as_format two whole));
+      exact = rw two (inl (rw here at says, refl));
+    })
+    counts (Some n) next bytes here says goes numbers firsts = rw goes (refl, record {
+      committed = rw here at says;
+      there = λ j below. absurd (omega (arith, below));
+      numbers_are = numbers;
+      firsts_are = firsts;
+    })
 
     module _ (n index : ℕ) (so_far : AreNamedTo image (2 + 249 * (stamp % sizes.slots)) stamp n index read)
         (more : index < descriptors_of n) where

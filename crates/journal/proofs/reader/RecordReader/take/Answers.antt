@@ -1,4 +1,4 @@
-use Rattle.std.proofs.Common.{◌≡◌, ◌+◌, ⊎_elim, refl, arith}
+use Rattle.std.proofs.Common.{◌≡◌, arith}
 use Rattle.journal.proofs.SectorsRead.{ended, unended, counts}
 use Rattle.journal.proofs.reader.RecordReader.take.Goals as goal
 
@@ -12,10 +12,9 @@ returns-in-Commit-clause-learns c =
           let k = rw is at known in
           let here = rw is at had in
           let ends = rw (c.deref.ensures.0, here) at c.is_ended-is.ensures in
-          let two : reads + 1 ≡ 2 = omega (arith, k.0) in
-          ⊎_elim (λ yes. let both = ends.0 yes.1 in rw (yes.0, two) (ended s.sizes image s.stamp s.read b.one k.1 both.0 both.1))
-          (λ no. rw (no.0, two) (unended s.sizes image s.stamp s.read b.one k.1 (λ both. no.1 (ends.1 both)))) c.named_if-self.ensures;
-      nearer = ⊎_elim (λ yes. rw (is, yes.0) (omega arith)) (λ no. rw (is, no.0) (omega arith)) c.named_if-self.ensures;
+          let good = ended s.sizes image s.stamp s.read b.one k.1 in
+          let bad = unended s.sizes image s.stamp s.read b.one k.1 in grind (arith, k.0, good, bad, ends, c.named_if-self.ensures);
+      nearer = grind (arith, is, c.named_if-self.ensures);
     }
 
 pub returns-in-Commit2-clause-learns : goal.returns-in-Commit2-clause-learns
@@ -27,11 +26,8 @@ returns-in-Commit2-clause-learns c =
       knows = λ image reads had known.
           let none : reads ≡ 0 = rw is at known in
           rw none (counts s.sizes image s.stamp c.clear.new.self two _ _ _ (rw is at had) c.count_of.ensures c.counted-self.ensures
-          c.clear.ensures.numbers c.clear.ensures.firsts).0;
-      nearer =
-          let less = (counts s.sizes (λ x. c.args.sector.now) s.stamp c.clear.new.self two _ _ _ refl c.count_of.ensures
-          c.counted-self.ensures c.clear.ensures.numbers c.clear.ensures.firsts).1 in
-          rw is (omega (arith, less));
+          c.clear.ensures.numbers c.clear.ensures.firsts);
+      nearer = grind (arith, is, c.counted-self.ensures);
     }
 
 pub returns-in-Descriptor2-clause-learns : goal.returns-in-Descriptor2-clause-learns

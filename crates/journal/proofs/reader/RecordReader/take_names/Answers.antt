@@ -92,7 +92,6 @@ returns-else-index-descriptors c =
             both.1)) (λ no.
             rw (no.0, all) (named_bad s.sizes image s.stamp c.append.new.self b.two c.args.count (c.args.index + 1) is last
             (λ both. no.1 (blocks.1 both)))) c.named_if-self.ensures;
-        nearer = ⊎_elim (λ yes. rw yes.0 (omega (arith, b.more, b.few))) (λ no. rw no.0 (omega (arith, b.more, b.few)))
-            c.named_if-self.ensures;
+        nearer = grind (arith, b, c.named_if-self.ensures);
       },
     )

@@ -13,5 +13,4 @@ returns-then-spells-clause-all c stamp numbers d =
 pub returns-else-spells-clause-all : goal.returns-else-spells-clause-all
 returns-else-spells-clause-all c stamp numbers d =
     let same = descriptor_numbers d c.number_at-count.ensures.is c.numbers_at-numbers.ensures in
-    let its_stamp : c.number_at-stamp.result ≡ stamp = cc ((descriptor_says d).0) in
-    let is = c.spells.ensures.1 (rw (its_stamp, same) d) in search rules
+    grind (arith, descriptor_says d, same, c.spells.ensures, d)

@@ -27,7 +27,4 @@ returns-else-spells-clause-all c stamp count j numbers firsts d =
     let here : c.count_here-here.result ≡ min 30 (count - 30 * j) = cc (says.1, says.2) in
     let same = numbers_are d here c.numbers_at-numbers.ensures in
     let first = firsts_are d (c.numbers_at-numbers.ensures.count ∙ here) c.firsts_at-firsts.ensures in
-    let its_stamp : c.number_at-stamp.result ≡ stamp = cc (says.0) in
-    let its_count : c.number_at-count.result ≡ count = cc (says.1) in
-    let its_index : c.number_at-index.result ≡ j = cc (says.2) in
-    let is = c.spells.ensures.1 (rw (its_stamp, its_count, its_index, same, first) d) in search rules
+    grind (arith, says, same, first, c.spells.ensures, d)
