@@ -144,12 +144,15 @@ module _ (sizes : Super) (image : Image) (stamp : ℕ) (read : Record) where
       all = λ entries whole. (rw here at says) _ (commit_whole _ _ _ _ (as_format two whole));
       exact = rw two (inl (rw here at says, refl));
     })
-    counts (Some n) next bytes here says goes numbers firsts = rw goes (refl, record {
-      committed = rw here at says;
-      there = λ j below. absurd (omega (arith, below));
-      numbers_are = numbers;
-      firsts_are = firsts;
-    })
+    counts (Some n) next bytes here says goes numbers firsts = rw goes (
+      refl,
+      record {
+        committed = rw here at says;
+        there = λ j below. absurd (omega (arith, below));
+        numbers_are = numbers;
+        firsts_are = firsts;
+      },
+    )
 
     module _ (n index : ℕ) (so_far : AreNamedTo image (2 + 249 * (stamp % sizes.slots)) stamp n index read)
         (more : index < descriptors_of n) where

@@ -1,8 +1,7 @@
-use Rattle.std.proofs.Common.{refl, ◌≡◌, ◌+◌, ◌%◌, ◌<◌, ◌≤◌, length, ⊎_elim, arith}
+use Rattle.std.proofs.Common.{refl, ◌≡◌, ◌+◌, ◌<◌, ◌≤◌, length, ⊎_elim, arith}
 use Rattle.std.proofs.lemmas.List.{length-append}
-use Rattle.medium.specs.Medium.{Image}
-use Rattle.journal.specs.Format2.{descriptors_of, place_of}
-use Rattle.journal.specs.Naming.{AreNamedTo, IsBehindTwo}
+use Rattle.journal.specs.Format2.{descriptors_of}
+use Rattle.journal.specs.Naming.{IsBehindTwo}
 use Rattle.journal.proofs.SectorsRead.{unnamed, named_on, named_good, named_bad}
 use Rattle.journal.proofs.reader.RecordReader.take_names.Goals as goal
 use Rattle.journal.proofs.reader.RecordReader.take_names.Goals.{After-append}
@@ -36,19 +35,6 @@ long c =
     let d = c.in-Some.ensures.entries in
     grind (arith, length-append, c.append.ensures, c.deref.ensures, c.deref-2.ensures, b, d)
 
--- what they are then
-named_to : (c : After-append) (image : Image)
-    → c.args.sector.now ≡ image (place_of (c.args.self.now.stamp % c.args.self.now.sizes.slots) + c.args.index)
-    → AreNamedTo image (place_of (c.args.self.now.stamp % c.args.self.now.sizes.slots)) c.args.self.now.stamp c.args.count c.args.index
-    c.args.self.now.read
-    → AreNamedTo image (place_of (c.args.self.now.stamp % c.args.self.now.sizes.slots)) c.args.self.now.stamp c.args.count
-    (c.args.index + 1) c.append.new.self
-named_to c image here so_far =
-    let s = c.args.self.now in
-    let b = s.reads.behind_two _ _ c.requires in
-    named_on s.sizes image s.stamp s.read b.two c.args.count c.args.index so_far b.more (rw here at c.in-Some.ensures)
-    c.append.new.self (rw c.deref.ensures.0 at c.append.ensures.numbers) (rw c.deref-2.ensures.0 at c.append.ensures.firsts)
-
 pub invariant_of-self-then-index-descriptors : goal.invariant_of-self-then-index-descriptors
 invariant_of-self-then-index-descriptors c =
     let all = long (goal.at.invariant_of-self-then-index-descriptors c).After-append in
@@ -63,12 +49,16 @@ invariant_of-self-else-index-descriptors c =
 
 pub returns-then-index-descriptors : goal.returns-then-index-descriptors
 returns-then-index-descriptors c =
-    let b = c.args.self.now.reads.behind_two _ _ c.requires in
-    let after = (goal.at.returns-then-index-descriptors c).After-append in (
+    let s = c.args.self.now in
+    let b = s.reads.behind_two _ _ c.requires in (
       refl,
       refl,
       record {
-        knows = λ image reads had known. (omega (arith, known.0), named_to after image had known.1);
+        knows = λ image reads had known. (
+          omega (arith, known.0),
+          named_on s.sizes image s.stamp s.read b.two c.args.count c.args.index known.1 b.more (rw had at c.in-Some.ensures)
+              c.append.new.self (rw c.deref.ensures.0 at c.append.ensures.numbers) (rw c.deref-2.ensures.0 at c.append.ensures.firsts),
+        );
         nearer = omega (arith, b.more, b.few);
       },
     )
@@ -77,7 +67,6 @@ pub returns-else-index-descriptors : goal.returns-else-index-descriptors
 returns-else-index-descriptors c =
     let s = c.args.self.now in
     let b = s.reads.behind_two _ _ c.requires in
-    let after = (goal.at.returns-else-index-descriptors c).After-append in
     let last : c.args.index + 1 ≡ descriptors_of c.args.count =
     omega (arith, c.if-index-descriptors.false, c.descriptors.ensures, b.more) in
     let blocks = rw c.deref-else-index-descriptors.ensures.0 at c.are_blocks.ensures in (
@@ -85,7 +74,8 @@ returns-else-index-descriptors c =
       refl,
       record {
         knows = λ image reads had known.
-            let is = named_to after image had known.1 in
+            let is = named_on s.sizes image s.stamp s.read b.two c.args.count c.args.index known.1 b.more (rw had at c.in-Some.ensures)
+            c.append.new.self (rw c.deref.ensures.0 at c.append.ensures.numbers) (rw c.deref-2.ensures.0 at c.append.ensures.firsts) in
             let all : reads + 1 ≡ 1 + descriptors_of c.args.count = omega (arith, known.0, last) in
             ⊎_elim (λ yes. let both = blocks.0 yes.1 in
             rw (yes.0, all) (named_good s.sizes image s.stamp c.append.new.self b.two c.args.count (c.args.index + 1) is last both.0

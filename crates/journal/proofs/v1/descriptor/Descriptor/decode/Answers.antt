@@ -1,4 +1,4 @@
-use Rattle.std.proofs.Common.{◌≡◌, rules, arith}
+use Rattle.std.proofs.Common.{arith}
 use Rattle.journal.proofs.SectorNumbers.{descriptor_says, descriptor_numbers}
 use Rattle.journal.proofs.v1.descriptor.Descriptor.decode.Goals as goal
 
