@@ -1,5 +1,5 @@
 //! The sectors of a record of format 1: a descriptor, data places and a commit.
-ghost use Rattle.std.specs.Prelude.{◌≡◌, ◌≤◌, ◌<◌, ◌-◌, ◌^◌, ◌+◌, ◌*◌, length, slice_range};
+ghost use Rattle.std.specs.Prelude.{◌≡◌, length};
 ghost use Rattle.journal.specs.Record.{entries_of, CanWrite};
 ghost use Rattle.journal.specs.Formats.{format1};
 

@@ -1,5 +1,5 @@
 //! The data places of format 2: a block whose first 8 bytes make room for the stamp of its record.
-ghost use Rattle.std.specs.Prelude.{◌≡◌, length, IsTrue, ◌↔◌};
+ghost use Rattle.std.specs.Prelude.{◌≡◌, IsTrue, ◌↔◌};
 ghost use Rattle.journal.specs.Format2.{place_bytes};
 
 use byteorder::{ByteOrder, LittleEndian};

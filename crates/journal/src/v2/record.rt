@@ -1,8 +1,6 @@
 //! The sectors of a record of format 2: descriptors, data places and a commit.
-ghost use Rattle.std.specs.Prelude.{◌≡◌, ◌≤◌, ◌<◌, ◌-◌, ◌^◌, ◌+◌, ◌*◌, ◌/◌, length, All};
-ghost use Rattle.std.specs.Prelude.{slice_range};
-ghost use Rattle.journal.specs.Sectors.{IsRising};
-ghost use Rattle.journal.specs.Format2.{descriptors_of, place_bytes, format2};
+ghost use Rattle.std.specs.Prelude.{◌≡◌, length};
+ghost use Rattle.journal.specs.Format2.{descriptors_of, format2};
 ghost use Rattle.journal.specs.Record.{entries_of, CanWrite};
 
 use crate::fields::write_block;

@@ -10,5 +10,6 @@ pub returns-in-Descriptor2 : goal.returns-in-Descriptor2
 returns-in-Descriptor2 c =
     let s = c.args.self.now in
     let b = s.reads.behind_two _ _ c.in-Descriptor2.is in
+    let place = rw c.slot_of-slot.ensures at c.descriptor_place.ensures in
     let ends = within s.sizes s.stamp _ c.slot_of-slot.ensures b.two in
-    grind (arith, ends, b, c.slot_of-slot.ensures, c.descriptor_place.ensures, c.in-Descriptor2.is)
+    rw c.in-Descriptor2.is (tt, omega (arith, ends, c.descriptor_place.ensures, b.more, b.few), place)
