@@ -4,4 +4,3 @@ pub mod RetireTurns
 pub mod SortedIndex
 pub mod LeavingIndex
 pub mod HeldLog
-pub mod TurnLaws

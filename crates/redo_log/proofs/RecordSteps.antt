@@ -5,7 +5,7 @@ use Rattle.std.proofs.Math.ListN.{set}
 use Rattle.std.proofs.Math.Seq.{set-append_seam}
 use Rattle.std.proofs.Math.Nat.{mod-add-mod, mod-eq-sub-mod, mod-eq_of_lt, mul-le-mul_left}
 use Rattle.std.proofs.lemmas.Bool.Decides.{nat_tests}
-use Rattle.std.specs.Prelude.{All, sum_by, true}
+use Rattle.std.specs.Prelude.{All, sum_by, true, ◌^◌}
 use Rattle.arrayvec.specs.ArrayVec.{ArrayVec}
 use Rattle.journal.specs.Places.{limit_of, first_home, sectors_of, Shape}
 use Rattle.redo_log.specs.Value.{none_ahead, retire_steps_of, Ahead, LogValue, HasRoom, most_retire_steps, steps_of, behind_oldest}
@@ -13,7 +13,7 @@ use Rattle.redo_log.specs.Value.{of_oldest, steps_for, most_steps, next_sends, t
 use Rattle.redo_log.specs.Value.{step_flushes, next_step_flushes, IsCovered, settled}
 use Rattle.redo_log.specs.Shown.{AreInside, needed_at, value_at, IsRecord, IsSized, lists_of, shown, Invariant, flush_of, written_at}
 use Rattle.redo_log.specs.Shown.{flushed_at}
-use Rattle.std.proofs.lemmas.List.{length-map, map_push, get_or_past}
+use Rattle.std.proofs.lemmas.List.{length-map, map_push, get_or_past, get_or-map}
 use Rattle.std.proofs.lemmas.List.Sums.{sum_by-cons, sum_by-append, sum_by-le}
 use Rattle.journal.specs.Formats.{shape_of, layout_of}
 use Rattle.journal.specs.declared.super_sector.Super.{Super}
@@ -84,6 +84,8 @@ pub record IsLog (log : LogValue) : Type 0 where
   pub alone : length log.waiting ≡ 0 → log.retire_steps_left ≡ behind_oldest log
   pub owed : 0 < length log.waiting → 0 < of_oldest log
   pub owed_most : of_oldest log ≤ length (get_or log.waiting 0 []) + 2
+  -- the head may go past a record that waits
+  pub head_fits : 0 < length log.waiting → log.head + 1 < 2 ^ 63
   -- what went home ahead is retired, or its blocks are at home
   pub past : log.ahead.home ≤ log.head
   pub away : 2 < of_oldest log → log.ahead.home ≢ log.head
@@ -120,6 +122,19 @@ log_is i is inv =
     let record_is : 0 < (shown i).steps_left → IsRecord (shown i).shape (i.head + length (shown i).waiting) i.under_way.numbers =
     λ some. grind (arith, inv.each, many_lists i.waiting.items) in
     rw (← is) (grind (arith, inv.each, many_lists i.waiting.items, record_is, sizes_sized i.sizes))
+
+-- the oldest record, where one waits, is the first one, and so many turns of it are made and left
+pub turns_made : (i : Inside) → Invariant i → {front : ArrayVec ℕ} → 0 < length i.waiting.items
+    → front ≡ get_or i.waiting.items 0 front → AreInside (shape_of i.sizes) front.items
+    × (get_or (lists_of i.waiting.items) 0 [] ≡ front.items) × (turned_of (shown i) ≡ i.turned)
+    × (of_oldest (shown i) ≡ length front.items + 2 - i.turned)
+turns_made i inv {front} some is =
+    let f : ArrayVec ℕ → List ℕ = λ r. r.items in
+    let many = many_lists i.waiting.items in
+    let first : get_or (lists_of i.waiting.items) 0 [] ≡ front.items =
+    get_or-map f i.waiting.items 0 front [] some ∙ ap f (sym is) in
+    let each = rw first at (inv.each 0 [] (omega (arith, some, many))) in
+    grind (arith, inv.oldest, first, many, each)
 
 -- ---- the oldest record, as others come and go
 

@@ -1,14 +1,24 @@
--- Each turn that retires the oldest durable record: what the log and its medium hold after it.
-use Rattle.std.proofs.Common.{⊎_elim, ◌⊎◌, ◌≡◌, ◌≢◌, ℕ, ◌+◌, ◌-◌, ◌<◌, ◌≤◌, List, [], ◌∷◌, length, get_or, drop, refl, arith, rules}
-use Rattle.std.proofs.Common.{length-drop, add-zero, true, false, map, slice_index, drop-cons}
+-- Each turn that retires the oldest durable record: what the log and its medium hold after it, and after each of its calls.
+use Rattle.std.proofs.Common.{subst, ◌≡◌, ◌≢◌, ◌⊎◌, inl, inr, ⊎_elim, ℕ, ◌+◌, ◌-◌, ◌<◌, ◌≤◌, List, [], ◌∷◌, length, get_or, drop, refl, sym}
+use Rattle.std.proofs.Common.{◌∙◌, length-drop, add-zero, true, false, map, slice_index, drop-cons, arith, rules, Some, None, Option}
+use Rattle.std.proofs.Common.{MatchOption, Result, Ok, Err, OnOk}
 use Rattle.std.proofs.lemmas.Bool.{cases_eq, cases_lt}
 use Rattle.std.proofs.lemmas.List.{drop-map, length-map}
+use Rattle.std.proofs.lemmas.Result.{on_ok_weaker}
 use Rattle.std.proofs.Math.ListN.{get_or-map}
-use Rattle.medium.specs.Medium.{State, Image, Holds, Gains, Only, IsSound}
-use Rattle.medium.specs.Moments.{EachCut, LeavesOnly}
-use Rattle.medium.proofs.Moments.{each_write, each_flush, quiet_leaves, content_has}
-use Rattle.journal.specs.declared.head.Head.{Head as HeadOf}
+use Rattle.medium.specs.Medium.{State, Image, Holds, Gains, Only, Stays, IsSound, Passes}
+use Rattle.medium.specs.Moments.{EachCut, LeavesOnly, IsQuiet}
+use Rattle.medium.specs.declared.fault.MediumFault.{MediumFault}
+use Rattle.medium.specs.declared.fault.MediumFault.TheVariants as fault
+use Rattle.medium.specs.declared.medium_call.Call.{Call}
+use Rattle.medium.specs.declared.medium_call.Call.TheVariants.{Write, Flush}
+use Rattle.medium.specs.Performed.{IsWithin, ReadsBefore, IsDone, Performed, fault_of}
+use Rattle.medium.specs.Sent.{sent}
+use Rattle.medium.proofs.SparedSectors.{spared_joined}
+use Rattle.medium.proofs.SectorsRead.{looks_joined}
+use Rattle.medium.proofs.Moments.{each_write, each_flush, content_has, quiet_call, quiet_leaves, joined_same}
 use Rattle.journal.specs.Places.{sectors_of, first_home}
+use Rattle.journal.specs.Sectors.{IsHead}
 use Rattle.journal.specs.Record.{Entry, numbers_of}
 use Rattle.journal.specs.Formats.{layout_of, IsWhole}
 use Rattle.journal.specs.Staged.{IsHomed, with_less, View as ImageView}
@@ -16,22 +26,17 @@ use Rattle.journal.proofs.SectorsRead.{begun_is}
 use Rattle.journal.proofs.Formats.{laws_of, most_is}
 use Rattle.journal.proofs.Wholeness.{records-hide}
 use Rattle.journal.proofs.Engine.{IsWholeIn-same, IsKept, kept_home, kept_head}
-use Rattle.redo_log.specs.declared.turn.Turn.{Turn}
-use Rattle.redo_log.specs.declared.turn.Turn.TheVariants.{Copy, Flush, Head}
-use Rattle.redo_log.specs.Value.{LogValue, Ahead, IsSentHome, IsRetireStepped, of_oldest, ahead_of, settled}
-use Rattle.redo_log.specs.Halfway.{WritesOnly, head_bytes, MayTurn, IsTurned, IsNextTurn, IsHeadTurn}
+use Rattle.redo_log.specs.Value.{LogValue, Ahead, CanPass, IsAway, IsSentHome, of_oldest, ahead_of, settled, next_calls}
+use Rattle.redo_log.specs.Value.{next_sends, next_turn_flushes}
 use Rattle.redo_log.specs.Held.{View, with_record, view_retired, made_of, turned_of, needed_of, image_view, MayLeave, Safe, AreHome}
 use Rattle.redo_log.specs.Held.{HasHead, IsGuarded, HoldsView}
+use Rattle.redo_log.specs.Steps.{CountsStep, LeavesLog, HoldsCounted}
+use Rattle.redo_log.specs.Halfway.{IsFirst, IsSecond, flushed, copy_of, home_of, brought, WritesOnly, HoldsHalf, TurnBegun, TurnEnded}
+use Rattle.redo_log.specs.Halfway.{TellsFirst, TellsSecond}
 use Rattle.redo_log.proofs.HeldLog.{moments_have, Stands, hides_behind, front, has_before, guard_logged, newest, with_newest, same_head}
 use Rattle.redo_log.proofs.HeldLog.{safe_here, guard_leaves, Stores-stays, many, named, count, under_count, stands_now, goes_on, counts_of}
-use Rattle.redo_log.proofs.HeldLog.{kept_is, retired_kept}
-use Rattle.redo_log.proofs.RecordSteps.{needed_one, IsLog, retired_of, one_waits, nothing_home, not_homed}
-
--- a turn that writes the head has one
-pub head_turn : (stamp : ℕ) (turn : Turn) → IsHeadTurn stamp turn → (h : HeadOf) × (turn ≡ Head h) × (h.stamp ≡ stamp)
-head_turn stamp (Copy from to first) is = absurd is
-head_turn stamp Flush is = absurd is
-head_turn stamp (Head h) is = (h, refl, is)
+use Rattle.redo_log.proofs.HeldLog.{kept_is, retired_kept, shrunk_held, one_write, dead_held, quiet_held}
+use Rattle.redo_log.proofs.RecordSteps.{needed_one, IsLog, retired_of, one_waits, nothing_home, not_homed, one_sent, leaves_log}
 
 module _ {log : LogValue} (is : IsLog log) (live : log.dead ≡ false) (owed : 0 < of_oldest log) {old : State}
     (sound : IsSound old) {view : View} (hv : HoldsView log old view) where
@@ -48,25 +53,24 @@ module _ {log : LogValue} (is : IsLog log) (live : log.dead ≡ false) (owed : 0
   fit = omega (arith, is.few, under_count hv, most_is log.shape.format)
 
   -- ---- the head is written past it
-  module _ (one : of_oldest log ≡ 1) (h : HeadOf) (stamp_is : h.stamp ≡ log.head + 1) (new : State) where
+  module _ (one : of_oldest log ≡ 1) {bytes : List ℕ} (head_is : IsHead (log.head + 1) bytes) (new : State) where
     one_now : view.ours ≡ true → EachCut (λ image. Safe log.shape log.head view (made_of log) image × IsHomed v image) old
     one_now ours image cut =
         let g = hv.guards live ours image cut in
         let f = g.flushed (grind (arith, one)) in (newest g f.0, f.1)
 
-    past : {before image : Image} → IsHomed v before → Holds 1 (head_bytes h.stamp) before image
+    past : {before image : Image} → IsHomed v before → Holds 1 bytes before image
         → IsKept (layout_of log.shape.format) v (with_less v) before image
-    past homed write = kept_head _ (laws_of _) v is.sized.behind fit waits
-        (rw (← stamp_is) (record { spelled = refl; least = h.least; most = h.most })) homed write
+    past homed write = kept_head _ (laws_of _) v is.sized.behind fit waits head_is homed write
 
     stands_past : Stands log.shape (log.head + 1) (view_retired 1 view) log.steps_left (made_of log)
     stands_past =
         let stands = stands_now hv is in grind (arith, stands, stands.slots, length-drop 1 view.records, waits)
 
     -- at each moment a cut leaves what it might leave before, and with the new head the same array
-    pub head_leaves : WritesOnly 1 (head_bytes h.stamp) old new → view.ours ≡ true → LeavesOnly (MayLeave old.size log view) old new
-    head_leaves adds ours = moments_have (MayLeave old.size log view) 1 (head_bytes h.stamp) old new adds
-        (λ mid gains. each_write _ (MayLeave old.size log view) old mid 1 (head_bytes h.stamp) sound gains (one_now ours)
+    pub head_leaves : WritesOnly 1 bytes old new → view.ours ≡ true → LeavesOnly (MayLeave old.size log view) old new
+    head_leaves adds ours = moments_have (MayLeave old.size log view) 1 bytes old new adds
+        (λ mid gains. each_write _ (MayLeave old.size log view) old mid 1 bytes sound gains (one_now ours)
         (λ image both. guard_leaves log {retire = 0} hv.fits (stands_now hv is)
         (with_newest both.0 (λ none. absurd (omega (arith, none)))))
         (λ before image write both.
@@ -77,10 +81,9 @@ module _ {log : LogValue} (is : IsLog log) (live : log.dead ≡ false) (owed : 0
         grind (arith, guard_logged (retired_of log) hv.fits stands_past g, more, drop-cons view.records 0 [] waits, one)))
 
     -- then the log has one record less, where this guards it
-    past_held : new.size ≡ old.size → Holds 1 (head_bytes h.stamp) old.content new.content
-        → (view.ours ≡ true → IsGuarded (retired_of log) (view_retired 1 view) new)
-        → HoldsView (retired_of log) new (view_retired 1 view)
-    past_held same_size wrote guards =
+    past_held : new.size ≡ old.size → Holds 1 bytes old.content new.content
+        → (view.ours ≡ true → IsGuarded (retired_of log) (view_retired 1 view) new) → HoldsCounted log new view
+    past_held same_size wrote guards then stepped =
         let fits : sectors_of log.shape ≤ new.size = omega (arith, same_size, hv.fits) in
         let fewer = length-drop 1 view.records in
         let durable : drop 1 log.waiting ≡ map (λ r. numbers_of r) (drop 1 view.records) =
@@ -92,30 +95,25 @@ module _ {log : LogValue} (is : IsLog log) (live : log.dead ≡ false) (owed : 0
         let stored = (past (λ i inside. s.copied i (omega (arith, inside, one, count hv 0)) inside) wrote).stored s.stored in
         let copied : AreHome log.shape (get_or (drop 1 view.records) 0 []) (turned_of (retired_of log)) new.content =
         λ i low high. absurd (nothing_home log i low (omega (arith, high, counts_of (drop 1 view.records) durable 0))) in
-        search (rules, arith)
+        let held : HoldsView (retired_of log) new (view_retired 1 view) = search (rules, arith) in
+        grind (arith, one, stepped.some, stepped.last, held)
 
     -- nothing of the next one is flushed at home yet
     needs_more : needed_of (retired_of log) ≢ 1
     needs_more e = omega (arith, needed_one (retired_of log) e, not_homed log)
 
     -- where it is durable, the log has one record less
-    pub flushed_held : new.size ≡ old.size → Holds 1 (head_bytes h.stamp) old.content new.content
-        → Only new.content new.may_leave → HoldsView (retired_of log) new (view_retired 1 view)
+    pub flushed_held : new.size ≡ old.size → Holds 1 bytes old.content new.content
+        → Only new.content new.may_leave → HoldsCounted log new view
     flushed_held same_size wrote only = past_held same_size wrote (λ ours.
         let both = content_has _ old sound (one_now ours) in
         each_flush _ new.content new only (with_newest ((past both.1 wrote).guarded both.0) (λ is. absurd (needs_more is))))
 
-    -- so a log that counts it holds what the medium does
-    pub retired_held : (then : LogValue) → IsRetireStepped log then → HoldsView (retired_of log) new (view_retired 1 view)
-        → HoldsView then new (view_retired (then.head - log.head) view)
-    retired_held then stepped held = grind (arith, one, stepped.some, stepped.last, held)
-
     -- where it is not flushed yet, a slot is free besides the one that is passed
-    pub ahead_held : log.next - log.head < log.shape.slots → new.size ≡ old.size
-        → Gains 1 (head_bytes h.stamp) old.may_leave new.may_leave
-        → Holds 1 (head_bytes h.stamp) old.content new.content → HoldsView (retired_of log) new (view_retired 1 view)
+    pub ahead_held : log.next - log.head < log.shape.slots → new.size ≡ old.size → Gains 1 bytes old.may_leave new.may_leave
+        → Holds 1 bytes old.content new.content → HoldsCounted log new view
     ahead_held besides same_size gains wrote = past_held same_size wrote (λ ours.
-        each_write _ _ old new 1 (head_bytes h.stamp) sound gains (one_now ours)
+        each_write _ _ old new 1 bytes sound gains (one_now ours)
         (λ image both. record {
           stamp = log.head;
           passed = get_or view.records 0 [] ∷ [];
@@ -126,48 +124,63 @@ module _ {log : LogValue} (is : IsLog log) (live : log.dead ≡ false) (owed : 0
         })
         (λ before image write both. with_newest ((past both.1 write).guarded both.0) (λ is. absurd (needs_more is))))
 
-  -- ---- the next turn of the oldest record
-  module _ (turn : Turn) (next : IsNextTurn log.shape log.head (get_or log.waiting 0 []) log.firsts
-      (turned_of log) turn) (new : State)
-      (adds : MayTurn turn old new) where
-    -- ---- it brings the next block home
-    module _ (below : 2 < of_oldest log) where
-      inside : turned_of log < length oldest
-      inside = omega (arith, below, is.owed_most, count hv 0)
+  -- ---- its blocks are flushed at home
+  pub covered_held : of_oldest log ≡ 2 → (new : State) → new.size ≡ old.size → Stays old.content new.content
+      → Only old.content new.may_leave → HoldsCounted log new view
+  covered_held two new same_size stays only then stepped =
+      let none : log.head - log.head ≡ 0 = omega arith in
+      let s = hv.stores live in
+      let there : length oldest ≤ turned_of log = omega (arith, two, count hv 0) in
+      rw (stepped.flush two, none) (goes_on hv is log.steps_left (log.retire_steps_left - 1) log.ahead new (omega arith) same_size live
+      (Stores-stays s _ (turned_of (settled log)) new.content stays (omega arith) (λ i low high. omega (arith, high, there)))
+      (λ ours. each_flush _ old.content new only (with_newest (safe_here sound s (hv.guards live ours))
+      (λ _ i inside. s.copied i (omega (arith, inside, there)) inside))))
 
-      -- the block, and where it goes
-      abbrev block : Entry
-      block = get_or oldest (turned_of log) (0, [])
+  -- ---- the next block goes home
+  module _ (below : IsAway log) (new : State) (adds : WritesOnly (home_of log) (brought log (old.content (copy_of log))) old new) where
+    inside : turned_of log < length oldest
+    inside = omega (arith, below, is.owed_most, count hv 0)
 
-      abbrev to : ℕ
-      to = first_home log.shape + block.0
+    -- the block, and where it goes
+    abbrev block : Entry
+    block = get_or oldest (turned_of log) (0, [])
 
-      brings : WritesOnly to block.1 old new × (IsTurned turn old new → Holds to block.1 old.content new.content)
-      brings =
-          let t = turned_of log in
-          let number : slice_index (get_or log.waiting 0 []) t ≡ (get_or oldest t (0, [])).0 =
-          cc (named hv 0, get_or-map (λ (e : Entry). e.0) oldest t (0, [])) in
-          let whole : IsWhole log.shape old.content log.head oldest = rw add-zero at ((hv.stores live).stored.keeps.whole 0 waits) in
-          let copies = rw number at (next.home (omega (arith, below, is.owed_most))) in
-          let brought = begun_is log.shape.format log.shape old.content log.head oldest whole t inside _
-          (kept_is log.shape.format view.records view.under_way log.firsts hv.firsts 0 t waits inside) _ refl in
-          (rw brought at (rw copies at adds), λ done. rw brought at (rw copies at done))
+    abbrev to : ℕ
+    to = first_home log.shape + block.0
 
-      home_each : view.ours ≡ true → (mid : State) → Gains to block.1 old.may_leave mid.may_leave → {left : ℕ} → left ≢ 1
-          → EachCut (HasHead log.shape log.head view (made_of log) left) mid
-      home_each ours mid gains not = each_write _ _ old mid to block.1 sound gains (hv.guards live ours)
-          (λ image g. same_head g g.safe (λ one. absurd (not one)))
-          (λ before image write g. same_head g
-          ((kept_home _ (laws_of _) (front g) is.sized.behind fit block.0
-          (hides_behind g.passed _ _ (records-hide view.records 0 _ waits inside)) write).guarded g.safe)
-          (λ one. absurd (not one)))
+    block_is : (P : ℕ → List ℕ → Type 0) → P (home_of log) (brought log (old.content (copy_of log))) → P to block.1
+    block_is P there =
+        let t = turned_of log in
+        let number : slice_index (get_or log.waiting 0 []) t ≡ (get_or oldest t (0, [])).0 =
+        cc (named hv 0, get_or-map (λ (e : Entry). e.0) oldest t (0, [])) in
+        let whole : IsWhole log.shape old.content log.head oldest = rw add-zero at ((hv.stores live).stored.keeps.whole 0 waits) in
+        rw (begun_is log.shape.format log.shape old.content log.head oldest whole t inside _
+        (kept_is log.shape.format view.records view.under_way log.firsts hv.firsts 0 t waits inside) _ refl) at (rw number at there)
 
+    home_each : view.ours ≡ true → (mid : State) → Gains to block.1 old.may_leave mid.may_leave → {left : ℕ} → left ≢ 1
+        → EachCut (HasHead log.shape log.head view (made_of log) left) mid
+    home_each ours mid gains not = each_write _ _ old mid to block.1 sound gains (hv.guards live ours)
+        (λ image g. same_head g g.safe (λ one. absurd (not one)))
+        (λ before image write g. same_head g
+        ((kept_home _ (laws_of _) (front g) is.sized.behind fit block.0
+        (hides_behind g.passed _ _ (records-hide view.records 0 _ waits inside)) write).guarded g.safe)
+        (λ one. absurd (not one)))
+
+    -- at each moment a cut leaves what it might leave before
+    pub home_leaves : view.ours ≡ true → LeavesOnly (MayLeave old.size log view) old new
+    home_leaves ours = moments_have (MayLeave old.size log view) to block.1 old new
+        (block_is (λ place bytes. WritesOnly place bytes old new) adds)
+        (λ mid gains image cut.
+        guard_leaves log {retire = 0} hv.fits (stands_now hv is) (home_each ours mid gains (omega arith) image cut))
+
+    -- the log that counts it holds what the medium does
+    module _ (same_size : new.size ≡ old.size)
+        (done : Holds (home_of log) (brought log (old.content (copy_of log))) old.content new.content) where
       home_held : (ahead : Ahead) → needed_of (record log { retire_steps_left = log.retire_steps_left - 1; ahead = ahead }) ≢ 1
-          → new.size ≡ old.size → IsTurned turn old new
           → HoldsView (record log { retire_steps_left = log.retire_steps_left - 1; ahead = ahead }) new view
-      home_held ahead not same_size done =
+      home_held ahead not =
           let s = hv.stores live in
-          let write = brings.1 done in
+          let write = block_is (λ place bytes. Holds place bytes old.content new.content) done in
           goes_on hv is log.steps_left (log.retire_steps_left - 1) ahead new (omega arith) same_size live
           (record {
             stored = (kept_home _ (laws_of _) v is.sized.behind fit _
@@ -178,62 +191,199 @@ module _ {log : LogValue} (is : IsLog log) (live : log.dead ≡ false) (owed : 0
                 let long = length-map oldest (λ (e : Entry). e.0) in
                 grind (arith, cases_eq j (turned_of log), write, s.copied j, up, long, number j, number (turned_of log), inside);
           })
-          (λ ours. home_each ours new brings.0.sets not)
+          (λ ours. home_each ours new (block_is (λ place bytes. WritesOnly place bytes old new) adds).sets not)
 
-    -- so a block goes home, the blocks are flushed, or the head goes past the record
-    by_turn : {P : Type 0} → (2 < of_oldest log → P) → (of_oldest log ≡ 2 → turn ≡ Flush → P)
-        → (of_oldest log ≡ 1 → (h : HeadOf) → turn ≡ Head h → h.stamp ≡ log.head + 1 → P) → P
-    by_turn home flush head =
-        let which : (2 < of_oldest log) ⊎ ((of_oldest log ≡ 2) × (turn ≡ Flush))
-        ⊎ ((of_oldest log ≡ 1) × IsHeadTurn (log.head + 1) turn) =
-        grind (arith, cases_lt 2 (of_oldest log), next.flush, next.head, owed) in
-        let past = λ (h : (h : HeadOf) × (turn ≡ Head h) × (h.stamp ≡ log.head + 1))
-        (one : of_oldest log ≡ 1). head one h.0 h.1 h.2 in
-        ⊎_elim home (⊎_elim (λ two. flush two.0 two.1) (λ one. past (head_turn (log.head + 1) turn one.1) one.0)) which
+      -- and a record whose blocks go home by retire steps needs its flush
+      pub sent_held : (then : LogValue) → IsSentHome log then → (then.head ≡ log.head) × HoldsView then new view
+      sent_held then home =
+          let noted : LogValue = record log { retire_steps_left = log.retire_steps_left - 1; ahead = ahead_of log } in
+          let last = λ (last : of_oldest log ≡ 3). home_held (ahead_of log) (λ one. omega (arith, needed_one noted one, last)) in
+          let more = home_held log.ahead (λ one. omega (arith, needed_one (settled log) one, below, is.away below)) in
+          grind (arith, cases_lt 3 (of_oldest log), home.more, home.last, last, more)
 
-    -- at each moment a cut leaves what it might leave before
-    pub turn_leaves : view.ours ≡ true → LeavesOnly (MayLeave old.size log view) old new
-    turn_leaves ours = by_turn
-        (λ below. moments_have (MayLeave old.size log view) (to below) (block below).1 old new (brings below).0
-        (λ mid gains image cut.
-        guard_leaves log {retire = 0} hv.fits (stands_now hv is) (home_each below ours mid gains (omega arith) image cut)))
-        (λ two flush. quiet_leaves (MayLeave old.size log view) old new sound (hv.leaves ours) (rw flush at adds))
-        (λ one h head stamp. head_leaves one h stamp new (rw head at adds) ours)
+-- ---- the calls of a turn, one by one: what each leaves of the log and its medium, and how they are told
 
-    -- the log that counts the turn holds what the medium does
-    module _ (same_size : new.size ≡ old.size) (done : IsTurned turn old new) (then : LogValue) where
-      -- a record whose blocks go home by retire steps needs its flush
-      goes_home : 2 < of_oldest log → HoldsView (settled log) new view
-      goes_home below = home_held below log.ahead (λ one. omega (arith, needed_one (settled log) one, below, is.away below)) same_size done
+module _ {log : LogValue} (is : IsLog log) (owed : 0 < of_oldest log) where
+  -- a block goes home, the blocks are flushed, or the head goes past the record
+  which : IsAway log ⊎ (of_oldest log ≡ 2) ⊎ (of_oldest log ≡ 1)
+  which = grind (arith, cases_lt 2 (of_oldest log), owed)
 
-      -- so it does where a block went home
-      pub sent_held : 2 < of_oldest log → IsSentHome log then → HoldsView then new view
-      sent_held below home =
-          let then : LogValue = record log { retire_steps_left = log.retire_steps_left - 1; ahead = ahead_of log } in
-          let ahead = λ (last : of_oldest log ≡ 3).
-          home_held below (ahead_of log) (λ one. omega (arith, needed_one then one, last)) same_size done in
-          grind (arith, cases_lt 3 (of_oldest log), home.more, home.last, ahead, goes_home below)
+  -- ---- the first call
+  module _ {first : Call} {bytes : List ℕ} (first_is : IsFirst log first bytes) (live : log.dead ≡ false) {old : State}
+      (sound : IsSound old) {had : List ℕ} {one : Result (Unit {0}) MediumFault} {mid : State}
+      (begun : Performed first bytes had one old mid) (after : IsSound mid) where
+    -- it writes nothing, or the head
+    adds : IsQuiet old mid ⊎ ((of_oldest log ≡ 1) × WritesOnly 1 bytes old mid)
+    adds = ⊎_elim
+        (λ away. let p = rw (first_is.home away) at begun in inl (quiet_call old mid p.passes p.changes p.adds))
+        (⊎_elim (λ two. let p = rw (first_is.flush two) at begun in inl (quiet_call old mid p.passes p.changes p.adds))
+        (λ last. let p = rw (first_is.head last).0 at begun in inr (last, one_write 1 bytes old sound mid p.passes p.adds))) which
 
-      sent_head : 2 < of_oldest log → IsSentHome log then → then.head ≡ log.head
-      sent_head below home = grind (arith, cases_lt 3 (of_oldest log), home.more, home.last)
+    begun_leaves : LeavesLog log old mid
+    begun_leaves = leaves_log (λ view hv ours. ⊎_elim
+        (λ quiet. quiet_leaves (MayLeave old.size log view) old mid sound (hv.leaves ours) quiet)
+        (λ head. head_leaves is live owed sound hv head.0 (first_is.head head.0).1 mid head.1 ours) adds)
+        (begun.spares (sectors_of log.shape) first_is.inside) (begun.looks (first_home log.shape) first_is.reads)
 
-      -- and behind any retire step
-      pub stepped_held : IsRetireStepped log then → HoldsView then new (view_retired (then.head - log.head) view)
-      stepped_held stepped =
-          let here : log.head - log.head ≡ 0 = omega arith in by_turn
-          (λ below.
-          let head = sent_head below (stepped.home below) in
-          let none : then.head - log.head ≡ 0 = omega (arith, head) in
-          rw none (sent_held below (stepped.home below)))
-          (λ two flush.
-          let wrote = rw flush at done in
-          let s = hv.stores live in
-          let there : length oldest ≤ turned_of log = omega (arith, two, count hv 0) in
-          rw (stepped.flush two, here)
-          (goes_on hv is log.steps_left (log.retire_steps_left - 1) log.ahead new (omega arith) same_size live
-          (Stores-stays s _ (turned_of (settled log)) new.content wrote.0 (omega arith) (λ i low high. omega (arith, high, there)))
-          (λ ours. each_flush _ old.content new wrote.1 (with_newest (safe_here sound s (hv.guards live ours))
-          (λ _ i inside. s.copied i (omega (arith, inside, there)) inside)))))
-          (λ one h head stamp.
-          let wrote = rw head at done in
-          retired_held one h stamp new then stepped (flushed_held one h stamp new same_size wrote.0 wrote.1))
+    module _ (view : View) (hv : HoldsView log old view) (done : IsDone first bytes had old mid) where
+      half_home : IsAway log → HoldsView log mid view × (had ≡ mid.content (copy_of log))
+      half_home away =
+          let p = rw (first_is.home away) at begun in
+          let got = rw (first_is.home away) at done in
+          (quiet_held log view old mid (quiet_call old mid p.passes p.changes p.adds) hv, got ∙ sym (p.changes (copy_of log)))
+
+      half_head : of_oldest log ≡ 1 → HoldsCounted log (flushed mid) view
+      half_head last =
+          let head = first_is.head last in
+          flushed_held is live owed sound hv last head.1 (flushed mid) begun.passes.size_stays (rw head.0 at done) (λ s c same. same)
+
+      half_flush : of_oldest log ≡ 2 → HoldsCounted log mid view
+      half_flush two =
+          let flushed = rw (first_is.flush two) at done in
+          covered_held is live owed sound hv two mid begun.passes.size_stays flushed.0 flushed.1
+
+      half_passed : CanPass log → HoldsCounted log mid view
+      half_passed can =
+          let head = first_is.head can.flushed in
+          let p = rw head.0 at begun in
+          ahead_held is live owed sound hv can.flushed head.1 mid can.besides p.passes.size_stays p.adds (rw head.0 at done)
+
+    turn_begun : TurnBegun log had one old mid
+    turn_begun =
+        let dead = λ (view : View) (hv : HoldsView log old view).
+        dead_held hv mid after begun.passes.size_stays (begun_leaves.cuts view hv) in
+        record {
+          leaves = begun_leaves;
+          dead = dead;
+          half = λ view hv. on_ok_weaker one (λ (done : IsDone first bytes had old mid). record {
+            dead = dead view hv;
+            home = half_home view hv done;
+            flush = half_flush view hv done;
+            head = half_head view hv done;
+          }) begun.done;
+          passed = λ view hv can. on_ok_weaker one (λ done. half_passed view hv done can) begun.done;
+        }
+
+  -- ---- the second one
+  module _ {had bytes : List ℕ} {second : Call} (second_is : IsSecond log had (Some second) bytes) where
+    is_home : IsAway log → second ≡ Write (home_of log)
+    is_home away = cc ((second_is.home away).0)
+
+    not_two : of_oldest log ≢ 2
+    not_two two = absurd (cc (second_is.flush two))
+
+    is_flush : of_oldest log ≡ 1 → second ≡ Flush
+    is_flush last = cc (second_is.head last)
+
+    by_second : {P : Type 0} → (IsAway log → P) → (of_oldest log ≡ 1 → P) → P
+    by_second home head = ⊎_elim home (⊎_elim (λ two. absurd (not_two two)) head) which
+
+    second_inside : IsWithin (sectors_of log.shape) second × ReadsBefore (first_home log.shape) second
+    second_inside = by_second
+        (λ away.
+        let waits = one_waits is owed in
+        let below = (is.each 0 [] waits).inside (turned_of log) 0 (omega (arith, away, is.owed_most)) in
+        rw (is_home away) (omega (arith, below), tt))
+        (λ last. rw (is_flush last) (tt, tt))
+
+    module _ (live : log.dead ≡ false) {mid : State} (sound : IsSound mid) {last : List ℕ} {two : Result (Unit {0}) MediumFault}
+        {new : State} (ended : Performed second bytes last two mid new) (after : IsSound new) where
+      module _ (view : View) (half : HoldsHalf log had mid view) where
+        home_ended : IsAway log → WritesOnly (home_of log) (brought log (mid.content (copy_of log))) mid new
+            × OnOk two (Holds (home_of log) (brought log (mid.content (copy_of log))) mid.content new.content)
+        home_ended away =
+            let e = rw (is_home away, (second_is.home away).1, (half.home away).1) at ended in
+            (one_write _ _ mid sound new e.passes e.adds, e.done)
+
+        head_ended : of_oldest log ≡ 1 → IsQuiet mid new × OnOk two (Stays mid.content new.content × Only mid.content new.may_leave)
+        head_ended one = let e = rw (is_flush one) at ended in (quiet_call mid new e.passes e.changes e.adds, e.done)
+
+        ended_cuts : view.ours ≡ true → LeavesOnly (MayLeave mid.size log view) mid new
+        ended_cuts ours = by_second
+            (λ away. home_leaves is live owed sound (half.home away).0 away new (home_ended away).0 ours)
+            (λ one. quiet_leaves (MayLeave mid.size log view) mid new sound (half.dead.leaves ours) (head_ended one).0)
+
+        ended_sent : IsAway log → (then : LogValue) → IsSentHome log then
+            → OnOk two (HoldsView then new view)
+        ended_sent away then home =
+            let h = home_ended away in
+            let held = sent_held is live owed sound (half.home away).0 away new h.0 ended.passes.size_stays in
+            on_ok_weaker two (λ done. (held done then home).1) h.1
+
+        ended_done : OnOk two (HoldsCounted log new view)
+        ended_done = by_second
+            (λ away. let h = home_ended away in on_ok_weaker two (λ done then stepped.
+            let held = sent_held is live owed sound (half.home away).0 away new h.0 ended.passes.size_stays done then (stepped.home away) in
+            let none : then.head - log.head ≡ 0 = omega (arith, held.0) in rw none held.1) h.1)
+            (λ one. on_ok_weaker two (λ done then stepped.
+            shrunk_held then (view_retired (then.head - log.head) view) (flushed mid) new ended.passes.size_stays done.0 done.1
+            (half.head one then stepped)) (head_ended one).1)
+
+      turn_ended : TurnEnded log had two mid new
+      turn_ended = record {
+        spares = ended.spares (sectors_of log.shape) second_inside.0;
+        looks = ended.looks (first_home log.shape) second_inside.1;
+        sent = ended_sent;
+        cuts = ended_cuts;
+        dead = λ view half. dead_held half.dead new after ended.passes.size_stays (ended_cuts view half);
+        done = ended_done;
+      }
+
+  -- ---- the calls as `turn_first` and `turn_second` tell them
+  module _ {M : Type 0} (state : M → State) (sound : (m : M) → IsSound (state m)) where
+    pub tells_first : {call : Call} {bytes : List ℕ} → IsFirst log call bytes → TellsFirst state log call bytes
+    tells_first first = record {
+      inside = first.inside;
+      home = λ away. rw (first.home away) (refl, refl);
+      flush = λ two. rw (first.flush two) (refl, refl);
+      head = λ last. rw (first.head last).0 (refl, refl);
+      law = λ m n after result on made. turn_begun first on.live (sound m) made (sound n);
+    }
+
+    pub tells_second : {had bytes : List ℕ} (call : Option Call) → IsSecond log had call bytes
+        → MatchOption call (of_oldest log ≡ 2) (λ second. TellsSecond state log had second bytes)
+    tells_second None none = grind (arith, which, none)
+    tells_second (Some call) some = record {
+      inside = (second_inside some).0;
+      home = λ away. rw (is_home some away) (refl, refl);
+      flush = not_two some;
+      head = λ last. rw (is_flush some last) (refl, refl);
+      law = λ m n after result on made. turn_ended some on.live (sound m) made (sound n);
+    }
+
+-- ---- both calls, of which the first is good
+
+module _ {log : LogValue} {had : List ℕ} {old mid new : State} (begun : TurnBegun log had (Ok tt) old mid)
+    {two : Result (Unit {0}) MediumFault} (ended : TurnEnded log had two mid new) where
+  two_cuts : (view : View) → HoldsView log old view → view.ours ≡ true → LeavesOnly (MayLeave old.size log view) old new
+  two_cuts view holds ours =
+      let first = begun.leaves.cuts view holds ours in
+      joined_same (MayLeave old.size log view) old mid new first
+      (subst (λ (size : ℕ). LeavesOnly (MayLeave size log view) mid new) first.size_stays (ended.cuts view (begun.half view holds) ours))
+
+  pub two_leave : LeavesLog log old new
+  two_leave = leaves_log two_cuts (spared_joined (sectors_of log.shape) old mid new begun.leaves.spares ended.spares)
+      (looks_joined (λ s. s < first_home log.shape) old mid new begun.leaves.looks ended.looks)
+
+-- their calls are those of the next retire step
+module _ {M : Type 0} {state : M → State} {log : LogValue} (owed : 0 < of_oldest log) {first : Call} {bytes : List ℕ}
+    (f : TellsFirst state log first bytes) where
+  pub two_counts : {second : Call} {had with : List ℕ} → TellsSecond state log had second with
+      → {old mid new : State} {two : Result (Unit {0}) MediumFault}
+      → Passes (fault_of first) (Ok tt) old mid → Passes (fault_of second) two mid new
+      → CountsStep (next_calls log) (next_sends log) (next_turn_flushes log) two old new
+  two_counts {second} s {old} {mid} {new} {two} a b =
+      let one = one_sent first old mid a in
+      let other = one_sent second mid new b in
+      let which = cases_lt 2 (of_oldest log) in
+      let calls : new.calls ≡ old.calls + next_calls log = grind (arith, owed, s.flush, a.calls_are, b.calls_are) in
+      let sends : (sent new ≡ sent old + next_sends log) × (new.made fault.Flush ≡ old.made fault.Flush + next_turn_flushes log) =
+      grind (arith, owed, which, f.home, f.head, s.home, s.flush, s.head, one, other) in
+      search (rules, arith, calls, sends)
+
+  -- a refused first call is no more than they are
+  pub refused_counts : {old new : State} {e : MediumFault} → Passes (fault_of first) (Err e) old new
+      → CountsStep {X = Unit {0}} (next_calls log) (next_sends log) (next_turn_flushes log) (Err e) old new
+  refused_counts {old} {new} a =
+      let one = one_sent first old new a in
+      grind (arith, owed, cases_lt 2 (of_oldest log), a.calls_are, f.home, f.flush, f.head, one)

@@ -34,7 +34,7 @@ use Rattle.journal.specs.Layout.{Layout, part_at, IsRecordOf}
 use Rattle.journal.specs.Formats.{layout_of}
 use Rattle.redo_log.specs.declared.progress.Progress.{Progress}
 use Rattle.redo_log.specs.declared.progress.Progress.TheVariants.{More, Durable}
-use Rattle.redo_log.specs.Halfway.{MakesNext, IsNextCall, IsFlushDue}
+use Rattle.redo_log.specs.Halfway.{IsNextCall, IsFlushDue}
 use Rattle.medium.specs.declared.medium_call.Call.TheVariants.{Write, Flush}
 use Rattle.medium.specs.Performed.{IsDone, IsWithin, Performed}
 use Rattle.medium.specs.declared.medium_call.Call.{Call}
@@ -148,8 +148,9 @@ module _ {log : LogValue} (is : IsLog log) (live : log.dead ≡ false) (some : 0
 
   -- ---- the next call of a record with these blocks
   module _ {numbers : List ℕ} (bytes : List ℕ) (same : numbers ≡ log.under_way) (size : length bytes ≡ 512 * length numbers)
-      {result : Result (Unit {0}) MediumFault} {new : State}
-      (here : MakesNext log.shape (log.head + length log.waiting) (entries_of numbers bytes) (made_of log) result old new)
+      {call : Call} {sector last : List ℕ} {result : Result (Unit {0}) MediumFault} {new : State}
+      (told : IsNextCall (layout_of log.shape.format) log.shape (log.head + length log.waiting) (entries_of numbers bytes)
+      (made_of log) call sector) (performed : Performed call sector last result old new)
     where
       abbrev other : List Entry
       other = entries_of numbers bytes
@@ -161,14 +162,14 @@ module _ {log : LogValue} (is : IsLog log) (live : log.dead ≡ false) (some : 0
       other_is = record_entries log.shape stamp numbers other is.sized (rw (same, ← many hv) (is.record_is some))
           (sym (numbers_of_batch numbers bytes)) (sized_batch numbers bytes size)
 
-      next : IsNextCall L log.shape stamp other (made_of log) here.call here.bytes
-      next = rw (many hv) at here.next
+      next : IsNextCall L log.shape stamp other (made_of log) call sector
+      next = rw (many hv) at told
 
-      flushes : IsFlushDue L n (made_of log) → here.call ≡ Flush
+      flushes : IsFlushDue L n (made_of log) → call ≡ Flush
       flushes due = next.0 (rw other_count due)
 
       -- ---- a flush of the early parts
-      early_flushed : 1 < log.steps_left → IsFlushDue L n (made_of log) → IsDone here.call here.bytes here.after old new
+      early_flushed : 1 < log.steps_left → IsFlushDue L n (made_of log) → IsDone call sector last old new
           → HoldsView more_log new view
       early_flushed more due done =
           let wrote = rw (flushes due) at done in
@@ -176,19 +177,19 @@ module _ {log : LogValue} (is : IsLog log) (live : log.dead ≡ false) (some : 0
           let early : (0 < L.early n) × (made_of log ≡ L.early n) = grind (arith, due, few) in
           let after = early_written _ (made_of log) (made_of more_log) (then_made more) early.0 early.1 in
           let s = hv.stores live in
-          goes_on hv is (log.steps_left - 1) log.retire_steps_left log.ahead new (omega arith) here.makes.passes.size_stays live
+          goes_on hv is (log.steps_left - 1) log.retire_steps_left log.ahead new (omega arith) performed.passes.size_stays live
           (Stores-stays s (made_of more_log) (turned_of log) new.content wrote.0 (omega (arith, after.0)) (λ i low high. low))
           (λ ours. each_flush _ old.content new wrote.1 (with_newest
           (rw (after.0, after.1) (record { stored = s.stored; carries = (safe_here sound s (hv.guards live ours)).carries }))
           (λ one i inside. s.copied i (omega (arith, inside, needed_one log one, count hv 0)) inside)))
 
       -- ---- a flush of all parts: the record is durable
-      all_flushed : log.steps_left ≡ 1 → IsDone here.call here.bytes here.after old new → HoldsView (durable_of log) new (with_record view)
+      all_flushed : log.steps_left ≡ 1 → IsDone call sector last old new → HoldsView (durable_of log) new (with_record view)
       all_flushed last done =
           let all : L.parts n ≤ k = omega (arith, all_written _ _ (made_of log) late, made_is log some, is.most_left, last, all_steps) in
           let wrote = rw (flushes (inr all)) at done in
           let longer = length-append view.records (view.under_way ∷ []) in
-          let fits : sectors_of log.shape ≤ new.size = omega (arith, here.makes.passes.size_stays, hv.fits) in
+          let fits : sectors_of log.shape ≤ new.size = omega (arith, performed.passes.size_stays, hv.fits) in
           let still : new.content ≡ old.content = λ i s. wrote.0 s i in
           let s = hv.stores live in
           let durable : log.waiting ++ log.under_way ∷ [] ≡ map (λ r. numbers_of r) (view.records ++ view.under_way ∷ []) =
@@ -226,11 +227,11 @@ module _ {log : LogValue} (is : IsLog log) (live : log.dead ≡ false) (some : 0
         abbrev part : List ℕ
         part = L.part stamp other k
 
-        writes : (here.call ≡ Write place) × (here.bytes ≡ part)
+        writes : (call ≡ Write place) × (sector ≡ part)
         writes = rw other_count at (next.1 (rw other_count not))
 
         adds : Gains place part old.may_leave new.may_leave
-        adds = rw (writes.0, writes.1) at here.makes.adds
+        adds = rw (writes.0, writes.1) at performed.adds
 
         -- the write leaves the blocks at home
         at_home : {was image : Image} → Holds place part was image → (b : ℕ) → image (log.shape.home + b) ≡ was (log.shape.home + b)
@@ -266,14 +267,14 @@ module _ {log : LogValue} (is : IsLog log) (live : log.dead ≡ false) (some : 0
               λ image cut. guard_leaves log hv.fits stands_then (part_each mine ours _ refl image cut)
         ]
 
-        part_written_now : 1 < log.steps_left → view.under_way ≡ other → IsDone here.call here.bytes here.after old new
+        part_written_now : 1 < log.steps_left → view.under_way ≡ other → IsDone call sector last old new
             → HoldsView more_log new view
         part_written_now more named done =
             let write = rw (writes.0, writes.1) at done in
             let s = hv.stores live in
             let mine : part ≡ L.part stamp view.under_way k = ap (λ (l : List Entry). L.part stamp l k) (sym named) in
             let now = part_written (L.early n) (made_of log) (made_of more_log) (then_made more) (grind (arith, not)) in
-            goes_on hv is (log.steps_left - 1) log.retire_steps_left log.ahead new (omega arith) here.makes.passes.size_stays live
+            goes_on hv is (log.steps_left - 1) log.retire_steps_left log.ahead new (omega arith) performed.passes.size_stays live
             (record {
               stored = Stored-write _ (laws_of _) _ (stands.slots some) k small (λ p low not. omega arith)
                   (rw mine at write) s.stored;
@@ -283,9 +284,9 @@ module _ {log : LogValue} (is : IsLog log) (live : log.dead ≡ false) (some : 0
 
       -- after it a cut leaves what it might leave before, and with the last part the record
       pub step_leaves : view.ours ≡ true → LeavesOnly (MayLeave old.size log view) old new
-      step_leaves ours = one_call (MayLeave old.size log view) old new sound here.makes.passes (hv.leaves ours)
+      step_leaves ours = one_call (MayLeave old.size log view) old new sound performed.passes (hv.leaves ours)
           (elim (due_or_not L n (made_of log)) [
-            | inl due ↦ shrunk (MayLeave old.size log view) old new (rw (flushes due) at here.makes.adds) (hv.leaves ours)
+            | inl due ↦ shrunk (MayLeave old.size log view) old new (rw (flushes due) at performed.adds) (hv.leaves ours)
             | inr not ↦ part_leaves not ours
           ])
 
@@ -296,8 +297,8 @@ module _ {log : LogValue} (is : IsLog log) (live : log.dead ≡ false) (some : 0
         counted_held More stepped = rw stepped.1 (on_ok_weaker result (λ done. elim (due_or_not L n (made_of log)) [
           | inl due ↦ early_flushed stepped.0 due done
           | inr not ↦ part_written_now not stepped.0 entries done
-        ]) here.makes.done)
-        counted_held Durable stepped = rw stepped.1 (on_ok_weaker result (all_flushed stepped.0) here.makes.done)
+        ]) performed.done)
+        counted_held Durable stepped = rw stepped.1 (on_ok_weaker result (all_flushed stepped.0) performed.done)
 
         -- with the last one the record is whole in each image
         pub counted_whole : view.ours ≡ true → IsStepped Durable log then
@@ -305,7 +306,7 @@ module _ {log : LogValue} (is : IsLog log) (live : log.dead ≡ false) (some : 0
         counted_whole ours stepped = rw stepped.1 (on_ok_weaker result (λ done image cut.
             let held = all_flushed stepped.0 done in
             grind (arith, guard_logged (durable_of log) held.fits (stands_idle held.few refl refl) (held.guards live ours image cut)))
-            here.makes.done)
+            performed.done)
 
 -- the next call of the record under way
 pub step_called : {log : LogValue} → IsLog log → log.dead ≡ false → 0 < log.steps_left → {numbers : List ℕ} (bytes : List ℕ)
@@ -314,9 +315,7 @@ pub step_called : {log : LogValue} → IsLog log → log.dead ≡ false → 0 < 
     → IsWithin (first_home log.shape) call → (last : List ℕ) (result : Result (Unit {0}) MediumFault) (old new : State) → IsSound old
     → IsSound new → Performed call sector last result old new → StepCalled (entries_of numbers bytes) result log old new
 step_called {log} is live some {numbers} bytes same size {call} {sector} next inside last result old new sound whole made =
-    let here : MakesNext log.shape (log.head + length log.waiting) (entries_of numbers bytes) (made_of log) result old new =
-    record { call = call; bytes = sector; after = last; next = next; inside = inside; makes = made } in
-    let left = leaves_log (λ view holds. step_leaves is live some sound holds bytes same size here)
+    let left = leaves_log (λ view holds. step_leaves is live some sound holds bytes same size next made)
     (made.spares (sectors_of log.shape) (within_more (first_home log.shape) (sectors_of log.shape) (omega arith) call inside))
     (made.looks (first_home log.shape) (reads_nothing (layout_of log.shape.format) log.shape (log.head + length log.waiting)
     (entries_of numbers bytes) (made_of log) call sector next (first_home log.shape))) in
@@ -328,8 +327,8 @@ step_called {log} is live some {numbers} bytes same size {call} {sector} next in
       size = made.passes.size_stays;
       leaves = left;
       dead = λ view holds. dead_held holds new whole made.passes.size_stays (left.cuts view holds);
-      counted = λ view holds entries progress next stepped.
-          counted_held is live some sound holds bytes same size here entries next progress stepped;
-      durable = λ view holds entries ours next stepped.
-          counted_whole is live some sound holds bytes same size here entries next ours stepped;
+      counted = λ view holds entries progress then stepped.
+          counted_held is live some sound holds bytes same size next made entries then progress stepped;
+      durable = λ view holds entries ours then stepped.
+          counted_whole is live some sound holds bytes same size next made entries then ours stepped;
     }

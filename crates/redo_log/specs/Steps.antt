@@ -15,7 +15,8 @@ use Rattle.redo_log.specs.declared.fault.LogFault.TheVariants.{Medium, StampsUse
 use Rattle.redo_log.specs.declared.progress.Progress.{Progress}
 use Rattle.redo_log.specs.declared.progress.Progress.TheVariants.{Durable}
 use Rattle.redo_log.specs.Value.{LogValue, died, begun, most_steps, most_retire_steps, IsStepped}
-use Rattle.redo_log.specs.Value.{Owes, IsSentHome, IsRetireStepped, FlushesUpTo, next_step_flushes}
+use Rattle.redo_log.specs.Value.{Owes, IsAway, IsSentHome, IsRetireStepped, FlushesUpTo}
+use Rattle.redo_log.specs.Value.{next_step_flushes}
 use Rattle.redo_log.specs.Held.{View, HoldsView, MayLeave, HasDurable, with_record, view_stepped}
 use Rattle.redo_log.specs.Held.{view_retired}
 use Rattle.medium.specs.declared.medium_call.Call.{Call}
@@ -94,6 +95,11 @@ pub record MakesTurns {M : Type 0} (state : M → State) (Follows : M → M → 
       (λ _. HoldsView new (state n) view)
   pub leaves : LeavesLog old (state m) (state n)
 
+-- a medium holds this log once a retire step of it is counted
+abbrev pub HoldsCounted : LogValue → State → View → Type 0
+HoldsCounted log m view = (next : LogValue) → IsRetireStepped log next
+    → HoldsView next m (view_retired (next.head - log.head) view)
+
 -- The calls of a retire step of this log are made, or one of them is refused. The log itself does
 -- not count the step yet.
 pub record BringsOn {M : Type 0} (state : M → State) (Follows : M → M → Type 0) (Counted : Type 0)
@@ -103,15 +109,11 @@ pub record BringsOn {M : Type 0} (state : M → State) (Follows : M → M → Ty
   -- given up, the log and the medium hold what they held
   pub dead : (view : View) → HoldsView log (state m) view → HoldsView (died log) (state n) view
   -- where no call is refused, they do so with the step counted
-  pub counted : (view : View) → HoldsView log (state m) view → (next : LogValue)
-      → IsRetireStepped log next
-      → OnOk result (HoldsView next (state n) (view_retired (next.head - log.head) view))
-
--- Where no call of a turn ahead is refused, the log and the medium hold what they held, with the
--- turn counted.
-abbrev pub StaysSent : Result (Unit {0}) MediumFault → LogValue → State → State → Type 0
-StaysSent result log old new = (view : View) → HoldsView log old view → (next : LogValue)
-    → IsSentHome log next → OnOk result (HoldsView next new view)
+  pub counted : (view : View) → HoldsView log (state m) view
+      → OnOk result (HoldsCounted log (state n) view)
+  -- and with the turn counted that brings a block home ahead
+  pub sent : IsAway log → (view : View) → HoldsView log (state m) view → (next : LogValue)
+      → IsSentHome log next → OnOk result (HoldsView next (state n) view)
 
 -- The next call of the record under way, which is one of these entries, is made, or it is refused.
 -- The log itself does not count it yet.

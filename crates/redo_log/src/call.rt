@@ -1,12 +1,12 @@
 //! The calls of a medium that write a record, one after the other.
-ghost use Rattle.std.specs.Prelude.{◌≡◌, ◌⊎◌, ◌≤◌, ◌<◌, ◌*◌, length, IsTrue, ◌↔◌};
-ghost use Rattle.journal.specs.Places.{first_home};
+ghost use Rattle.std.specs.Prelude.{◌≡◌, ◌⊎◌, ◌≤◌, ◌<◌, ◌-◌, ◌^◌, length, IsTrue, ◌↔◌};
+ghost use Rattle.journal.specs.Places.{first_home, limit_of};
 ghost use Rattle.journal.specs.Formats.{shape_of, layout_of};
-ghost use Rattle.journal.specs.Layout.{part_at};
 ghost use Rattle.journal.specs.Record.{entries_of};
-ghost use Rattle.redo_log.specs.Shown.{IsRecord, written_at};
+ghost use Rattle.redo_log.specs.Shown.{written_at};
 ghost use Rattle.medium.specs.Performed.{IsWithin};
 ghost use Rattle.redo_log.specs.Halfway.{IsNextCall};
+ghost use Rattle.redo_log.specs.Value.{IsBatch};
 
 use journal::{LogFormat, Super, early, parts, slot_of, slot_place, write_part};
 use medium::Call;
@@ -33,14 +33,16 @@ fn is_early_due(early: usize, made: usize) -> bool
 // Whether a flush comes next: the early parts are written, or all. A record has more parts than
 // blocks, so that they are not counted for each of these.
 fn is_flush_due(format: LogFormat, count: usize, early: usize, made: usize, written: usize) -> bool
-    requires { count ≤ 240 }
+    requires { count ≤ limit_of format }
     ensures { IsTrue result ↔ (((0 < early) × (made ≡ early))
         ⊎ ((layout_of format).parts count ≤ written)) }
 {
     is_early_due(early, made) || (count < written && parts(format, count) <= written)
 }
 
-/// The next call of a record of which `made` calls are made, and in the sector what it writes.
+/// The next call of a record of which `made` calls are made, and in the sector what it writes. It
+/// stands apart, so that the stack has room for what it makes here alone.
+#[inline(never)]
 pub(crate) fn next_call(
     sizes: &Super,
     stamp: u64,
@@ -49,8 +51,8 @@ pub(crate) fn next_call(
     made: usize,
     sector: &mut [u8; 512],
 ) -> Call
-    requires record { IsRecord (shape_of sizes.now) stamp numbers.now }
-    requires size { length bytes.now ≡ 512 * length numbers.now }
+    requires stamp { (1 ≤ stamp) × (stamp < 2 ^ 63 - 1) }
+    requires batch { IsBatch (shape_of sizes.now) numbers.now bytes.now }
     ensures next { IsNextCall (layout_of sizes.now.format) (shape_of sizes.now) stamp
         (entries_of numbers.now bytes.now) made result sector.new }
     ensures inside { IsWithin (first_home (shape_of sizes.now)) result }
@@ -61,28 +63,7 @@ pub(crate) fn next_call(
     if is_flush_due(sizes.format, count, early, made, written) {
         return Call::Flush;
     }
-    Call::Write(put_part(sizes, stamp, numbers, bytes, written, sector))
-}
-
-// Puts part p of a record into the sector, and tells its place.
-#[inline(never)]
-fn put_part(
-    sizes: &Super,
-    stamp: u64,
-    numbers: &[u64],
-    bytes: &[u8],
-    p: usize,
-    sector: &mut [u8; 512],
-) -> u64
-    requires record { IsRecord (shape_of sizes.now) stamp numbers.now }
-    requires size { length bytes.now ≡ 512 * length numbers.now }
-    requires inside { p < (layout_of sizes.now.format).parts (length numbers.now) }
-    ensures place { result ≡ part_at (layout_of sizes.now.format) (shape_of sizes.now) stamp
-        (length numbers.now) p }
-    ensures bytes { sector.new ≡ (layout_of sizes.now.format).part stamp
-        (entries_of numbers.now bytes.now) p }
-{
     let slot = slot_of(stamp, sizes.slots);
-    let offset = write_part(sizes.format, stamp, numbers, bytes, p, sector);
-    slot_place(sizes.format, slot) + offset
+    let offset = write_part(sizes.format, stamp, numbers, bytes, written, sector);
+    Call::Write(slot_place(sizes.format, slot) + offset)
 }

@@ -16,9 +16,7 @@ mod log;
 mod making;
 mod oldest;
 mod progress;
-mod stage;
 mod stop;
-mod turn;
 mod under_way;
 
 pub use fault::LogFault;

@@ -5,7 +5,7 @@ ghost use Rattle.std.specs.Prelude.{IsTrue, IsOk, OnOk, IfOk, IfErr, MatchOption
 ghost use Rattle.std.specs.VecDeque.{deque_capacity};
 
 use crate::begun::BegunNumbers;
-use crate::firsts::{age_of, first_kept, keep_firsts};
+use crate::firsts::{first_kept, keep_firsts};
 use crate::index::{Copied, newest};
 use crate::making::make;
 use crate::{LogFault, Progress};
@@ -242,8 +242,10 @@ impl Log {
         ensures keeps { KeepsLog M.state M.follows self.now m.old m.new }
     {
         prove!(slot < self.sizes.slots && place < self.sizes.format.limit() as usize);
-        let age = age_of(self.sizes.slots, self.head, slot);
-        let first = first_kept(&self.firsts, age, place);
+        // How many records of the ring from the head on stand before the one in this slot.
+        let slots = self.sizes.slots;
+        let age = (slot + slots - self.head % slots) % slots;
+        let first = first_kept(&self.firsts, age as usize, place);
         read_copy(m, &self.sizes, slot, place, &first, to)
     }
 }

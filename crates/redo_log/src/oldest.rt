@@ -1,35 +1,55 @@
 //! The turns of the oldest durable record, one after the other.
-ghost use Rattle.std.specs.Prelude.{◌≡◌, ◌+◌, ◌<◌, length, get_or, [], MatchOption};
+ghost use Rattle.std.specs.Prelude.{◌≡◌, ◌+◌, ◌<◌, ◌≤◌, false, length, MatchOption};
+ghost use Rattle.journal.specs.Places.{sectors_of};
 ghost use Rattle.redo_log.specs.Value.{next_calls, next_sends, of_oldest, IsAway, IsSentHome};
-ghost use Rattle.redo_log.specs.Value.{CanPass, IsRetireStepped, next_turn_flushes};
-ghost use Rattle.redo_log.specs.Held.{turned_of};
-ghost use Rattle.redo_log.specs.Shown.{shown, Invariant};
-ghost use Rattle.redo_log.specs.declared.log.Log.TheInside.{Inside};
-ghost use Rattle.redo_log.specs.Steps.{CountsStep, IsOn, BringsOn, StaysSent};
-ghost use Rattle.redo_log.specs.Halfway.{StaysInImage, IsNextTurn};
-ghost use Rattle.redo_log.specs.Halfway.{TellsFirst, TellsSecond};
+ghost use Rattle.redo_log.specs.Value.{IsRetireStepped, next_turn_flushes};
+ghost use Rattle.redo_log.specs.Steps.{CountsStep, BringsOn};
+ghost use Rattle.redo_log.specs.Halfway.{IsFirst, IsSecond, TellsFirst, TellsSecond};
 
 use crate::Log;
+use crate::firsts::first_kept;
 use crate::index::drop_record;
 use crate::making::make;
-use crate::turn::{Turn, next_turn};
-use journal::{Head, slot_of};
+use journal::{Head, copy_place, put_first, slot_of};
 use medium::{Call, Medium, MediumFault};
 
 impl Log {
-    // The next turn of the oldest durable record.
-    fn oldest_turn(&self) -> Turn
-        requires { 0 < of_oldest self.now }
-        ensures next { StaysInImage (IsNextTurn self.now.shape self.now.head
-            (get_or self.now.waiting 0 []) self.now.firsts (turned_of self.now) result)
-            self.now.shape result }
-        ensures fields { (inside : Inside) × (shown inside ≡ self.now) × Invariant inside }
+    // The first call of the next turn of the oldest durable record, a flush where none waits, and
+    // in the sector what it writes.
+    #[tactic(auto, using(crate::proofs::RecordSteps::turns_made))]
+    fn first_call(&self, sector: &mut [u8; 512]) -> Call
+        ensures { IsFirst self.now result sector.new }
     {
         let Some(oldest) = self.waiting.front() else {
-            unreachable!()
+            return Call::Flush;
         };
-        let numbers = oldest.as_slice();
-        next_turn(&self.sizes, self.head, numbers, &self.firsts, self.turned)
+        let count = oldest.len();
+        if self.turned < count {
+            let slot = slot_of(self.head, self.sizes.slots);
+            Call::Read(copy_place(self.sizes.format, slot, self.turned))
+        } else if self.turned == count {
+            Call::Flush
+        } else {
+            *sector = Head::new(self.head + 1).encode();
+            Call::Write(1)
+        }
+    }
+
+    // The call after it, if there is one. The sector is the one that the first call left.
+    #[tactic(auto, using(crate::proofs::RecordSteps::turns_made))]
+    fn second_call(&self, sector: &mut [u8; 512]) -> Option<Call>
+        ensures { IsSecond self.now sector.old result sector.new }
+    {
+        let oldest = self.waiting.front()?;
+        if self.turned < oldest.len() {
+            let number = oldest[self.turned];
+            put_first(sector, &first_kept(&self.firsts, 0, self.turned));
+            Some(Call::Write(self.sizes.home_of(number)))
+        } else if self.turned == oldest.len() {
+            None
+        } else {
+            Some(Call::Flush)
+        }
     }
 
     /// The first call of the next turn of the oldest durable record, and in the sector what it
@@ -38,7 +58,8 @@ impl Log {
         requires { 0 < of_oldest self.now }
         ensures { TellsFirst M.state self.now result sector.new }
     {
-        self.oldest_turn().first(sector)
+        prove!(!self.waiting.is_empty());
+        self.first_call(sector)
     }
 
     /// The second one, if there is one: else the turn is made. The sector is as the first one left
@@ -48,41 +69,26 @@ impl Log {
         ensures { MatchOption result (of_oldest self.now ≡ 2)
             (λ call. TellsSecond M.state self.now sector.old call sector.new) }
     {
-        self.oldest_turn().second(sector)
+        prove!(!self.waiting.is_empty());
+        self.second_call(sector)
     }
 
     /// Makes the next turn of the oldest durable record, which is not counted yet.
     pub(crate) fn make_turn<M: Medium>(&self, m: &mut M) -> Result<(), MediumFault>
-        requires on { IsOn self.now (M.state m.old) }
+        requires fits { sectors_of self.now.shape ≤ (M.state m.old).size }
         requires owed { 0 < of_oldest self.now }
-        ensures brings { BringsOn M.state M.follows (CountsStep (next_calls self.now)
-            (next_sends self.now) (next_turn_flushes self.now) result (M.state m.old)
-            (M.state m.new)) result self.now m.old m.new }
-        ensures sent { IsAway self.now
-            → StaysSent result self.now (M.state m.old) (M.state m.new) }
+        ensures { self.now.dead ≡ false
+            → BringsOn M.state M.follows (CountsStep (next_calls self.now) (next_sends self.now)
+            (next_turn_flushes self.now) result (M.state m.old) (M.state m.new)) result self.now
+            m.old m.new }
     {
-        let turn = self.oldest_turn();
         let mut sector = [0; 512];
-        let first = turn.first(&mut sector);
+        let first = self.turn_first::<M>(&mut sector);
         make(m, first, &mut sector)?;
-        let Some(second) = turn.second(&mut sector) else {
+        let Some(second) = self.turn_second::<M>(&mut sector) else {
             return Ok(());
         };
         make(m, second, &mut sector)
-    }
-
-    /// Writes the head past the oldest durable record, which is not counted yet, and does not flush
-    /// it. Its bytes lie on the stack under no other call.
-    #[inline(never)]
-    pub(crate) fn write_head<M: Medium>(&self, m: &mut M) -> Result<(), MediumFault>
-        requires on { IsOn self.now (M.state m.old) }
-        requires can { CanPass self.now }
-        ensures { BringsOn M.state M.follows
-            (CountsStep 1 1 0 result (M.state m.old) (M.state m.new)) result self.now m.old
-            m.new }
-    {
-        let mut sector = Head::new(self.head + 1).encode();
-        make(m, Call::Write(1), &mut sector)
     }
 
     /// Counts a block of the oldest durable record that went home. The last one is noted: the flush

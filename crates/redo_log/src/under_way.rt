@@ -10,9 +10,8 @@ use crate::begun::BegunNumbers;
 use crate::call::next_call;
 use crate::index::enter_record;
 use crate::log::Numbers;
-use crate::stage::steps_for;
 use crate::{Log, Progress};
-use journal::slot_of;
+use journal::{parts, slot_of};
 use medium::{Call, Medium};
 use std::collections::VecDeque;
 
@@ -46,7 +45,8 @@ impl Log {
             unreachable!()
         };
         // (a record has more steps than blocks: they are not counted for each of these)
-        if made < numbers.len() || made + 1 < steps_for(self.sizes.format, numbers.len()) {
+        let (format, count) = (self.sizes.format, numbers.len());
+        if made < count || made + 1 < parts(format, count) + format.flushes() {
             self.made = Some(made + 1);
             return Progress::More;
         }
