@@ -11,7 +11,7 @@ use Rattle.journal.specs.{Formats.IsWhole, Record.Entry, Record.numbers_of, Reco
 use Rattle.journal.specs.{Reading.data_at, Reading.IsRead, Reading.IsReadFor, Naming.IsKnown, Naming.Learns, Naming.naming_place}
 use Rattle.journal.proofs.Wholeness.{with_blocks-copied, with_records-append}
 use Rattle.recovery.specs.Calls.{IsHomeOf, IsHomeInRecords, freed_at, copy_calls, calls_of, AreCopied}
-use Rattle.recovery.specs.Copying.{CopyView, HasHome, HoldsCopied, IsNextRecord, HasRead, HasWritten, IsRefusedStep, IsTakenOrPassed}
+use Rattle.recovery.specs.Copying.{CopyView, HasHome, HoldsCopied, IsNextRecord, HasRead, HasWritten, IsTakenOrPassed}
 use Rattle.recovery.specs.declared.copy_step.CopyStep.{CopyStep}
 use Rattle.recovery.proofs.JoinedCalls.{not_in_log, number_of, long_as}
 
@@ -41,10 +41,9 @@ module _ {M : Type 0} {state : M → State} {reader : RecordReader} {step : Copy
 
   -- ---- a read
   -- it was refused
-  pub unread : {bytes got : List ℕ} {n : M} {place : ℕ} {e : MediumFault} {next : RecordReader} {after : CopyStep}
-      → Performed (Read place) bytes got (Err e) (state m) (state n) → IsRefusedStep reader step next after
-      → HoldsCopied state next after got view n
-  unread performed gone = rw gone.reader_stays (with_home held.home held.reads (grind (arith, performed, held.at)))
+  pub unread : {bytes got : List ℕ} {n : M} {place : ℕ} {e : MediumFault} → Performed (Read place) bytes got (Err e) (state m) (state n)
+      → HoldsCopied state reader (record step { has_bytes = false }) got view n
+  unread performed = with_home held.home held.reads (grind (arith, performed, held.at))
 
   -- the sector that names blocks was read
   module _ {bytes got : List ℕ} {n : M} {place : ℕ}
@@ -126,15 +125,14 @@ module _ {M : Type 0} {state : M → State} {reader : RecordReader} {step : Copy
           place bytes held.at.within performed.adds (λ x c both. inr (rw both.0 at_home))
 
     -- it was refused
-    pub unwritten : {bytes got : List ℕ} {n : M} {place : ℕ} {e : MediumFault} {next : RecordReader} {after : CopyStep}
+    pub unwritten : {bytes got : List ℕ} {n : M} {place : ℕ} {e : MediumFault}
         → place ≡ first_home (shape_of reader.sizes) + get_or reader.read.numbers.items step.i 0
-        → Performed (Write place) bytes got (Err e) (state m) (state n) → IsRefusedStep reader step next after
-        → HoldsCopied state next after got view n
-    unwritten {next = next} {after = after} is performed gone =
-        let same = gone.reader_stays in
+        → Performed (Write place) bytes got (Err e) (state m) (state n)
+        → HoldsCopied state reader (record step { has_bytes = false }) got view n
+    unwritten is performed =
         let failed = performed.passes.failures_are in
-        rw same (with_home held.home held.reads
-        (grind (arith, held.at.whole, held.at.known, copied_before is performed, elsewhere is performed, within is performed)))
+        with_home held.home held.reads
+        (grind (arith, held.at.whole, held.at.known, copied_before is performed, elsewhere is performed, within is performed))
 
     -- it is written, and there is one more, or none
     module _ {bytes got : List ℕ} {n : M} {place : ℕ}
@@ -183,14 +181,8 @@ module _ {M : Type 0} {state : M → State} {reader : RecordReader} {step : Copy
           let calls : (state n).failures ≡ (state view.start).failures → (state n).calls
           ≡ (state view.start).calls + copy_calls view.sizes.format (take (held.home + 1) view.records) = λ none.
           let before = rw full at (held.at.calls (none_failed none)) in
-          rw (take_more view.records held.home [] inside) (omega (
-            arith,
-            before,
-            performed.passes.calls_are,
-            exact,
-            all,
-            copy_calls-append view.sizes.format (take held.home view.records) entries,
-          )) in
+          let more = copy_calls-append view.sizes.format (take held.home view.records) entries in
+          rw (take_more view.records held.home [] inside) (omega (arith, before, performed.passes.calls_are, exact, all, more)) in
           with_home (held.home + 1) 0
           (grind (arith, held.at.whole, goes.unread.knows start, copied, calls, elsewhere is performed, within is performed))
 

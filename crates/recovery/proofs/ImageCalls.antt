@@ -176,20 +176,12 @@ image_driven {first = first} {m = m} {result = result} P count since under drove
     let run = drove.runs
     (record { start = m; plan = first.plan; under = under; since = since; calls = calls_ahead first.stage first.plan.end })
     (grind (arith, shows, begins, counted, counts, later)) in
-    let exact = on_ok_weaker result (λ end. calls_all end.1 tt refl) done in (
-      search (
-        rules,
-        arith,
-        weaker _ P _ _ may run.0,
-        drove.spares,
-        calls_most drove.tallied,
-        counts,
-        exact,
-        sends_most drove.tallied,
-        no_read,
-        none_read drove.tallied no_read drove.looks,
-        refused_call result drove.tallied,
-      ),
+    let exact = on_ok_weaker result (λ end. calls_all end.1 tt refl) done in
+    let most = calls_most drove.tallied in
+    let sends = sends_most drove.tallied in
+    let none = none_read drove.tallied no_read drove.looks in
+    let refused = refused_call result drove.tallied in (
+      search (rules, arith, weaker _ P _ _ may run.0, drove.spares, counts, exact, most, sends, none, refused),
       on_ok_weaker result (λ is. (rw run.1.plan_is is.0, is.1, is.2))
           (image_ended result (on_ok_weaker result (λ on. (on.0.fits_still _ (fits, live)).1) drove.on)
           (on_ok_weaker result (λ end. end.0) done) run.1),

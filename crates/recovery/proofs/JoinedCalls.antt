@@ -89,9 +89,8 @@ copies_ours {shape = shape} {start = start} {array = array} {next = next} ours h
     λ b. ⊎_elim (with_records-same records (home_of shape image) (home_of shape start) b) (λ copied.
     let h = rw (head_is, count_is) at copied in
     let es = get_or records h.0 [] in
-    let here = subst (λ (es : List Entry). IsHomeOf shape (numbers_of es) (first_home shape + b))
-    (IsWhole-one (layout_of shape.format)
-    (laws_of shape.format) shape start _ h.2.0 es h.2.1 (ours.stands.keeps.whole h.0 h.1)) h.2.2 in
+    let one = IsWhole-one (layout_of shape.format) (laws_of shape.format) shape start _ h.2.0 es h.2.1 (ours.stands.keeps.whole h.0 h.1) in
+    let here : IsHomeOf shape (numbers_of es) (first_home shape + b) = rw one at h.2.2 in
     let hides = records-hide records h.0 here.0 h.1 (omega (arith, here.1, long_as es (numbers_of es) refl)) in
     subst (Hides records) (omega (arith, here.2, number_of es (numbers_of es) here.0 refl)) hides
     (home_of shape image) (home_of shape start)) (each (first_home shape + b)) in
@@ -211,17 +210,11 @@ image_made {shape = shape} {end = end} {old = old} {new = new} {result = result}
     → IsOurs size shape image array 2 = λ size image fits is. zeros_ours size shape array image fits is.super is.head
     (λ x low high. is.zeros x low (omega (arith, high, log))) (home image is) in
     let new_or_none : (image : Image) → IsNoneOrWritten shape end old.content image → IsNoneOrNew old.size shape array image =
-    λ image either. ⊎_elim inl (λ is. inr (ours _ image fits is)) either in (
+    λ image either. ⊎_elim inl (λ is. inr (ours _ image fits is)) either in
+    let moments = weaker _ (IsMidway shape array old) _ _ (λ image either. ⊎_elim inl (λ is. inr (new_or_none image is)) either)
+    wrote.writes.moments in (
       on_ok_weaker result (λ done. search (rules, ours new.size new.content (omega (arith, fits, size)) done.0)) wrote.done,
-      grind (
-        arith,
-        weaker _ (IsMidway shape array old) _ _ (λ image either. ⊎_elim inl (λ is. inr (new_or_none image is)) either)
-            wrote.writes.moments,
-        new_or_none,
-        wrote.after_flush,
-        wrote.writes.spares,
-        wrote.writes.reads,
-      ),
+      grind (arith, moments, new_or_none, wrote.after_flush, wrote.writes.spares, wrote.writes.reads),
     )
 
 -- the last one was refused, where it did not come to its end

@@ -5,4 +5,3 @@ pub mod WholeRecovery
 pub mod SurveyedRecords
 pub mod Looks
 pub mod StartCopy
-pub mod Tallies

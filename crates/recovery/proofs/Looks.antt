@@ -1,6 +1,7 @@
--- A look at an image, read by read; and a start, which begins with a flush and a look behind it: how each goes on, and how it ends.
+-- A look at an image, read by read; and a start, which begins with a flush and a look behind it: how each goes on, which calls are
+-- left of it, and how it ends.
 use Rattle.std.proofs.Common.{◌≡◌, ◌≢◌, ◌∙◌, sym, ⊎_elim, ℕ, ◌+◌, ◌*◌, ◌<◌, ◌≤◌, List, length, min, refl, ap, arith, rules, Result, Ok, Err}
-use Rattle.std.proofs.Common.{◌⊎◌, OnOk, Option, MatchOption, IfSome}
+use Rattle.std.proofs.Common.{◌⊎◌, ◌-◌, OnOk, Option, MatchOption, IfSome}
 use Rattle.medium.specs.Performed.{Performed, fault_of, IsWithin, ReadsBefore}
 use Rattle.medium.specs.declared.medium_call.Call.TheVariants.{Read, Flush}
 use Rattle.medium.specs.{Medium.State, Medium.IsSound, Moments.IsQuiet, Machine.Tallied, Machine.TellsCall, Machine.IsLeft, Tally.of_all}
@@ -9,14 +10,18 @@ use Rattle.medium.proofs.{Moments.quiet_start, Moments.quiet_call, Moments.quiet
 use Rattle.medium.proofs.{Driving.not_driven, Driving.driven_call, Driving.driven_refused, Tallies.calls_most, Tallies.none_made}
 use Rattle.medium.proofs.{Tallies.refusal_counts}
 use Rattle.journal.specs.{declared.super_sector.Super.Super, Places.Shape, Places.sectors_of, Formats.shape_of, Standing.HasShape}
+use Rattle.journal.specs.{Naming.IsReading, Naming.IsReader, Naming.names_left, Reading.record_reads_of, declared.record.Record.Record}
+use Rattle.journal.specs.{declared.reader.RecordReader.RecordReader, declared.naming_stage.NamingStage.NamingStage}
 use Rattle.journal.proofs.SectorNumbers.{IsSuper-one}
 use Rattle.recovery.specs.Causes.{SurveysAtMost, IsRefusalBy, IsSuperCause, AreCounts, AreTries, IsLookCause, WritesNothing, start_fault_of}
+use Rattle.recovery.specs.Causes.{HasFewSlots}
 use Rattle.recovery.specs.Starting.{IsReadFirst, FindsSuper, FindsHead, IsNewSurvey, CanStart, CanLook, IsStarting, EndsStart, IsStartStep}
-use Rattle.recovery.specs.Starting.{start_left, start_kind}
+use Rattle.recovery.specs.Starting.{start_left, start_kind, both, home_calls, IsFoundOn, IsSurveyedOn}
 use Rattle.recovery.specs.HoldsStart.{HoldsLook, HasLooked, HasReadFirst, HasFound, HasBegun, IsSurveyedSoFar, TellsSurvey, HoldsStart}
 use Rattle.recovery.specs.HoldsStart.{IsMidstart, IsFlushedFirst, StartView}
 use Rattle.recovery.specs.{Calls.HoldsLog, Calls.most_reads_of, Surveying.HoldsSurveyed, Surveying.IsSurveyStep, Surveying.surveys_left}
-use Rattle.recovery.specs.{declared.surveying.Surveying.Surveying, declared.start_fault.StartFault.StartFault}
+use Rattle.recovery.specs.{declared.surveying.Surveying.Surveying, declared.start_fault.StartFault.StartFault, Surveying.CanSurvey}
+use Rattle.recovery.specs.{Copying.CanCopy, Copying.copies_left, declared.found.Found.Found}
 use Rattle.recovery.specs.{declared.start_point.StartPoint.StartPoint, declared.copy_step.CopyStep.CopyStep, Stages.StartStage}
 use Rattle.recovery.specs.{Stages.stage_at, Recovered.LeavesAtLeast, declared.starting.Starting.Starting}
 use Rattle.recovery.proofs.WholeRecovery.{IsSurveyed, survey_leaves, refusal}
@@ -24,6 +29,7 @@ use Rattle.recovery.proofs.{JoinedCalls.looked_on, SurveyedRecords.counts_made, 
 use Rattle.medium.specs.declared.fault.MediumFault.TheVariants as medium
 use Rattle.recovery.specs.declared.start_fault.StartFault.TheVariants as fault
 use Rattle.recovery.specs.Stages as stage
+use Rattle.journal.specs.declared.naming_stage.NamingStage.TheVariants as naming
 use Rattle.recovery.specs.declared.start_point.StartPoint.TheVariants as point
 
 read_none : (m : State) → HasReadFirst 0 m m
@@ -124,31 +130,29 @@ module _ {M : Type 0} {state : M → State} (sound : (m : M) → IsSound (state 
           → SurveysAtMost (state mid) (state n)
       head_read performed = as_survey (omega arith) (head_seen performed)
 
+      same_head : Performed (Read 1) bytes got (Ok tt) (state m) (state n) → got ≡ (state mid).content 1
+      same_head performed = performed.done ∙ held.midway.read.quiet.content_stays 1
+
+      head_found : (next : StartStage) → Performed (Read 1) bytes got (Ok tt) (state m) (state n) → FindsHead least sizes got next
+          → HasLooked state least next got mid n
+      head_found (stage.Survey head survey) performed goes =
+          let found : HasFound sizes 2 (state mid) (state n) = record { read = head_seen performed; has = held.midway.has } in
+          let head_is = rw (same_head performed) at goes.0 in
+          let room = λ (few : HasFewSlots least (state mid).size (state mid).content).
+          let is = IsSuper-one few.shape (shape_of sizes) _ few.has.super found.has.super in goes.1 (rw is at few.one, rw is at few.few) in (
+            record { sizes = sizes; began = n; found = found; head_is = head_is; room = room; first = survey; first_had = got; new = goes.2 },
+            not_driven (λ s had m view holds image cut x. holds.quiet.sets_shrink x (image x) (cut x)) survey got n (sound n),
+          )
+      head_found (stage.Refused fault.BadHead) performed none =
+          (((shape_of sizes, held.midway.has, λ stamp is. none stamp (rw (same_head performed) is)), (head_seen performed).quiet), λ e. cc e)
+      head_found (stage.Refused fault.LogTooSmall) performed small =
+          let head = rw (same_head performed) at small.1 in
+          ((search (rules, held.midway.has, head, small.2), (head_seen performed).quiet), λ e. cc e)
+      head_found next performed none = absurd none
+
       pub head_looked : {next : StartStage} → Performed (Read 1) bytes got (Ok tt) (state m) (state n) → FindsHead least sizes got next
           → HoldsLook state least next got mid n
-      head_looked {next = next} performed finds =
-          let has = held.midway.has in
-          let seen = head_seen performed in
-          let same : got ≡ (state mid).content 1 = performed.done ∙ held.midway.read.quiet.content_stays 1 in
-          let one = λ (other : Shape) (its : HasShape (state mid).size other (state mid).content).
-          IsSuper-one other (shape_of sizes) ((state mid).content 0) its.super has.super in
-          looked held tt performed (head_read performed) (⊎_elim
-          (λ none. rw none.1 (((shape_of sizes, has, λ stamp is. none.0 stamp (rw same is)), seen.quiet), λ e. cc e))
-          (λ found. let head = rw same at found.1 in ⊎_elim
-          (λ small. rw small.1 ((search (rules, has, head, small.0), seen.quiet), λ e. cc e))
-          (λ goes. rw goes.3 (
-            record {
-              sizes = sizes;
-              began = n;
-              found = record { read = seen; has = has };
-              head_is = head;
-              room = λ few. let is = one few.shape few.has in goes.0 (rw is at few.one, rw is at few.few);
-              first = goes.1;
-              first_had = got;
-              new = goes.2;
-            },
-            not_driven (λ s had m view holds image cut x. holds.quiet.sets_shrink x (image x) (cut x)) goes.1 got n (sound n),
-          )) found.2) finds)
+      head_looked {next = next} performed finds = looked held tt performed (head_read performed) (head_found next performed finds)
 
   module _ {head : ℕ} {survey : Surveying} {had : List ℕ} {m : M} (held : HoldsLook state least (stage.Survey head survey) had mid m) where
     abbrev at : HasBegun state least head mid
@@ -183,11 +187,7 @@ module _ {M : Type 0} {state : M → State} (sound : (m : M) → IsSound (state 
           → HoldsLook state least (stage.Survey head after) got mid n
       survey_looked {after = after} performed step =
           let so_far = driven_call (λ s had m view holds image cut x. holds.quiet.sets_shrink x (image x) (cut x)) fits_first held.midway.1
-          tells performed refl after step (λ a b bytes due moved. record {
-            reads_stay = rw moved.sizes_stay refl;
-            ends_stay = rw moved.sizes_stay refl;
-            fits_still = λ size fits. rw moved.sizes_stay fits;
-          }) in
+          tells performed refl after step (λ a b bytes due moved. grind (arith, moved.sizes_stay)) in
           record {
             reads = survey_reads state so_far at.sizes head at.new at.found;
             well = λ live. performed.passes.failures_are ∙ held.well tt;
@@ -198,7 +198,7 @@ module _ {M : Type 0} {state : M → State} (sound : (m : M) → IsSound (state 
       pub survey_read : {e : MediumFault} → Performed call bytes got (Err e) (state m) (state n) → SurveysAtMost (state mid) (state n)
       survey_read {e = e} performed = survey_reads state (driven_refused
           (λ s had m view holds image cut x. holds.quiet.sets_shrink x (image x) (cut x)) fits_first held.midway.1 tells performed e refl
-          survey (record { reader_stays = refl; left_stays = refl; place_stays = refl; counts_stay = refl })) at.sizes head at.new at.found
+          survey refl) at.sizes head at.new at.found
 
 -- what a start holds at a stage, a look does
 pub can_look : {sectors : ℕ} {at : StartPoint} {survey : Surveying} {step : CopyStep} → CanStart sectors at survey step
@@ -309,3 +309,51 @@ pub at_end : {Exact : Type 0} {cost left rest : Tally} {Live : Type 0} (A : Type
     (result : Result (Unit {0}) MediumFault) → Tallied Exact cost rest result old new → OnOk result ((left ≡ none) × A)
     → (left ≡ none) ⊎ Live → (Live → new.failures ≡ old.failures) → left ≡ none
 at_end A result t end here well = grind (arith, refusal_counts result t, well)
+
+-- ---- which calls are left: each call is one of them, and leaves no more than the others
+-- a read fewer, and a write fewer
+abbrev pub less_read : Tally → Tally
+less_read t = record t { reads = t.reads - 1 }
+
+abbrev pub less_write : Tally → Tally
+less_write t = record t { writes = t.writes - 1 }
+
+-- how many sectors that name blocks are left
+pub names_few : (shape : Shape) (at : NamingStage) (read : Record) → IsReader shape at read → IsReading at
+    → (1 ≤ names_left at) × (names_left at ≤ record_reads_of shape.format)
+names_few shape (naming.Descriptor2 count index) read reads is = grind (arith, reads.behind_two count index refl)
+names_few shape stage read reads is = grind (arith, reads.one, reads.behind_one, reads.two)
+
+-- where no call is left no record is
+pub none_left : (reader : RecordReader) (step : CopyStep) → CanCopy reader step → copies_left reader step ≡ none → step.left ≡ 0
+none_left reader step goes none_is =
+    let few = λ (named : reader.stage ≡ naming.Named). (reader.reads.named named).few in
+    grind (arith, goes.there, goes.named, few, names_few _ reader.stage reader.read reader.reads)
+
+-- where no read is left no slot is
+pub no_tries_left : (reader : RecordReader) (left place : ℕ) {counted : ℕ} → CanSurvey reader left place counted
+    → surveys_left reader left place ≡ none → left ≡ 0
+no_tries_left reader left place goes none_is =
+    let few = λ (named : reader.stage ≡ naming.Named). (reader.reads.named named).few in
+    grind (arith, goes.there, goes.named, goes.two, few, names_few _ reader.stage reader.read reader.reads)
+
+-- ---- a start
+-- what is left of some, and the others
+pub both_left : {some rest : Tally} (others : Tally) → IsLeft ⊥ some rest → IsLeft ⊥ (both some others) (both rest others)
+both_left others is = grind (arith, is.most medium.Read, is.most medium.Write, is.most medium.Flush)
+
+pub left_through : {few some many : Tally} → IsLeft ⊥ few some → IsLeft ⊥ some many → IsLeft ⊥ few many
+left_through a b = record { most = λ kind. omega (arith, a.most kind, b.most kind); exact = λ e. absurd e }
+
+-- they are found
+found_left : {found : Found} {next : StartStage} {slots : ℕ} → found.count ≤ slots → IsFoundOn found next
+    → IsLeft ⊥ (start_left next) (home_calls found.sizes.format slots)
+found_left few goes = grind arith
+
+-- the survey goes on, or the records are found
+pub survey_goes_left : {head : ℕ} {survey : Surveying} {sizes : Super} {rest : Tally} {next : StartStage} → survey.reader.sizes ≡ sizes
+    → IsSurveyedOn head survey next → IsLeft ⊥ (surveys_left survey.reader survey.left survey.place) rest
+    → IsLeft ⊥ (start_left next) (both rest (home_calls sizes.format sizes.slots))
+survey_goes_left {survey = survey} same goes is = rw (← same) (⊎_elim (λ some. rw some.1 (both_left _ is))
+    (λ none. left_through (found_left {slots = survey.reader.sizes.slots} (omega (arith, survey.goes.room)) none.1)
+    (grind arith)) goes)

@@ -9,7 +9,7 @@ use Rattle.medium.proofs.{Moments.at_exit, Moments.after_write, Moments.one_call
 use Rattle.journal.specs.Formats.{shape_of, IsWhole, HasWhole}
 use Rattle.journal.specs.{Places.sectors_of, Places.first_home, Places.limit_of, Record.Entry, Sectors.IsHead, Standing.IsOurs}
 use Rattle.recovery.specs.Calls.{Copies, IsHomeInRecords, freed_at, most_calls_of, HasNewHead, Writes}
-use Rattle.recovery.specs.Copying.{Copying, copies_left, HoldsCopied, IsCopyStep, TellsCopy}
+use Rattle.recovery.specs.Copying.{Copying, again, copies_left, HoldsCopied, IsCopyStep, TellsCopy}
 use Rattle.recovery.specs.Starting.{IsNewCopying, IsCopiedOn, IsSurveyedOn, found_by, answer_of}
 use Rattle.recovery.specs.HoldsStart.{IsCopiedSoFar, IsCopying, HasSurveyed, HasCopied, HoldsLook, IsFlushedFirst, HasBegun, IsMovingHead}
 use Rattle.recovery.specs.HoldsStart.{IsFlushedAgain, HasMovedHead}
@@ -51,18 +51,10 @@ module _ {M : Type 0} {state : M → State} (sound : (m : M) → IsSound (state 
           let run = rw all.1 at (ran all.0 (sym all.1) (λ k below. all.2 k (omega (arith, below, all.1)))) in
           let most : of_all (copies_left first.reader first.step) ≤ most_calls_of found.sizes.format * found.count =
           rw (← new.sizes_are, ← new.left_is) (grind arith) in
-          grind (
-            arith,
-            rw all.1 at run.1.at.elsewhere,
-            run.0,
-            calls_most so_far.tallied,
-            most,
-            sends_most so_far.tallied,
-            new.sizes_are,
-            new.left_is,
-            rw new.sizes_are at so_far.looks,
-            refused_call result so_far.tallied,
-          )
+          let looks = rw new.sizes_are at so_far.looks in
+          let sends = sends_most so_far.tallied in
+          let refused = refused_call result so_far.tallied in
+          grind (arith, rw all.1 at run.1.at.elsewhere, run.0, calls_most so_far.tallied, most, sends, new, looks, refused)
 
       pub copies_leave_so_far : LeavesAtLeast least (state start) (state n)
       copies_leave_so_far =
@@ -101,21 +93,15 @@ module _ {M : Type 0} {state : M → State} (sound : (m : M) → IsSound (state 
         copied_on (
           at.0,
           driven_call (λ s had m view holds image cut x. holds.at.within x (image x) (cut x)) fits_first at.1 tells performed
-              refl after step (λ a b bytes due moved. record {
-                reads_stay = rw moved.sizes_stay refl;
-                ends_stay = rw moved.sizes_stay refl;
-                fits_still = λ size fits. rw moved.sizes_stay fits;
-              }),
+              refl after step (λ a b bytes due moved. grind (arith, moved.sizes_stay)),
         ) goes
 
     -- or refused
     pub copy_refused : {n : M} {got : List ℕ} {e : MediumFault} → Performed call bytes got (Err e) (state m) (state n)
         → LeavesAtLeast least (state start) (state n)
     copy_refused {e = e} performed =
-        let gone : Copying = record { reader = copying.reader; step = record copying.step { has_bytes = false } } in
         copies_leave_so_far at.0.surveyed at.0.new (driven_refused (λ s had m view holds image cut x. holds.at.within x (image x) (cut x))
-        fits_first at.1 tells performed e refl gone
-        (record { reader_stays = refl; left_stays = refl; i_stays = refl; no_bytes = refl }))
+        fits_first at.1 tells performed e refl (again copying) refl)
 
 module _ {M : Type 0} {state : M → State} (sound : (m : M) → IsSound (state m)) {least : ℕ} {start mid n : M} {head : ℕ}
     {survey : Surveying} {got : List ℕ} (flushed : IsFlushedFirst (state start) (state mid))
@@ -128,12 +114,7 @@ module _ {M : Type 0} {state : M → State} (sound : (m : M) → IsSound (state 
       → HasSurveyed state least (found_by head survey) start n
   survey_done none left =
       let counted = counted_at_end sound held none in
-      record {
-        mid = mid;
-        flushed = flushed;
-        reads = held.reads;
-        is = grind (arith, counted, at.found.has, at.head_is, left, at.room);
-      }
+      record { mid = mid; flushed = flushed; reads = held.reads; is = grind (arith, counted, at.found.has, at.head_is, left, at.room) }
 
   -- none is
   survey_used_up : survey.left ≡ 0 → 2 ^ 63 ≤ head + length survey.waiting.items + 1
@@ -157,7 +138,7 @@ module _ {M : Type 0} {state : M → State} (sound : (m : M) → IsSound (state 
       ) on.3) none.1) goes
 
 -- what a cut leaves while the head is moved
-abbrev Moved : Found → State → Image → Type 0
+abbrev pub Moved : Found → State → Image → Type 0
 Moved found copied image = CutLeaves copied.may_leave image ⊎ HasNewHead (found.head + found.count + 1) copied.content image
 
 -- the head is written over contents that are flushed
@@ -170,13 +151,10 @@ head_writes found copied {old = old} {new = new} {bytes = bytes} sound flushed e
     let moments = one_call (Moved found copied) old new sound performed.passes each last in
     grind (arith, moments, performed.spares 2 (omega arith), performed.passes)
 
--- the copies are flushed
-pub copies_flushed : (found : Found) {old new : State} {bytes got : List ℕ} {result : Result (Unit {0}) MediumFault} → IsSound old
-    → Performed Flush bytes got result old new → Writes {X = Unit {0}} (Moved found old) 2 1 old new (Ok tt)
-copies_flushed found {old = old} sound performed =
-    let made = flush_writes {P = Moved found old} {end = 2} sound performed.passes performed.changes performed.adds
-    (λ image cut. inl cut) in
-    grind (arith, made, performed.passes.calls_are)
+-- so many calls were made behind the copies, and what they leave
+abbrev pub MovedBy : {M : Type 0} → (M → State) → ℕ → Found → M → M → ℕ → M → Type 0
+MovedBy state least found start copied count n = Writes {X = Unit {0}} (Moved found (state copied)) 2 count (state copied) (state n) (Ok tt)
+    × LeavesAtLeast least (state start) (state n)
 
 module _ {M : Type 0} {state : M → State} (sound : (m : M) → IsSound (state m)) {least : ℕ} {start : M} {found : Found} where
   -- what so few calls behind the copies leave
@@ -190,49 +168,47 @@ module _ {M : Type 0} {state : M → State} (sound : (m : M) → IsSound (state 
   moved_on : {m n : M} {count : ℕ} {Now : Found → State → State → Type 0} {result : Result (Unit {0}) MediumFault}
       (at : IsMovingHead state least count Now found start m)
       → (EachCut (Moved found (state at.copied)) (state m) → Writes (Moved found (state at.copied)) 2 1 (state m) (state n) result)
-      → (state n).calls ≡ (state m).calls + 1
-      → Writes {X = Unit {0}} (Moved found (state at.copied)) 2 (count + 1) (state at.copied) (state n) (Ok tt)
-  moved_on {m} {result = result} at last one =
+      → (state n).calls ≡ (state m).calls + 1 → count ≤ 2 → MovedBy state least found start at.copied (count + 1) n
+  moved_on {m} {result = result} at last one few =
       let each = at_exit (Moved found (state at.copied)) (state at.copied) (state m) (sound m) at.moves.moments in
-      writes_on {X = Unit {0}} {Y = Unit {0}} {Z = Unit {0}} {one = Ok tt} {two = result} {result = Ok tt} at.moves (last each)
-      (omega arith) tt (omega (arith, at.moves.exact, one))
+      let moves = writes_on {X = Unit {0}} {Y = Unit {0}} {Z = Unit {0}} {one = Ok tt} {two = result} {result = Ok tt} at.moves (last each)
+      (omega arith) tt (omega (arith, at.moves.exact, one)) in
+      (moves, moved_leave (omega (arith, few)) at.has moves)
 
   module _ {m n : M} {bytes got : List ℕ} where
     module _ {result : Result (Unit {0}) MediumFault} where
-      pub copies_flush_leaves : HasCopied state least found start m → Performed Flush bytes got result (state m) (state n)
-          → LeavesAtLeast least (state start) (state n)
-      copies_flush_leaves has performed = moved_leave (omega arith) has (copies_flushed found (sound m) performed)
+      -- the copies are flushed
+      pub copies_flushed : HasCopied state least found start m → Performed Flush bytes got result (state m) (state n)
+          → MovedBy state least found start m 1 n
+      copies_flushed has performed =
+          let made = flush_writes {P = Moved found (state m)} {end = 2} (sound m) performed.passes performed.changes performed.adds
+          (λ image cut. inl cut) in
+          let moves : Writes {X = Unit {0}} (Moved found (state m)) 2 1 (state m) (state n) (Ok tt) =
+          grind (arith, made, performed.passes.calls_are) in
+          (moves, moved_leave (omega arith) has moves)
 
       -- the head is written
       pub head_written : (at : IsMovingHead state least 1 IsFlushedAgain found start m)
           → IsHead (found.head + found.count + 1) bytes → Performed (Write 1) bytes got result (state m) (state n)
-          → Writes {X = Unit {0}} (Moved found (state at.copied)) 2 2 (state at.copied) (state n) (Ok tt)
-      head_written at head performed =
-          moved_on at (λ each. head_writes found (state at.copied) (sound m) at.now each head performed) performed.passes.calls_are
-
-      pub head_write_leaves : IsMovingHead state least 1 IsFlushedAgain found start m → IsHead (found.head + found.count + 1) bytes
-          → Performed (Write 1) bytes got result (state m) (state n) → LeavesAtLeast least (state start) (state n)
-      head_write_leaves at head performed = moved_leave (omega arith) at.has (head_written at head performed)
+          → MovedBy state least found start at.copied 2 n
+      head_written at head performed = moved_on at
+          (λ each. head_writes found (state at.copied) (sound m) at.now each head performed) performed.passes.calls_are (omega arith)
 
       -- and flushed
-      head_flushed : (at : IsMovingHead state least 2 HasMovedHead found start m) → Performed Flush bytes got result (state m) (state n)
-          → Writes {X = Unit {0}} (Moved found (state at.copied)) 2 3 (state at.copied) (state n) (Ok tt)
+      pub head_flushed : (at : IsMovingHead state least 2 HasMovedHead found start m) → Performed Flush bytes got result (state m) (state n)
+          → MovedBy state least found start at.copied 3 n
       head_flushed at performed = moved_on at
-          (λ each. flush_writes (sound m) performed.passes performed.changes performed.adds each) performed.passes.calls_are
-
-      pub head_flush_leaves : IsMovingHead state least 2 HasMovedHead found start m
-          → Performed Flush bytes got result (state m) (state n) → LeavesAtLeast least (state start) (state n)
-      head_flush_leaves at performed = moved_leave (omega arith) at.has (head_flushed at performed)
+          (λ each. flush_writes (sound m) performed.passes performed.changes performed.adds each) performed.passes.calls_are (omega arith)
 
     pub head_flush_made : IsMovingHead state least 2 HasMovedHead found start m → Performed Flush bytes got (Ok tt) (state m) (state n)
         → Goes state least (stage.Started (answer_of found)) got start n
     head_flush_made at performed =
         let has = at.has in
         let stays = performed.done.0 in
-        let leaves = head_flush_leaves at performed in
+        let moved = head_flushed at performed in
         let both = recovery_done least (surveyed_by has.surveyed.flushed has.surveyed.reads) has.surveyed.is has.sound has.copies has.done
         (state n) (grind (arith, stays, at.now)) (λ s c left. performed.done.1 s c left ∙ sym (stays s))
-        (head_flushed at performed).exact in
+        moved.0.exact in
         let clean = λ (shape : _) (array : _) (next : ℕ) (ours : IsOurs (state start).size shape (state start).content array next).
         none_waits (both.2 shape array next ours (state n).content (sound n).holds_content) in
-        (leaves, search (rules, both, leaves, clean))
+        (moved.1, search (rules, both, moved.1, clean))

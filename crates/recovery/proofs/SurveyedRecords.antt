@@ -15,7 +15,7 @@ use Rattle.journal.specs.{declared.naming_stage.NamingStage.NamingStage, declare
 use Rattle.journal.specs.{declared.super_sector.Super.Super, Naming.IsKnown, Naming.IsFound, Naming.Learns, Naming.naming_place}
 use Rattle.journal.proofs.{SlotTwo.each_there, SlotTwo.commit_count, SectorsRead.stamped_whole, SectorsRead.place_before}
 use Rattle.recovery.specs.Causes.{IsReadInSlot, IsTryTwo, IsTryOf, AreTriesOf, HasCount, AreCounts, AreTries}
-use Rattle.recovery.specs.Surveying.{SurveyView, HoldsSurveyed, IsTrying, IsCounted, TakesName, TakesPlace, IsRefusedSurvey}
+use Rattle.recovery.specs.Surveying.{SurveyView, HoldsSurveyed, HasTriedTo, IsTrying, IsCounted, TakesName, TakesPlace}
 use Rattle.medium.proofs.Moments.{quiet_call, quiet_joined, quiet_start}
 use Rattle.recovery.proofs.JoinedCalls.{long_as}
 
@@ -98,6 +98,11 @@ counts_made shape image head j counts long few each ends = record {
   each = rw long each;
 }
 
+-- nothing is read yet of the record that is tried next
+at_next : {shape : Shape} {start now : State} {head : ℕ} {reader : RecordReader} {left place : ℕ} {waiting : List ℕ}
+    → HasTriedTo shape start now head reader left place waiting 0 now.calls → IsTrying shape start now head reader left place waiting
+at_next to = record { reads = 0; before = _; to = to }
+
 -- a data place is in the log
 pub data_place : (sizes : Super) (stamp i : ℕ) {slot place : ℕ} → slot ≡ stamp % sizes.slots
     → place ≡ 2 + (layout_of sizes.format).slot_sectors * slot + first_data_of sizes.format + i → i < limit_of sizes.format
@@ -141,13 +146,11 @@ module _ {M : Type 0} {state : M → State} {reader : RecordReader} {left place 
     }
 
   -- it was refused
-  pub untried : {bytes got : List ℕ} {n : M} {at : ℕ} {e : MediumFault} {next : RecordReader} {less after : ℕ} {counts : List ℕ}
-      → Performed (Read at) bytes got (Err e) (state m) (state n)
-      → IsRefusedSurvey reader left place waiting next less after counts → HoldsSurveyed state next less after counts view n
-  untried performed gone =
-      let failed = performed.passes.failures_are in
-      rw (gone.reader_stays, gone.left_stays, gone.place_stays, gone.counts_stay) (trying performed refl refl
-      going.reads going.to.known going.to.places (λ none. absurd (omega (arith, none, failed, held.quiet.failures_stay))))
+  pub untried : {bytes got : List ℕ} {n : M} {at : ℕ} {e : MediumFault} → Performed (Read at) bytes got (Err e) (state m) (state n)
+      → HoldsSurveyed state reader left place waiting view n
+  untried performed = let failed = performed.passes.failures_are in
+      trying performed refl refl going.reads going.to.known going.to.places
+      (λ none. absurd (omega (arith, none, failed, held.quiet.failures_stay)))
 
   module _ (sized : (x : ℕ) → x < first_home (shape_of view.sizes) → length ((state view.start).content x) ≡ 512)
       {bytes got : List ℕ} {n : M} {at : ℕ} (performed : Performed (Read at) bytes got (Ok tt) (state m) (state n)) where
@@ -188,11 +191,7 @@ module _ {M : Type 0} {state : M → State} {reader : RecordReader} {left place 
           few = omega (arith, long, going.to.left_is, goes.left_is);
           each = λ k below. each_pushed (λ k c. HasCount shape image (view.head + k) c) waiting count (length waiting) refl held.each
               (rw (← going.to.stamp_is) has) k (omega (arith, below, long));
-          going = λ some. record {
-            reads = 0;
-            before = (state n).calls;
-            to = grind (arith, going.to, goes, long, goes.unread.knows image, held.sizes_are, tries);
-          };
+          going = λ some. at_next (grind (arith, going.to, goes, long, goes.unread.knows image, held.sizes_are, tries));
           ended = λ none. grind (arith, long, none, goes.left_is, going.to.left_is, tries);
         })
 
@@ -254,13 +253,8 @@ module _ {M : Type 0} {state : M → State} {reader : RecordReader} {left place 
           (λ none. (none_before none, omega (arith, (going.to.calls (none_before none)).1, performed.passes.calls_are))))
       place_taken sizes (inr (inl gone)) =
           let bad = λ (has : Carries place). gone.bad (rw here has) in
-          missed (was (place + 1) (inr (record {
-            first = place;
-            inside = below;
-            before = going.to.places;
-            bad = bad;
-            reads_are = refl;
-          })) refl) (λ whole.
+          missed (was (place + 1)
+          (inr (record { first = place; inside = below; before = going.to.places; bad = bad; reads_are = refl })) refl) (λ whole.
           let long = long_as whole.0 reader.read.numbers.items (found.all whole.0 whole.1).numbers_are in
           let all = stamped_whole (shape_of view.sizes) image reader.stamp whole.0 whole.1 in
           bad (grind (arith, format_is, all, long, below))) sizes gone.none_left gone.counts_stay
@@ -277,15 +271,12 @@ pub not_tried : {M : Type 0} {state : M → State} (reader : RecordReader) (left
     → view.sizes ≡ reader.sizes → reader.stamp ≡ view.head → left ≡ view.sizes.slots → place ≡ 0 → waiting ≡ [] → 1 ≤ view.sizes.slots
     → ((image : Image) → IsKnown (shape_of view.sizes) image reader.stamp 0 reader.stage reader.read)
     → HoldsSurveyed state reader left place waiting view view.start
-not_tried {state = state} reader left place waiting view sizes stamp all first none some known = rw none (record {
+not_tried {state = state} reader left place waiting view sizes stamp all first none some known =
+    let none_yet = no_tries view.sizes.format (shape_of view.sizes) (state view.start).content in rw none (record {
   sizes_are = sizes;
   quiet = quiet_start (state view.start);
   few = omega (arith, all);
   each = λ k below. absurd (omega (arith, below));
-  going = λ due. record {
-    reads = 0;
-    before = (state view.start).calls;
-    to = grind (arith, known (state view.start).content, no_tries view.sizes.format (shape_of view.sizes) (state view.start).content);
-  };
+  going = λ due. at_next (grind (arith, known (state view.start).content, none_yet));
   ended = λ none. absurd (omega (arith, none, all, some));
 })

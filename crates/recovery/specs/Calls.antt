@@ -194,14 +194,20 @@ pub record IsFormatted (shape : Shape) (m : State) : Type 0 where
   pub zeros : (x : ℕ) → 2 ≤ x → x < sectors_of shape → m.content x ≡ replicate 512 0
   pub ours : IsOurs m.size shape m.content (λ b. replicate 512 0) 2
 
--- The one image that a cut may leave has these sizes, the head at stamp 1, zeros up to the end, and
--- from there on what it held; it is ours, for this array, and its next stamp is 2.
+-- Behind this super and a head at this stamp the image has zeros up to the end, and from there on
+-- what it held.
+pub record IsWritten (shape : Shape) (stamp end : ℕ) (before image : Image) : Type 0 where
+  pub super : IsSuper shape (image 0)
+  pub head : IsHead stamp (image 1)
+  pub zeros : (x : ℕ) → 2 ≤ x → x < end → image x ≡ replicate 512 0
+  pub behind : (x : ℕ) → end ≤ x → image x ≡ before x
+
+-- The one image that a cut may leave is written so, over what was there, with a head at stamp 1; it
+-- is ours, for this array, and its next stamp is 2.
 pub record IsMade (shape : Shape) (array : Array) (end : ℕ) (old new : State) : Type 0 where
   pub flushed : IsFlushed new
-  pub super : IsSuper shape (new.content 0)
-  pub head : IsHead 1 (new.content 1)
-  pub zeros : (x : ℕ) → 2 ≤ x → x < end → new.content x ≡ replicate 512 0
-  pub behind : (x : ℕ) → end ≤ x → new.content x ≡ old.content x
+  pub written : IsWritten shape 1 end old.content new.content
+  pub open written use *
   pub ours : IsOurs new.size shape new.content array 2
 
 -- the image has zeros in place of a super, or it is ours, for this array
@@ -226,14 +232,6 @@ pub record ImageLeaves (shape : Shape) (array : Array) (end : ℕ) (old new : St
   pub spares : SparesFrom end old new
   -- nothing is read
   pub looked_stays : new.looked ≡ old.looked
-
--- Behind this super and a head at this stamp the image has zeros up to the end, and from there on
--- what it held.
-pub record IsWritten (shape : Shape) (stamp end : ℕ) (before image : Image) : Type 0 where
-  pub super : IsSuper shape (image 0)
-  pub head : IsHead stamp (image 1)
-  pub zeros : (x : ℕ) → 2 ≤ x → x < end → image x ≡ replicate 512 0
-  pub behind : (x : ℕ) → end ≤ x → image x ≡ before x
 
 -- so, or with zeros in place of a super
 abbrev pub IsNoneOrWritten : Shape → ℕ → Image → Image → Type 0

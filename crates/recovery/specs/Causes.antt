@@ -12,21 +12,19 @@ use Rattle.journal.specs.{Formats.IsWhole, Sectors.IsHead, Sectors.IsSuper, Sect
 use Rattle.journal.specs.{Format2.descriptors_of, Format2.format2, Layout.slot_at, Record.Entry}
 use Rattle.journal.specs.{Standing.IsCount, Standing.StandsFor, Standing.Stands}
 use Rattle.recovery.specs.Calls.{most_reads_of, LooksAtLog}
-use Rattle.recovery.specs.declared.start_fault.StartFault.TheVariants.{Read, Write, Flush, BadSuper}
-use Rattle.recovery.specs.declared.start_fault.StartFault.TheVariants.{BadVersion, BadSize, BadHead}
-use Rattle.recovery.specs.declared.start_fault.StartFault.TheVariants.{StampsUsedUp, LogTooSmall}
 use Rattle.recovery.specs.{declared.found.Found.Found, declared.start_fault.StartFault.StartFault}
 use Rattle.recovery.specs.{declared.inspection.Inspection.Inspection}
 use Rattle.spec.specs.Blocks.{Array}
 pub use Rattle.journal.specs.Reading.{IsRefusedCall, MakesReadsAlone}
 use Rattle.medium.specs.declared.fault.MediumFault.TheVariants as medium
+use Rattle.recovery.specs.declared.start_fault.StartFault.TheVariants as fault
 use Rattle.journal.specs.Standing as image
 
 -- the start's name for a call that the medium refused
 abbrev pub start_fault_of : MediumFault → StartFault
-start_fault_of medium.Read = Read
-start_fault_of medium.Write = Write
-start_fault_of medium.Flush = Flush
+start_fault_of medium.Read = fault.Read
+start_fault_of medium.Write = fault.Write
+start_fault_of medium.Flush = fault.Flush
 
 -- Calls that wrote nothing: not one was a write, and one was a flush.
 pub record WritesNothing (old new : State) : Type 0 where
@@ -34,20 +32,28 @@ pub record WritesNothing (old new : State) : Type 0 where
   pub no_write : new.made medium.Write ≡ old.made medium.Write
   pub one_flush : new.made medium.Flush ≡ old.made medium.Flush + 1
 
+-- Why a look is refused: the medium refused a call, or the image has this fault. A stamp for the
+-- next record is not asked for.
+abbrev pub IsLookCause : State → State → StartFault → Type 0
+IsLookCause old new fault.Read = IsRefusedCall old new medium.Read
+IsLookCause old new fault.Write = IsRefusedCall old new medium.Write
+IsLookCause old new fault.Flush = IsRefusedCall old new medium.Flush
+IsLookCause old new fault.BadSuper = image.HasFault old.size old.content image.BadSuper
+IsLookCause old new fault.BadVersion = image.HasFault old.size old.content image.BadVersion
+IsLookCause old new fault.BadSize = image.HasFault old.size old.content image.BadSize
+IsLookCause old new fault.BadHead = image.HasFault old.size old.content image.BadHead
+IsLookCause old new fault = ⊥
+
 -- Why a start by calls such as these is refused: the medium refused a call of the kind that the
 -- fault names, or the image has this fault, and the calls were such.
 abbrev pub IsCauseBy : (State → State → Type 0) → State → State → StartFault → Type 0
-IsCauseBy Calls old new Read = IsRefusedCall old new medium.Read
-IsCauseBy Calls old new Write = IsRefusedCall old new medium.Write
-IsCauseBy Calls old new Flush = IsRefusedCall old new medium.Flush
-IsCauseBy Calls old new BadSuper = image.HasFault old.size old.content image.BadSuper
-    × Calls old new
-IsCauseBy Calls old new BadVersion = image.HasFault old.size old.content image.BadVersion
-    × Calls old new
-IsCauseBy Calls old new BadSize = image.HasFault old.size old.content image.BadSize × Calls old new
-IsCauseBy Calls old new BadHead = image.HasFault old.size old.content image.BadHead × Calls old new
-IsCauseBy Calls old new StampsUsedUp = image.HasNoStampLeft old.size old.content × Calls old new
-IsCauseBy Calls old new fault = ⊥
+IsCauseBy Calls old new fault.NoMemory = ⊥
+IsCauseBy Calls old new fault.Read = IsLookCause old new fault.Read
+IsCauseBy Calls old new fault.Write = IsLookCause old new fault.Write
+IsCauseBy Calls old new fault.Flush = IsLookCause old new fault.Flush
+IsCauseBy Calls old new fault.StampsUsedUp = image.HasNoStampLeft old.size old.content × Calls old new
+IsCauseBy Calls old new fault.LogTooSmall = ⊥
+IsCauseBy Calls old new fault = IsLookCause old new fault × Calls old new
 
 -- why a recovery is refused: by the medium, or by the image, and then nothing was written
 abbrev pub IsCause : State → State → StartFault → Type 0
@@ -65,9 +71,9 @@ pub record HasFewSlots (least size : ℕ) (content : Image) : Type 0 where
 -- Why a start is refused that asks for `least` slots of a log of format 1. They are counted before
 -- it is found that no stamp is left.
 abbrev pub IsRefusalBy : ℕ → (State → State → Type 0) → State → State → StartFault → Type 0
-IsRefusalBy least Calls old new StampsUsedUp = (¬ HasFewSlots least old.size old.content)
+IsRefusalBy least Calls old new fault.StampsUsedUp = (¬ HasFewSlots least old.size old.content)
     × image.HasNoStampLeft old.size old.content × Calls old new
-IsRefusalBy least Calls old new LogTooSmall = HasFewSlots least old.size old.content
+IsRefusalBy least Calls old new fault.LogTooSmall = HasFewSlots least old.size old.content
     × Calls old new
 IsRefusalBy least Calls old new fault = IsCauseBy Calls old new fault
 
@@ -162,23 +168,11 @@ pub record SurveysAtMost (old new : State) : Type 0 where
   pub most : (shape : Shape) → image.HasShape old.size shape old.content
       → new.calls ≤ old.calls + 2 + most_reads_of shape.format * shape.slots
 
--- Why a look is refused: the medium refused a call, or the image has this fault. A stamp for the
--- next record is not asked for.
-abbrev pub IsLookCause : State → State → StartFault → Type 0
-IsLookCause old new Read = IsRefusedCall old new medium.Read
-IsLookCause old new Write = IsRefusedCall old new medium.Write
-IsLookCause old new Flush = IsRefusedCall old new medium.Flush
-IsLookCause old new BadSuper = image.HasFault old.size old.content image.BadSuper
-IsLookCause old new BadVersion = image.HasFault old.size old.content image.BadVersion
-IsLookCause old new BadSize = image.HasFault old.size old.content image.BadSize
-IsLookCause old new BadHead = image.HasFault old.size old.content image.BadHead
-IsLookCause old new fault = ⊥
-
 -- what is wrong with a super on a medium of `size` sectors
 abbrev pub IsSuperCause : ℕ → List ℕ → StartFault → Type 0
-IsSuperCause size sector BadSuper = IsSuperFault Magic sector ⊎ IsSuperFault Rest sector
-IsSuperCause size sector BadVersion = IsSuperFault Version sector
-IsSuperCause size sector BadSize = IsSuperFault Sizes sector
+IsSuperCause size sector fault.BadSuper = IsSuperFault Magic sector ⊎ IsSuperFault Rest sector
+IsSuperCause size sector fault.BadVersion = IsSuperFault Version sector
+IsSuperCause size sector fault.BadSize = IsSuperFault Sizes sector
     ⊎ ((shape : Shape) × IsSuper shape sector × (size < sectors_of shape))
 IsSuperCause size sector fault = ⊥
 

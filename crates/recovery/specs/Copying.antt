@@ -113,12 +113,8 @@ pub record IsCopyStep (reader : RecordReader) (step : CopyStep) (got : List ℕ)
   pub copying : reader.stage ≡ stage.Named → IsBlockStep step.has_bytes reader step next after
 
 -- it was refused: a block is read again
-pub record IsRefusedStep (reader : RecordReader) (step : CopyStep) (next : RecordReader)
-    (after : CopyStep) : Type 0 where
-  pub reader_stays : next ≡ reader
-  pub left_stays : after.left ≡ step.left
-  pub i_stays : after.i ≡ step.i
-  pub no_bytes : after.has_bytes ≡ false
+abbrev pub again : Copying → Copying
+again copying = record copying { step = record copying.step { has_bytes = false } }
 
 -- the medium when these records, from the head on, began to be copied home
 pub record CopyView (M : Type 0) : Type 0 where
@@ -187,4 +183,4 @@ TellsCopy {M = M} state copying had call bytes =
     (λ s. first_home (shape_of s.reader.sizes)) (λ s. sectors_of (shape_of s.reader.sizes))
     (λ s. copies_left s.reader s.step) ⊥ (λ s. 0 < s.step.left)
     (λ s got t. IsCopyStep s.reader s.step got t.reader t.step)
-    (λ s t. IsRefusedStep s.reader s.step t.reader t.step) copying had call bytes
+    (λ s t. t ≡ again s) copying had call bytes

@@ -14,7 +14,6 @@ use Rattle.recovery.specs.Causes.{SurveysAtMost, IsSurvey, HasFewSlots, MakesRea
 use Rattle.recovery.specs.Causes.{IsRefusalBy}
 use Rattle.recovery.specs.Copying.{Copying, CopyView, HoldsCopied, copies_left}
 use Rattle.recovery.specs.Surveying.{SurveyView, HoldsSurveyed, surveys_left, IsSurveyStep}
-use Rattle.recovery.specs.Surveying.{IsRefusedSurvey}
 use Rattle.recovery.specs.Recovered.{LeavesAtLeast, IsOursForSome, StandsForOneOf}
 use Rattle.recovery.specs.Starting.{EndsStart, IsStarting, IsNewSurvey, IsNewCopying}
 use Rattle.recovery.specs.declared.surveying.Surveying.{Surveying}
@@ -86,8 +85,7 @@ TellsSurvey {M = M} state survey had call bytes =
     (λ s. surveys_left s.reader s.left s.place) ⊥ (λ s. 0 < s.left)
     (λ s got t. IsSurveyStep s.reader s.left s.place s.waiting.items got t.reader t.left t.place
     t.waiting.items)
-    (λ s t. IsRefusedSurvey s.reader s.left s.place s.waiting.items t.reader t.left t.place
-    t.waiting.items) survey had call bytes
+    (λ s t. t ≡ s) survey had call bytes
 
 -- the contents stay, and they alone are left
 abbrev pub IsFlushedAgain : Found → State → State → Type 0

@@ -146,6 +146,13 @@ pub record CanMigrate (shape : Shape) : Type 0 where
   pub one : shape.format ≡ One
   pub room : 5 ≤ shape.slots
 
+-- what was recovered can become format 2: nothing but it is left, behind the head that it tells
+pub record CanBecomeTwo (found : Recovered) (m : State) : Type 0 where
+  pub can : CanMigrate (shape_of found.sizes)
+  pub fits : sectors_of (shape_of found.sizes) ≤ m.size
+  pub flushed : IsFlushed m
+  pub head : IsHead found.next (m.content 1)
+
 -- The one image that a cut may leave has the super of format 2, this head, and zeros from there up
 -- to home.
 pub record IsMadeTwo (shape : Shape) (next : ℕ) (m : State) : Type 0 where

@@ -156,10 +156,10 @@ IsReadFirst sectors next =
 
 -- the super was read: its sizes fit, or this is wrong with it
 abbrev pub FindsSuper : ℕ → List ℕ → StartStage → Type 0
-FindsSuper sectors got next =
-    ((sizes : Super) × IsSuper (shape_of sizes) got × (sectors_of (shape_of sizes) ≤ sectors)
-    × (next ≡ stage.ReadHead sizes))
-    ⊎ ((fault : StartFault) × IsSuperCause sectors got fault × (next ≡ stage.Refused fault))
+FindsSuper sectors got (stage.ReadHead sizes) =
+    IsSuper (shape_of sizes) got × (sectors_of (shape_of sizes) ≤ sectors)
+FindsSuper sectors got (stage.Refused fault) = IsSuperCause sectors got fault
+FindsSuper sectors got next = ⊥
 
 -- the log is of format 1, and has fewer slots than these
 abbrev pub IsSmall : ℕ → Super → Type 0
@@ -167,12 +167,12 @@ IsSmall least sizes = (sizes.format ≡ One) × (sizes.slots < least)
 
 -- the head was read: the survey begins, unless there is none, or the log has too few slots
 abbrev pub FindsHead : ℕ → Super → List ℕ → StartStage → Type 0
-FindsHead least sizes got next =
-    (((stamp : ℕ) → ¬ IsHead stamp got) × (next ≡ stage.Refused fault.BadHead))
-    ⊎ ((head : ℕ) × IsHead head got
-    × ((IsSmall least sizes × (next ≡ stage.Refused fault.LogTooSmall))
-    ⊎ ((¬ IsSmall least sizes) × (survey : Surveying) × IsNewSurvey sizes head survey
-    × (next ≡ stage.Survey head survey))))
+FindsHead least sizes got (stage.Survey head survey) =
+    IsHead head got × (¬ IsSmall least sizes) × IsNewSurvey sizes head survey
+FindsHead least sizes got (stage.Refused fault.BadHead) = (stamp : ℕ) → ¬ IsHead stamp got
+FindsHead least sizes got (stage.Refused fault.LogTooSmall) =
+    (head : ℕ) × IsHead head got × IsSmall least sizes
+FindsHead least sizes got next = ⊥
 
 -- so far the records are copied
 abbrev pub IsCopiedOn : Found → Copying → StartStage → Type 0

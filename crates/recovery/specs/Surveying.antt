@@ -107,14 +107,6 @@ module _ (reader : RecordReader) (left place : ℕ) (waiting got : List ℕ) (ne
     pub reading : IsReading reader.stage → TakesName
     pub placed : reader.stage ≡ stage.Named → TakesPlace
 
--- it was refused, which changes nothing
-pub record IsRefusedSurvey (reader : RecordReader) (left place : ℕ) (waiting : List ℕ)
-    (next : RecordReader) (less after : ℕ) (counts : List ℕ) : Type 0 where
-  pub reader_stays : next ≡ reader
-  pub left_stays : less ≡ left
-  pub place_stays : after ≡ place
-  pub counts_stay : counts ≡ waiting
-
 -- the medium when the records from this stamp on began to be tried
 pub record SurveyView (M : Type 0) : Type 0 where
   pub start : M

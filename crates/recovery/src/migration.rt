@@ -3,7 +3,7 @@ ghost use Rattle.std.specs.Prelude.{◌≡◌, ◌<◌, ◌≤◌, ◌+◌, ◌*
 ghost use Rattle.medium.specs.Moments.{IsFlushed};
 ghost use Rattle.journal.specs.Places.{sectors_of, migrated};
 ghost use Rattle.journal.specs.Formats.{shape_of};
-ghost use Rattle.recovery.specs.Recovered.{EndsMigration, CanMigrate, IsMigrationBy};
+ghost use Rattle.recovery.specs.Recovered.{EndsMigration, CanBecomeTwo, IsMigrationBy};
 ghost use Rattle.recovery.specs.Recovered.{IsMigrationRefusal};
 ghost use Rattle.recovery.specs.Recovered.{MigrationLeaves, IsMadeTwo, StaysFresh};
 ghost use Rattle.recovery.specs.Calls.{Writes, AreMade, zeros_and_head};
@@ -50,11 +50,7 @@ pub fn migrate<M: Medium>(m: &mut M) -> Result<(Recovered, bool), StartFault>
 // Makes what was recovered of format 1 an image of format 2. The log is wiped and flushed before
 // the super is of format 2, so that no old bytes are ever read as a record of it.
 fn make_two<M: Medium>(m: &mut M, found: &Recovered) -> Result<Recovered, MediumFault>
-    requires can { CanMigrate (shape_of found.now.sizes) }
-    requires fits { sectors_of (shape_of found.now.sizes) ≤ (M.state m.old).size }
-    requires flushed { IsFlushed (M.state m.old) }
-    requires least { 1 ≤ found.now.next }
-    requires most { found.now.next < 2 ^ 63 }
+    requires { CanBecomeTwo found.now (M.state m.old) }
     // The answer tells what was made.
     ensures ok { IfOk result (λ answer.
         (shape_of answer.sizes ≡ migrated (shape_of found.now.sizes))

@@ -6,7 +6,7 @@ ghost use Rattle.journal.specs.Places.{first_home, sectors_of};
 ghost use Rattle.journal.specs.Naming.{IsReading, IsUnread};
 ghost use Rattle.journal.specs.declared.naming_stage.NamingStage.TheVariants.{Named};
 ghost use Rattle.recovery.specs.Surveying.{CanSurvey, SurveyView, HoldsSurveyed, surveys_left};
-ghost use Rattle.recovery.specs.Surveying.{IsSurveyStep, IsRefusedSurvey, TakesName, TakesPlace};
+ghost use Rattle.recovery.specs.Surveying.{IsSurveyStep, TakesName, TakesPlace};
 
 use crate::copying::next_record;
 use arrayvec::ArrayVec;
@@ -122,8 +122,7 @@ impl<M: Medium> Machine<M> for Surveying {
     ghost after = { λ s got t. IsSurveyStep s.reader s.left s.place s.waiting.items got t.reader
         t.left t.place t.waiting.items };
 
-    ghost gone = { λ s t. IsRefusedSurvey s.reader s.left s.place s.waiting.items t.reader t.left
-        t.place t.waiting.items };
+    ghost gone = { λ s t. t ≡ s };
 
     fn next(&self, sector: &mut [u8; 512]) -> Option<Call> {
         if self.left == 0 {

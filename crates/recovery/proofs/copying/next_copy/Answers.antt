@@ -3,7 +3,7 @@ use Rattle.journal.specs.Places.{first_home, limit_of}
 use Rattle.journal.specs.{declared.naming_stage.NamingStage.TheVariants.Named, Formats.shape_of, declared.reader.RecordReader.RecordReader}
 use Rattle.recovery.specs.{declared.copy_step.CopyStep.CopyStep, Copying.IsBlockStep, Copying.copies_left}
 use Rattle.recovery.proofs.CopiedBlocks.{unread, took, block_read, unwritten, block_written, record_written}
-use Rattle.recovery.proofs.{SurveyedRecords.data_place, Tallies.less_read, Tallies.less_write, Tallies.names_few}
+use Rattle.recovery.proofs.{SurveyedRecords.data_place, Looks.less_read, Looks.less_write, Looks.names_few}
 use Rattle.recovery.proofs.copying.next_copy.Goals as goal
 
 -- by whether the bytes of a block were read
@@ -18,17 +18,17 @@ returns-in-Some-clause-told g c =
     let asked = c.in-Some.ensures in
     let due : 0 < step.left = omega (arith, c.if-step-eq0.false) in
     let first = c.requires.unnamed (λ is. rw is at asked.0) in
+    let names = names_few _ reader.stage reader.read reader.reads asked.0 in
     record {
       due = due;
       within = omega (arith, asked.1);
       looks = asked.1;
       made = λ m n got view next fits held performed after.
           took held performed due asked.1 asked.2 first.0 first.1 (after.reading asked.0);
-      refused = λ m n got view next e fits held performed gone. unread held performed gone;
+      refused = λ m n got view next e fits held performed gone. rw gone (unread held performed);
       rest = less_read (copies_left reader step);
-      pays = grind (arith, due, names_few _ reader.stage reader.read reader.reads asked.0);
-      rests = λ got next after.
-          grind (arith, due, names_few _ reader.stage reader.read reader.reads asked.0, after.sizes_stay, after.reading asked.0);
+      pays = grind (arith, due, names);
+      rests = λ got next after. grind (arith, due, names, after.sizes_stay, after.reading asked.0);
     }
 
 pub returns-then-not-step-clause-told : goal.returns-then-not-step-clause-told
@@ -47,7 +47,7 @@ returns-then-not-step-clause-told g c =
       looks = lies.1;
       made = λ m n got view next fits held performed after.
           block_read held performed due lies.1 lies.0 no_bytes (stepped reader step next.reader next.step no_bytes (after.copying named));
-      refused = λ m n got view next e fits held performed gone. unread held performed gone;
+      refused = λ m n got view next e fits held performed gone. rw gone (unread held performed);
       rest = less_read (copies_left reader step);
       pays = grind (arith, due, named, below, inside, no_bytes);
       rests = λ got next after.
@@ -77,17 +77,9 @@ returns-clause-told g c =
           ⊎_elim (λ has. block_written held due named below is full bytes_are performed has)
           (λ last. record_written held due named below is full bytes_are performed last.0 last.1)
           (stepped reader step next.reader next.step full (after.copying named));
-      refused = λ m n got view next e fits held performed gone. unwritten held due named below is performed gone;
+      refused = λ m n got view next e fits held performed gone. rw gone (unwritten held due named below is performed);
       rest = less_write (copies_left reader step);
       pays = grind (arith, due, named, below, names.few, full);
-      rests = λ got next after. grind (
-        arith,
-        due,
-        named,
-        below,
-        names.few,
-        full,
-        after.sizes_stay,
-        stepped reader step next.reader next.step full (after.copying named),
-      );
+      rests = λ got next after. let on = stepped reader step next.reader next.step full (after.copying named) in
+          grind (arith, due, named, below, names.few, full, after.sizes_stay, on);
     }

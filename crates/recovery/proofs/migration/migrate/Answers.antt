@@ -1,4 +1,4 @@
-use Rattle.std.proofs.Common.{◌≡◌, inl, inr, ⊎_elim, ℕ, ◌+◌, ◌*◌, ◌<◌, length, refl, ◌∙◌, arith, rules, min, Result, true}
+use Rattle.std.proofs.Common.{◌≡◌, inl, inr, ⊎_elim, ℕ, ◌+◌, ◌*◌, ◌<◌, ◌≤◌, length, refl, ◌∙◌, arith, rules, min, Result, true}
 use Rattle.std.proofs.lemmas.Result.{err_from_is_err_and}
 use Rattle.medium.specs.{Medium.State, Medium.IsSound, Moments.EachCut, Sent.SendsUpTo}
 use Rattle.spec.specs.Blocks.{Array}
@@ -109,9 +109,12 @@ makes g c = migration_leaves c.in_ok-found.ensures.ok (c.migrates.ensures.0 c.if
     c.make_two.ensures.writes (g.met.M.Medium.sound c.args.m.now) (g.met.M.Medium.sound c.recover_at_least.new.m)
     c.in_ok-found.ensures.fresh c.recover_at_least.ensures.leaves
 
-pub make_two-requires-clause-can : goal.make_two-requires-clause-can
-make_two-requires-clause-can g c =
-    can_migrate c.in_ok-found.ensures.ok (c.migrates.ensures.0 c.if-migrates.true)
+pub make_two-requires : goal.make_two-requires
+make_two-requires g c =
+    let can = can_migrate c.in_ok-found.ensures.ok (c.migrates.ensures.0 c.if-migrates.true) in
+    let fits : sectors_of (shape_of c.in_ok-found.found.sizes) ≤ (g.M.Medium.state c.recover_at_least.new.m).size =
+    omega (arith, c.in_ok-found.ensures.ok.0.stood.fits, c.recover_at_least.ensures.leaves.moments.size_stays) in
+    search (rules, can, fits, c.in_ok-found.ensures.ok)
 
 pub returns-in_err-found-clause-err : goal.returns-in_err-found-clause-err
 returns-in_err-found-clause-err g c =

@@ -17,12 +17,9 @@ written g c =
 
 pub returns-in_err-write-clause-writes : goal.returns-in_err-write-clause-writes
 returns-in_err-write-clause-writes g c =
-    search (
-      rules,
-      written g (goal.at.returns-in_err-write-clause-writes g c).After-write,
-      λ (x : ℕ) (not : x ≢ c.args.place).
-          ⊎_elim (λ stays. stays x) (λ holds. holds.elsewhere x not) c.in_err-write.ensures.err,
-    )
+    let elsewhere = λ (x : ℕ) (not : x ≢ c.args.place).
+    ⊎_elim (λ stays. stays x) (λ holds. holds.elsewhere x not) c.in_err-write.ensures.err in
+    search (rules, written g (goal.at.returns-in_err-write-clause-writes g c).After-write, elsewhere)
 
 pub returns-clause-writes : goal.returns-clause-writes
 returns-clause-writes g c =

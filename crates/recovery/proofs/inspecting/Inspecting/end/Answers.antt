@@ -4,7 +4,7 @@ use Rattle.medium.specs.Medium.{State}
 use Rattle.journal.specs.{Record.Entry, Sectors.IsHead, Standing.HasShape, Formats.shape_of, Formats.layout_of}
 use Rattle.journal.proofs.{Formats.laws_of, Wholeness.IsWhole-one, StandingLaws.count_stands}
 use Rattle.recovery.specs.{Causes.AreCounts, Causes.IsInspected, HoldsStart.HoldsLook, declared.inspection.Inspection.Inspection}
-use Rattle.recovery.proofs.{Looks.counted_at_end, Looks.look_cause, Tallies.no_tries_left, WholeRecovery.served_look}
+use Rattle.recovery.proofs.{Looks.counted_at_end, Looks.look_cause, Looks.no_tries_left, WholeRecovery.served_look}
 use Rattle.recovery.specs.Stages as stage
 use Rattle.recovery.proofs.inspecting.Inspecting.end.Goals as goal
 

@@ -3,10 +3,9 @@ use Rattle.medium.specs.Tally.{Tally, none}
 use Rattle.journal.specs.{declared.log_format.LogFormat.TheVariants.Two, Places.sectors_of, Formats.shape_of}
 use Rattle.recovery.specs.Starting.{head_calls, all_calls, home_calls, both}
 use Rattle.recovery.proofs.Looks.{super_read, super_looked, head_read, head_looked, survey_read, survey_looked, flushed_first, first_made}
-use Rattle.recovery.proofs.Looks.{looked_start, reads_leave, told, told_by, both_told}
-use Rattle.recovery.proofs.StartCopy.{survey_on, copy_made, copy_refused, copies_flushed, copies_flush_leaves, head_written}
-use Rattle.recovery.proofs.StartCopy.{head_write_leaves, head_flush_made, head_flush_leaves}
-use Rattle.recovery.proofs.Tallies.{both_left, no_tries_left, none_left, left_through, survey_goes_left}
+use Rattle.recovery.proofs.Looks.{looked_start, reads_leave, told, told_by, both_told, both_left, no_tries_left, none_left, left_through}
+use Rattle.recovery.proofs.Looks.{survey_goes_left}
+use Rattle.recovery.proofs.StartCopy.{survey_on, copy_made, copy_refused, copies_flushed, head_written, head_flushed, head_flush_made}
 use Rattle.recovery.proofs.starting.StartingMachine.next.Goals as goal
 
 pub returns-in-FlushFirst : goal.returns-in-FlushFirst
@@ -79,12 +78,10 @@ returns-in-Copy g c =
 pub returns-in-FlushCopies : goal.returns-in-FlushCopies
 returns-in-FlushCopies g c =
     told c.args.self.now c.in-FlushCopies.is tt tt tt refl
-    (λ m n start got least next fits held performed after. rw after (
-      copies_flush_leaves g.met.M.Medium.sound held.midway performed,
-      let moves = copies_flushed c.in-FlushCopies.field-0 (g.met.M.Medium.sound m) performed in
-          record { copied = m; has = held.midway; moves = moves; now = performed.done },
-    ))
-    (λ m n start got least e held performed. copies_flush_leaves g.met.M.Medium.sound held.midway performed)
+    (λ m n start got least next fits held performed after.
+    let moved = copies_flushed g.met.M.Medium.sound held.midway performed in
+    rw after (moved.1, record { copied = m; has = held.midway; moves = moved.0; now = performed.done }))
+    (λ m n start got least e held performed. (copies_flushed g.met.M.Medium.sound held.midway performed).1)
     (record { reads = 0; writes = 1; flushes = 1 }) refl
     (λ got next after. rw after (grind arith))
 
@@ -95,12 +92,12 @@ returns-in-WriteHead g c =
     let found = c.in-WriteHead.found in
     let some : 1 < s.sectors = omega (arith, (s.goes.move found c.in-WriteHead.is).fits, found.sizes.home_is.0) in
     told s c.in-WriteHead.is tt some tt refl
-    (λ m n start got least next fits held performed after. rw after (
-    let at = held.midway in let head = c.put_head.ensures in let moves = head_written g.met.M.Medium.sound at head performed in (
-      head_write_leaves g.met.M.Medium.sound at head performed,
-      record { copied = at.copied; has = at.has; moves = moves; now = grind (arith, performed.done, head, at.now) },
-    )))
-    (λ m n start got least e held performed. head_write_leaves g.met.M.Medium.sound held.midway c.put_head.ensures performed)
+    (λ m n start got least next fits held performed after.
+    let at = held.midway in
+    let head = c.put_head.ensures in
+    let moved = head_written g.met.M.Medium.sound at head performed in
+    rw after (moved.1, record { copied = at.copied; has = at.has; moves = moved.0; now = grind (arith, performed.done, head, at.now) }))
+    (λ m n start got least e held performed. (head_written g.met.M.Medium.sound held.midway c.put_head.ensures performed).1)
     (record { reads = 0; writes = 0; flushes = 1 }) refl
     (λ got next after. rw after (grind arith))
 
@@ -109,5 +106,5 @@ pub returns-in-FlushHead : goal.returns-in-FlushHead
 returns-in-FlushHead g c =
     told c.args.self.now c.in-FlushHead.is tt tt tt refl
     (λ m n start got least next fits held performed after. rw after (head_flush_made g.met.M.Medium.sound held.midway performed))
-    (λ m n start got least e held performed. head_flush_leaves g.met.M.Medium.sound held.midway performed)
+    (λ m n start got least e held performed. (head_flushed g.met.M.Medium.sound held.midway performed).1)
     none refl (λ got next after. rw after (grind arith))

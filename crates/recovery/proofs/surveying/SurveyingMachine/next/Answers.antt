@@ -4,7 +4,7 @@ use Rattle.journal.specs.{declared.naming_stage.NamingStage.TheVariants.Named, P
 use Rattle.journal.specs.{Format2.format2, Formats.shape_of, declared.reader.RecordReader.RecordReader}
 use Rattle.recovery.specs.Surveying.{HoldsSurveyed, SurveyView, surveys_left}
 use Rattle.recovery.proofs.SurveyedRecords.{untried, named_taken, place_taken, data_place}
-use Rattle.recovery.proofs.Tallies.{less_read, names_few}
+use Rattle.recovery.proofs.Looks.{less_read, names_few}
 use Rattle.recovery.proofs.surveying.SurveyingMachine.next.Goals as goal
 
 -- each sector of the log has its bytes
@@ -22,6 +22,7 @@ returns-in-Some g c =
     let asked = c.in-Some.ensures in
     let due : 0 < s.left = omega (arith, c.if-self-eq0.false) in
     let first = s.goes.unnamed due (λ is. rw is at asked.0) in
+    let names = names_few _ s.reader.stage s.reader.read s.reader.reads asked.0 in
     record {
       due = due;
       within = omega (arith, asked.1);
@@ -29,20 +30,12 @@ returns-in-Some g c =
       made = λ m n got view next fits held performed after.
           named_taken held due (all_sized held (g.met.M.Medium.sound m) fits) performed asked.2 first after.sizes_stay
           (after.reading asked.0);
-      refused = λ m n got view next e fits held performed gone. untried held due performed gone;
+      refused = λ m n got view next e fits held performed gone. rw gone (untried held due performed);
       rest = less_read (surveys_left s.reader s.left s.place);
-      pays = grind (arith, due, names_few _ s.reader.stage s.reader.read s.reader.reads asked.0);
+      pays = grind (arith, due, names);
       rests = λ got next after.
           let few = λ (named : next.reader.stage ≡ Named). (next.reader.reads.named named).few in
-          grind (
-            arith,
-            due,
-            names_few _ s.reader.stage s.reader.read s.reader.reads asked.0,
-            next.goes.two,
-            few,
-            after.sizes_stay,
-            after.reading asked.0,
-          );
+          grind (arith, due, names, next.goes.two, few, after.sizes_stay, after.reading asked.0);
     }
 
 pub returns : goal.returns
@@ -63,7 +56,7 @@ returns g c =
       made = λ m n got view next fits held performed after.
           place_taken held due (all_sized held (g.met.M.Medium.sound m) fits) performed named two below here after.sizes_stay
           (after.placed named);
-      refused = λ m n got view next e fits held performed gone. untried held due performed gone;
+      refused = λ m n got view next e fits held performed gone. rw gone (untried held due performed);
       rest = less_read (surveys_left s.reader s.left s.place);
       pays = grind (arith, due, named, below, two, few);
       rests = λ got next after. grind (arith, due, named, below, two, few, after.sizes_stay, after.placed named);
