@@ -11,7 +11,7 @@ use Rattle.journal.specs.{Formats.IsWhole, Record.Entry, Record.numbers_of, Reco
 use Rattle.journal.specs.{Reading.data_at, Reading.IsRead, Reading.IsReadFor, Naming.IsKnown, Naming.Learns, Naming.naming_place}
 use Rattle.journal.proofs.Wholeness.{with_blocks-copied, with_records-append}
 use Rattle.recovery.specs.Calls.{IsHomeOf, IsHomeInRecords, freed_at, copy_calls, calls_of, AreCopied}
-use Rattle.recovery.specs.Copying.{CopyView, HasHome, HoldsCopied, IsNextRecord, HasRead, HasWritten, IsTakenOrPassed}
+use Rattle.recovery.specs.Copying.{CopyView, HasHome, HoldsCopied, IsNextRecord, IsTakenOrPassed}
 use Rattle.recovery.specs.declared.copy_step.CopyStep.{CopyStep}
 use Rattle.recovery.proofs.JoinedCalls.{not_in_log, number_of, long_as}
 
@@ -69,9 +69,9 @@ module _ {M : Type 0} {state : M → State} {reader : RecordReader} {step : Copy
           absurd ((learned passed.1).all (get_or view.records held.home []) (rw held.at.stamp_is (held.at.whole held.home inside)))
 
     -- the bytes of a block were read
-    pub block_read : {next : RecordReader} {after : CopyStep} → place ≡ data_at (shape_of reader.sizes) reader.stamp step.i
-        → step.has_bytes ≡ false → HasRead reader step next after → HoldsCopied state next after got view n
-    block_read is no_bytes has = rw has.reader_stays (with_home held.home held.reads (grind (arith, performed, held.at, read_of_log)))
+    pub block_read : place ≡ data_at (shape_of reader.sizes) reader.stamp step.i → step.has_bytes ≡ false
+        → HoldsCopied state reader (record step { has_bytes = true }) got view n
+    block_read is no_bytes = with_home held.home held.reads (grind (arith, performed, held.at, read_of_log))
 
   -- ---- a write
   module _ (due : 0 < step.left) (named : reader.stage ≡ Named) (below : step.i < length reader.read.numbers.items) where
@@ -158,11 +158,9 @@ module _ {M : Type 0} {state : M → State} {reader : RecordReader} {step : Copy
           ≡ with_records (take held.home view.records) (home_of (shape_of view.sizes) (state view.start).content) b
       others_on none b not = grind (arith, performed.changes, not, here is performed, held.at.others (none_failed none) b)
 
-      pub block_written : {next : RecordReader} {after : CopyStep} → HasWritten reader step next after
-          → HoldsCopied state next after got view n
-      block_written {next = next} {after = after} has =
-          rw has.reader_stays (with_home held.home held.reads
-          (grind (arith, performed, held.at, copied_on, others_on, elsewhere is performed, within is performed)))
+      pub block_written : HoldsCopied state reader (record { left = step.left; i = step.i + 1; has_bytes = false }) got view n
+      block_written = with_home held.home held.reads
+          (grind (arith, performed, held.at, copied_on, others_on, elsewhere is performed, within is performed))
 
       pub record_written : {next : RecordReader} {after : CopyStep} → length reader.read.numbers.items ≤ step.i + 1
           → IsNextRecord reader step next after → HoldsCopied state next after got view n

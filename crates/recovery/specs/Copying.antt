@@ -82,27 +82,13 @@ IsTakenOrPassed reader step got next after = IsTaken reader step got next after
     ⊎ ((read : Record) × Learns (shape_of reader.sizes) reader.stamp reader.stage reader.read got
     stage.Missing read × IsNextRecord reader step next after)
 
--- the bytes of a block were read
-pub record HasRead (reader : RecordReader) (step : CopyStep) (next : RecordReader)
-    (after : CopyStep) : Type 0 where
-  pub reader_stays : next ≡ reader
-  pub left_stays : after.left ≡ step.left
-  pub i_stays : after.i ≡ step.i
-  pub bytes : after.has_bytes ≡ true
-
--- it was written, and there is one more
-pub record HasWritten (reader : RecordReader) (step : CopyStep) (next : RecordReader)
-    (after : CopyStep) : Type 0 where
-  pub reader_stays : next ≡ reader
-  pub left_stays : after.left ≡ step.left
-  pub i_on : after.i ≡ step.i + 1
-  pub more : step.i + 1 < length reader.read.numbers.items
-  pub no_bytes : after.has_bytes ≡ false
-
--- so, or it was the last one
+-- The bytes of a block were read; or it was written, and there is one more, or it was the last.
 abbrev pub IsBlockStep : Bool → RecordReader → CopyStep → RecordReader → CopyStep → Type 0
-IsBlockStep false reader step next after = HasRead reader step next after
-IsBlockStep true reader step next after = HasWritten reader step next after
+IsBlockStep false reader step next after =
+    (next ≡ reader) × (after ≡ record step { has_bytes = true })
+IsBlockStep true reader step next after =
+    ((next ≡ reader) × (step.i + 1 < length reader.read.numbers.items)
+    × (after ≡ record { left = step.left; i = step.i + 1; has_bytes = false }))
     ⊎ ((length reader.read.numbers.items ≤ step.i + 1) × IsNextRecord reader step next after)
 
 -- the next call was made
@@ -167,12 +153,9 @@ pub record HoldsCopied {M : Type 0} (state : M → State) (reader : RecordReader
   pub at : HasHome state reader step had view home reads m
 
 -- the kind of the next call: once the bytes of a block were read they are written
-abbrev pub copy_kind_by : NamingStage → Bool → MediumFault
-copy_kind_by stage.Named true = medium.Write
-copy_kind_by at has_bytes = medium.Read
-
-abbrev pub copy_kind : RecordReader → CopyStep → MediumFault
-copy_kind reader step = copy_kind_by reader.stage step.has_bytes
+abbrev pub copy_kind : NamingStage → Bool → MediumFault
+copy_kind stage.Named true = medium.Write
+copy_kind at has_bytes = medium.Read
 
 -- it tells this call
 abbrev pub TellsCopy : {M : Type 0} → (M → State) → Copying → List ℕ → Call → List ℕ → Type 0

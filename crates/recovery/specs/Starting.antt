@@ -227,7 +227,7 @@ abbrev pub start_kind : StartStage → MediumFault
 start_kind stage.ReadSuper = medium.Read
 start_kind (stage.ReadHead sizes) = medium.Read
 start_kind (stage.Survey head survey) = medium.Read
-start_kind (stage.Copy found copying) = copy_kind copying.reader copying.step
+start_kind (stage.Copy found copying) = copy_kind copying.reader.stage copying.step.has_bytes
 start_kind (stage.WriteHead found) = medium.Write
 start_kind at = medium.Flush
 

@@ -24,7 +24,8 @@ pub(crate) fn next_copy<M: Medium>(
     ensures told { MatchOption result
         ((copies_left reader.now step.now ≡ none) × (sector.new ≡ sector.old))
         (λ call. TellsCopy M.state (copying_of reader.now step.now) sector.old call sector.new) }
-    ensures kind { IfSome result (λ call. fault_of call ≡ copy_kind reader.now step.now) }
+    ensures kind { IfSome result
+        (λ call. fault_of call ≡ copy_kind reader.now.stage step.now.has_bytes) }
 {
     if step.left == 0 {
         return None;
@@ -46,7 +47,7 @@ pub(crate) fn next_copy<M: Medium>(
 /// The kind of that call.
 pub(crate) fn kind_of_copy(reader: &RecordReader, step: &CopyStep) -> MediumFault
     requires { reader.now.stage ≢ Missing }
-    ensures { result ≡ copy_kind reader.now step.now }
+    ensures { result ≡ copy_kind reader.now.stage step.now.has_bytes }
 {
     match reader.next() {
         None if step.has_bytes => MediumFault::Write,

@@ -46,7 +46,8 @@ returns-then-not-step-clause-told g c =
       within = omega (arith, lies.1);
       looks = lies.1;
       made = λ m n got view next fits held performed after.
-          block_read held performed due lies.1 lies.0 no_bytes (stepped reader step next.reader next.step no_bytes (after.copying named));
+          let read = stepped reader step next.reader next.step no_bytes (after.copying named) in
+          rw (read.0, read.1) (block_read held performed due lies.1 lies.0 no_bytes);
       refused = λ m n got view next e fits held performed gone. rw gone (unread held performed);
       rest = less_read (copies_left reader step);
       pays = grind (arith, due, named, below, inside, no_bytes);
@@ -74,7 +75,7 @@ returns-clause-told g c =
       within = omega (arith, is, inside);
       looks = tt;
       made = λ m n got view next fits held performed after.
-          ⊎_elim (λ has. block_written held due named below is full bytes_are performed has)
+          ⊎_elim (λ has. rw (has.0, has.2) (block_written held due named below is full bytes_are performed))
           (λ last. record_written held due named below is full bytes_are performed last.0 last.1)
           (stepped reader step next.reader next.step full (after.copying named));
       refused = λ m n got view next e fits held performed gone. rw gone (unwritten held due named below is performed);

@@ -11,11 +11,5 @@ invariant_of-self-in-ReadHead g c = record {
   goes = can_look (c.behind_head-self.ensures.can _ no_step (c.args.self.now.goes.head _ c.in-ReadHead.is));
 }
 
-pub returns-in-ReadSuper : goal.returns-in-ReadSuper
-returns-in-ReadSuper g c = (refl, rw c.in-ReadSuper.is (c.behind_super-self.ensures _ _).0)
-
-pub returns-in-ReadHead : goal.returns-in-ReadHead
-returns-in-ReadHead g c = (refl, rw c.in-ReadHead.is (c.behind_head-self.ensures.goes _))
-
 pub returns-in-Survey : goal.returns-in-Survey
 returns-in-Survey g c = (refl, rw c.in-Survey.is (c.made.new.self, c.made.ensures, refl))

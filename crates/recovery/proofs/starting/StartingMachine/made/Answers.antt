@@ -1,15 +1,6 @@
 use Rattle.std.proofs.Common.{inl, inr, refl, arith}
 use Rattle.recovery.proofs.starting.StartingMachine.made.Goals as goal
 
-pub returns-in-FlushFirst : goal.returns-in-FlushFirst
-returns-in-FlushFirst g c = (refl, refl, rw c.in-FlushFirst.is (c.first_read-self.ensures _ _).0)
-
-pub returns-in-ReadSuper : goal.returns-in-ReadSuper
-returns-in-ReadSuper g c = (refl, refl, rw c.in-ReadSuper.is (c.behind_super-self.ensures _ _).0)
-
-pub returns-in-ReadHead : goal.returns-in-ReadHead
-returns-in-ReadHead g c = (refl, refl, rw c.in-ReadHead.is (c.behind_head-self.ensures.goes _))
-
 pub returns-then-self-eq0 : goal.returns-then-self-eq0
 returns-then-self-eq0 g c =
     (refl, refl, rw c.in-Survey.is (c.made.new.self, c.made.ensures, inr (c.if-self-eq0.true, c.behind_survey-self.ensures.goes)))
