@@ -1,5 +1,5 @@
 -- The second half of a start, call by call: the copies, what is home at their end, and the new head.
-use Rattle.std.proofs.Common.{◌≡◌, ◌∙◌, sym, refl, ⊎_elim, ℕ, ◌+◌, ◌*◌, ◌<◌, ◌≤◌, List, [], length, get_or, arith, Result, Ok, Err, false}
+use Rattle.std.proofs.Common.{◌≡◌, ◌∙◌, sym, refl, ⊎_elim, ℕ, ◌+◌, ◌*◌, ◌<◌, ◌≤◌, List, [], length, get_or, arith, Result, Ok, Err}
 use Rattle.std.proofs.Common.{◌^◌, ◌⊎◌, inl, rules}
 use Rattle.medium.specs.declared.medium_call.Call.TheVariants.{Write, Flush}
 use Rattle.medium.specs.{Medium.State, Medium.CutLeaves, Medium.IsSound, Medium.Image, Moments.LeavesOnly, Moments.EachCut}

@@ -273,10 +273,10 @@ pub not_tried : {M : Type 0} {state : M → State} (reader : RecordReader) (left
     → HoldsSurveyed state reader left place waiting view view.start
 not_tried {state = state} reader left place waiting view sizes stamp all first none some known =
     let none_yet = no_tries view.sizes.format (shape_of view.sizes) (state view.start).content in rw none (record {
-  sizes_are = sizes;
-  quiet = quiet_start (state view.start);
-  few = omega (arith, all);
-  each = λ k below. absurd (omega (arith, below));
-  going = λ due. at_next (grind (arith, known (state view.start).content, none_yet));
-  ended = λ none. absurd (omega (arith, none, all, some));
-})
+      sizes_are = sizes;
+      quiet = quiet_start (state view.start);
+      few = omega (arith, all);
+      each = λ k below. absurd (omega (arith, below));
+      going = λ due. at_next (grind (arith, known (state view.start).content, none_yet));
+      ended = λ none. absurd (omega (arith, none, all, some));
+    })
