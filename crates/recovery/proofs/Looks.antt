@@ -137,14 +137,16 @@ module _ {M : Type 0} {state : M → State} (sound : (m : M) → IsSound (state 
           → HasLooked state least next got mid n
       head_found (stage.Survey head survey) performed goes =
           let found : HasFound sizes 2 (state mid) (state n) = record { read = head_seen performed; has = held.midway.has } in
-          let head_is = rw (same_head performed) at goes.0 in
+          let is = rw (same_head performed) at goes.0 in
           let room = λ (few : HasFewSlots least (state mid).size (state mid).content).
-          let is = IsSuper-one few.shape (shape_of sizes) _ few.has.super found.has.super in goes.1 (rw is at few.one, rw is at few.few) in (
-            record { sizes = sizes; began = n; found = found; head_is = head_is; room = room; first = survey; first_had = got; new = goes.2 },
+          let one = IsSuper-one few.shape (shape_of sizes) _ few.has.super found.has.super in
+          goes.1 (rw one at few.one, rw one at few.few) in (
+            record { sizes = sizes; began = n; found = found; head_is = is; room = room; first = survey; first_had = got; new = goes.2 },
             not_driven (λ s had m view holds image cut x. holds.quiet.sets_shrink x (image x) (cut x)) survey got n (sound n),
           )
       head_found (stage.Refused fault.BadHead) performed none =
-          (((shape_of sizes, held.midway.has, λ stamp is. none stamp (rw (same_head performed) is)), (head_seen performed).quiet), λ e. cc e)
+          let same = same_head performed in
+          (((shape_of sizes, held.midway.has, λ stamp is. none stamp (rw same is)), (head_seen performed).quiet), λ e. cc e)
       head_found (stage.Refused fault.LogTooSmall) performed small =
           let head = rw (same_head performed) at small.1 in
           ((search (rules, held.midway.has, head, small.2), (head_seen performed).quiet), λ e. cc e)

@@ -17,7 +17,7 @@ use Rattle.recovery.specs.{Recovered.LeavesAtLeast, declared.found.Found.Found, 
 use Rattle.recovery.proofs.JoinedCalls.{quiet_after, refused_call, flush_writes, writes_on, none_waits}
 use Rattle.recovery.proofs.CopiedBlocks.{gathered, not_copied, all_copied}
 use Rattle.recovery.proofs.Looks.{surveyed_by, reads_leave, ended_by, looked_start, Goes, counted_at_end}
-use Rattle.recovery.proofs.WholeRecovery.{copies_leave, refusal, moves_leave, recovery_done}
+use Rattle.recovery.proofs.WholeRecovery.{Moved, copies_leave, refusal, moves_leave, recovery_done}
 use Rattle.journal.proofs.StandingLaws.{count_stands}
 use Rattle.recovery.specs.declared.start_fault.StartFault.TheVariants as fault
 use Rattle.recovery.specs.Stages as stage
@@ -136,10 +136,6 @@ module _ {M : Type 0} {state : M → State} (sound : (m : M) → IsSound (state 
         record { seen = n; surveyed = survey_done none.0 on.0; sound = sound n; first = on.1; first_had = got; new = on.2 },
         not_driven (λ s had m view holds image cut x. holds.at.within x (image x) (cut x)) on.1 got n (sound n),
       ) on.3) none.1) goes
-
--- what a cut leaves while the head is moved
-abbrev pub Moved : Found → State → Image → Type 0
-Moved found copied image = CutLeaves copied.may_leave image ⊎ HasNewHead (found.head + found.count + 1) copied.content image
 
 -- the head is written over contents that are flushed
 head_writes : (found : Found) (copied : State) {old new : State} {bytes got : List ℕ} {result : Result (Unit {0}) MediumFault} → IsSound old

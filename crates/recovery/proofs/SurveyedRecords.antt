@@ -136,14 +136,10 @@ module _ {M : Type 0} {state : M → State} {reader : RecordReader} {left place 
         → ((state n).failures ≡ (state view.start).failures → ((state m).failures ≡ (state view.start).failures)
         × ((state n).calls ≡ (held.going due).before + reads + after))
         → HoldsSurveyed state next left after waiting view n
-    trying sizes stamp reads known places calls = record {
-      sizes_are = held.sizes_are ∙ sym sizes;
-      quiet = quiet;
-      few = held.few;
-      each = held.each;
-      going = λ some. record { reads = reads; before = going.before; to = grind (arith, known, places, calls, going.to) };
-      ended = λ none. absurd (omega (arith, none, due));
-    }
+    trying {next = next} {after = after} sizes stamp reads known places calls =
+        let still : IsTrying (shape_of view.sizes) (state view.start) (state n) view.head next left after waiting =
+        record { reads = reads; before = going.before; to = grind (arith, known, places, calls, going.to) } in
+        grind (arith, held.sizes_are, sizes, quiet, held.few, held.each, still, due)
 
   -- it was refused
   pub untried : {bytes got : List ℕ} {n : M} {at : ℕ} {e : MediumFault} → Performed (Read at) bytes got (Err e) (state m) (state n)
@@ -182,18 +178,14 @@ module _ {M : Type 0} {state : M → State} {reader : RecordReader} {left place 
     counted : Try → {count : ℕ} → HasCount shape image reader.stamp count → {next : RecordReader} {less after : ℕ} {counts : List ℕ}
         → next.sizes ≡ reader.sizes → IsCounted reader left next less after → counts ≡ waiting ++ count ∷ []
         → HoldsSurveyed state next less after counts view n
-    counted was {count} has sizes goes same =
+    counted was {count} has {next = next} {less = less} {after = after} sizes goes same =
         let long : length (waiting ++ count ∷ []) ≡ length waiting + 1 = omega (arith, length-append waiting (count ∷ [])) in
         let tries = tried was in
-        rw same (record {
-          sizes_are = held.sizes_are ∙ sym sizes;
-          quiet = quiet performed;
-          few = omega (arith, long, going.to.left_is, goes.left_is);
-          each = λ k below. each_pushed (λ k c. HasCount shape image (view.head + k) c) waiting count (length waiting) refl held.each
-              (rw (← going.to.stamp_is) has) k (omega (arith, below, long));
-          going = λ some. at_next (grind (arith, going.to, goes, long, goes.unread.knows image, held.sizes_are, tries));
-          ended = λ none. grind (arith, long, none, goes.left_is, going.to.left_is, tries);
-        })
+        let still : IsTrying shape (state view.start) (state n) view.head next less after (waiting ++ count ∷ []) =
+        at_next (grind (arith, going.to, goes, long, goes.unread.knows image, held.sizes_are, tries)) in
+        let each = each_pushed (λ k c. HasCount shape image (view.head + k) c) waiting count (length waiting) refl held.each
+        (rw (← going.to.stamp_is) has) in
+        rw same (grind (arith, held.sizes_are, sizes, quiet performed, long, going.to.left_is, goes.left_is, each, still, tries))
 
     -- ---- a sector that names blocks
     module _ (is : at ≡ naming_place (shape_of reader.sizes) reader.stamp reader.stage) (first : place ≡ 0) where
@@ -272,11 +264,7 @@ pub not_tried : {M : Type 0} {state : M → State} (reader : RecordReader) (left
     → ((image : Image) → IsKnown (shape_of view.sizes) image reader.stamp 0 reader.stage reader.read)
     → HoldsSurveyed state reader left place waiting view view.start
 not_tried {state = state} reader left place waiting view sizes stamp all first none some known =
-    let none_yet = no_tries view.sizes.format (shape_of view.sizes) (state view.start).content in rw none (record {
-      sizes_are = sizes;
-      quiet = quiet_start (state view.start);
-      few = omega (arith, all);
-      each = λ k below. absurd (omega (arith, below));
-      going = λ due. at_next (grind (arith, known (state view.start).content, none_yet));
-      ended = λ none. absurd (omega (arith, none, all, some));
-    })
+    let none_yet = no_tries view.sizes.format (shape_of view.sizes) (state view.start).content in
+    let still : IsTrying (shape_of view.sizes) (state view.start) (state view.start) view.head reader left place [] =
+    at_next (grind (arith, known (state view.start).content, none_yet)) in
+    rw none (grind (arith, quiet_start (state view.start), still))

@@ -19,7 +19,7 @@ use Rattle.recovery.specs.Causes.{WritesNothing, HasFewSlots, IsRefusalBy, IsDev
 use Rattle.recovery.specs.Recovered.{IsOursInEither, MigrationLeaves, most_migration_sends, IsRecoveryRefusal, IsRecoveredFrom, IsFresh}
 use Rattle.recovery.specs.Recovered.{IsOursForSome, IsOursWithNext, StandsForOneOf, StandsForSome, LeavesAtLeast, StartMoments}
 use Rattle.recovery.specs.Recovered.{HasNoneWaiting}
-use Rattle.recovery.specs.declared.start_fault.StartFault.{StartFault}
+use Rattle.recovery.specs.{declared.start_fault.StartFault.StartFault, declared.found.Found.Found}
 use Rattle.recovery.specs.declared.start_fault.StartFault.TheVariants.{NoMemory, StampsUsedUp, LogTooSmall}
 use Rattle.recovery.proofs.JoinedCalls.{log_ends, not_in_log, spared_by, AreSame, copies_ours, fresh_ours, quiet_before, quiet_after}
 use Rattle.recovery.proofs.JoinedCalls.{looked_on}
@@ -73,6 +73,10 @@ most_of format slots few = (grind arith, grind arith)
 few_sent : (format : LogFormat) (slots : ℕ) (old new : State) (few : ℕ) → few ≤ 4 → SendsUpTo few old new
     → SendsUpTo (most_start_sends format slots - limit_of format * slots) old new
 few_sent format slots old new few most sends = omega (arith, most, sends)
+
+-- what a cut leaves while the head is moved
+abbrev pub Moved : Found → State → Image → Type 0
+Moved found copied image = CutLeaves copied.may_leave image ⊎ HasNewHead (found.head + found.count + 1) copied.content image
 
 -- a flush was made, and behind a good one a survey
 pub record IsSurveyed (result : Result (Unit {0}) MediumFault) (old mid seen : State) : Type 0 where
@@ -291,8 +295,7 @@ module _ (least : ℕ) {old mid seen : State} {result : Result (Unit {0}) Medium
 
       -- the copies, and perhaps the new head
       pub moves_leave : {new : State} {count : ℕ} {moves : Result (Unit {0}) MediumFault} → count ≤ 3
-          → Writes (λ image. CutLeaves copied.may_leave image
-          ⊎ HasNewHead (found.head + found.count + 1) copied.content image) 2 count copied new moves → LeavesAtLeast least old new
+          → Writes (Moved found copied) 2 count copied new moves → LeavesAtLeast least old new
       moves_leave {new = new} {count = count} some moves =
           let most = most_of found.sizes.format found.sizes.slots found.sizes.most_slots in
           start_on {shape = shape} known.sound (search (rules, stood.stands, at_old.stamp_left, at_old.room)) copies_leave

@@ -51,7 +51,8 @@ IsCauseBy Calls old new fault.NoMemory = ⊥
 IsCauseBy Calls old new fault.Read = IsLookCause old new fault.Read
 IsCauseBy Calls old new fault.Write = IsLookCause old new fault.Write
 IsCauseBy Calls old new fault.Flush = IsLookCause old new fault.Flush
-IsCauseBy Calls old new fault.StampsUsedUp = image.HasNoStampLeft old.size old.content × Calls old new
+IsCauseBy Calls old new fault.StampsUsedUp =
+    image.HasNoStampLeft old.size old.content × Calls old new
 IsCauseBy Calls old new fault.LogTooSmall = ⊥
 IsCauseBy Calls old new fault = IsLookCause old new fault × Calls old new
 

@@ -17,34 +17,23 @@ flushed_part : {plan : ImagePlan} {under : Under} {image : Image} (m : State) �
 flushed_part m was flushed either = grind (arith, flushed)
 
 module _ {plan : ImagePlan} {under : Under} {shape : Shape} {array : Array} {image : Image} (two : under.first ≡ 2)
-    (ends : plan.end ≡ first_home shape) (fresh : IsFresh shape array plan.head.stamp under.image) (part : IsPart plan under image) where
-  -- zeros may stand in the log
-  apart : (x : ℕ) → x ≢ 1 → (image x ≡ under.image x) ⊎ (IsBetween 2 (first_home shape) x × (image x ≡ replicate 512 0))
-  apart x not = grind (arith, part.each x)
-
-  -- so no record waits in a part of the new image either
-  still_fresh : IsFresh shape array plan.head.stamp image
-  still_fresh =
+    (ends : plan.end ≡ first_home shape) (fresh : IsFresh shape array plan.head.stamp under.image) where
+  -- zeros may stand in the log, so no record waits in a part of the new image either
+  still_fresh : IsPart plan under image → IsFresh shape array plan.head.stamp image
+  still_fresh part =
+      let apart : (x : ℕ) → x ≢ 1 → (image x ≡ under.image x) ⊎ (IsBetween 2 (first_home shape) x × (image x ≡ replicate 512 0)) =
+      λ x not. grind (arith, part.each x) in
       let carries = λ (slot o stamp : ℕ). (laws_of shape.format).zeros o stamp in
       grind (arith, apart, fresh, part.each 1, carries, log_ends shape fresh.super.home_is, plan.head.least)
 
--- and none in the new image
-new_fresh : {shape sizes : Shape} {array : Array} {stamp : ℕ} {before image : Image} → sizes ≡ migrated shape
-    → IsFresh shape array stamp before → IsWritten sizes stamp (first_home shape) before image
-    → IsFresh (migrated shape) array stamp image
-new_fresh {shape = shape} {array = array} {stamp = stamp} {image = image} two fresh new =
-    zeros_fresh (migrated shape) array stamp image (rw two at new.super) new.head new.zeros
-    (λ b below. new.behind (first_home shape + b) (omega arith) ∙ fresh.home b below)
-
--- so whatever a cut leaves
-stays_fresh : {plan : ImagePlan} {under : Under} {shape sizes : Shape} {array : Array} {image : Image} (m : State)
-    → under.first ≡ 2 → under.image ≡ m.content → IsFlushed m → plan.end ≡ first_home shape → sizes ≡ migrated shape
-    → IsFresh shape array plan.head.stamp under.image → WithOrWithout 0 (under.image 0) m.may_leave image
-    ⊎ (IsPart plan under image ⊎ IsWritten sizes plan.head.stamp (first_home shape) under.image image)
-    → IsFresh shape array plan.head.stamp image ⊎ IsFresh (migrated shape) array plan.head.stamp image
-stays_fresh {plan = plan} {under = under} {sizes = sizes} {image = image} m two same flushed ends sized fresh may =
-    ⊎_elim (λ was. inl (still_fresh {plan = plan} {under = under} two ends fresh (flushed_part m same flushed was)))
-    (λ is. ⊎_elim (λ part. inl (still_fresh two ends fresh part)) (λ new. inr (new_fresh sized fresh new)) is) may
+  -- and none in the new image
+  stays_fresh : {sizes : Shape} (m : State) → under.image ≡ m.content → IsFlushed m → sizes ≡ migrated shape
+      → WithOrWithout 0 (under.image 0) m.may_leave image
+      ⊎ (IsPart plan under image ⊎ IsWritten sizes plan.head.stamp (first_home shape) under.image image)
+      → IsFresh shape array plan.head.stamp image ⊎ IsFresh (migrated shape) array plan.head.stamp image
+  stays_fresh m same flushed sized may = ⊎_elim (λ was. inl (still_fresh (flushed_part m same flushed was)))
+      (λ is. ⊎_elim (λ part. inl (still_fresh part)) (λ new. inr (zeros_fresh (migrated shape) array plan.head.stamp image
+      (rw sized at new.super) new.head new.zeros (λ b below. new.behind (first_home shape + b) (omega arith) ∙ fresh.home b below))) is) may
 
 -- the new image is written over what recovery left
 made : (g : _) (c : After-drive g) → let shape = shape_of c.args.found.now.sizes in let next = c.args.found.now.next in
@@ -65,12 +54,10 @@ made g c =
       cuts = λ image cut. flushed_part old refl c.requires.flushed (inl cut);
     }) (omega (arith, long)) (omega arith) (omega arith)
     (λ image may array fresh. rw (← c.new.ensures)
-    (stays_fresh old refl refl c.requires.flushed refl two (rw (← c.new.ensures) at fresh) may)) in (
+    (stays_fresh refl refl (rw (← c.new.ensures) at fresh) old refl c.requires.flushed two may)) in (
       d.0,
-      on_ok_weaker c.drive.result (λ is. (
-        search (rules, is.1, rw two at is.0.super, rw c.new.ensures at is.0.head, is.0.zeros),
-        is.2,
-      )) d.1,
+      on_ok_weaker c.drive.result
+          (λ is. (search (rules, is.1, rw two at is.0.super, rw c.new.ensures at is.0.head, is.0.zeros), is.2)) d.1,
     )
 
 pub returns-in_err-drive-clause-writes : goal.returns-in_err-drive-clause-writes

@@ -1,24 +1,15 @@
 use Rattle.std.proofs.{Common.refl, Common.ap, Common.arith, Common.rules, Common.ℕ, lemmas.Result.on_ok_weaker}
 use Rattle.medium.proofs.Tallies.{calls_most, calls_all, sends_most}
-use Rattle.medium.specs.{Medium.CutLeaves, Moments.LeavesOnly, Tally.Tally}
-use Rattle.recovery.specs.{Calls.cleared_at, Calls.IsBetween, NewImage.HoldsCleared}
+use Rattle.medium.specs.Tally.{Tally}
+use Rattle.recovery.specs.Calls.{IsBetween}
 use Rattle.recovery.proofs.JoinedCalls.{refused_call, none_read}
 use Rattle.recovery.proofs.sectors.clear.Goals as goal
-use Rattle.recovery.proofs.sectors.clear.Goals.{After-drive}
-
--- it began with none cleared
-cleared : (g : _) (c : After-drive g)
-    → LeavesOnly (CutLeaves (cleared_at (IsBetween c.args.from c.args.end) (g.M.Medium.state c.args.m.now).may_leave))
-    (g.M.Medium.state c.args.m.now) (g.M.Medium.state c.drive.new.m)
-    × HoldsCleared g.M.Medium.state c.drive.new.machine.at c.drive.new.machine.end
-    (record { start = c.args.m.now; from = c.args.from; end = c.args.end }) c.drive.new.m
-cleared g c =
-    c.drive.ensures.driven.runs (record { start = c.args.m.now; from = c.args.from; end = c.args.end }) (grind arith)
 
 pub returns : goal.returns
 returns g c =
-    let run = cleared g (goal.at.returns g c).After-drive in
     let driven = c.drive.ensures.driven in
+    -- it began with none cleared
+    let run = driven.runs (record { start = c.args.m.now; from = c.args.from; end = c.args.end }) (grind arith) in
     let elsewhere = λ (x : ℕ) (not : ¬ IsBetween c.args.from c.args.end x). run.1.elsewhere x (rw run.1.end_is at not) in
     let exact = on_ok_weaker c.drive.result (λ end. calls_all end.1 tt refl) c.drive.ensures.done in
     record {
