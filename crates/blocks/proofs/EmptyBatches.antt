@@ -125,8 +125,7 @@ fewer_counted old idle covered = grind (arith, nat_tests, covered, idle)
 no_more_ahead : (before after : State) (old new : Cached) → GoesOnAhead before after old new → is_dead new ≡ false
     → steps_left new ≤ steps_left old
 no_more_ahead before after old new goes lives =
-    let fewer = λ (does : CanPass old.log ⊎ IsAway old.log). go_falls before after old new goes does lives in
-    grind (arith, nat_tests, goes.rests, fewer)
+    grind (arith, nat_tests, goes.rests, (λ (does : CanPass old.log ⊎ IsAway old.log). go_falls before after old new goes does lives))
 
 -- a step ahead leaves fewer where something is to be done ahead of the next record
 pub ahead_fewer : (before after : State) (old new : Cached) → IsAheadStep true before after old new → is_dead old ≡ false

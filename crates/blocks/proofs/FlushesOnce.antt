@@ -46,9 +46,8 @@ goes_with_room log r few = grind (arith, nat_tests, r, few)
 pub rests_spared : (numbers : List ℕ) (firsts : List (List ℕ)) (log : LogValue) → IsInOrder log → 0 < length numbers → SparesSlots log
     → RestsWithRoom (with_more numbers firsts log)
 rests_spared numbers firsts log r some spare =
-    let order = order_more numbers firsts log r some in
     let longer = length-append log.waiting (numbers ∷ []) in
-    grind (arith, nat_tests, r, spare, order, behind_more log.waiting numbers, longer)
+    grind (arith, nat_tests, r, spare, order_more numbers firsts log r some, behind_more log.waiting numbers, longer)
 
 room_with : (log : LogValue) → RestsWithRoom log → SparesSlots log → MayWrite true log
 room_with log r spare = grind (arith, nat_tests, r, spare)
@@ -60,9 +59,8 @@ may_or_not log r = grind (arith, nat_tests, spares_or_not log, room_with log r)
 pub way_ahead : (before after : State) (old new : Cached) → IsWriteBackStep true before after old new → ¬ IsWritten old
     → old.log.steps_left ≡ 0 → RestsWithRoom old.log → ¬ MayWrite true old.log → IsAheadStep true before after old new
 way_ahead before after old new step left idle r not =
-    let live = live_to_write old left in
     let goes = (step.makes_way left idle not).goes (goes_with_room old.log r (λ spare. not (room_with old.log r spare))) in
-    grind (arith, live, idle, goes)
+    grind (arith, live_to_write old left, idle, goes)
 
 -- ---- one step ahead
 
@@ -88,9 +86,6 @@ steps_ahead before after old new step r live = elim (cases_Bool (is_dead old)) [
 ]
 
 -- a store is known by its parts
-pub cached_is : (s t : Cached) → t.log ≡ counted s.log → t.active ≡ s.active → t.frozen ≡ s.frozen → t ≡ with_counted s
-cached_is s t log active frozen = grind (arith, log, active, frozen)
-
 pub store_is : {M : Type 0} (s t : StoreValue M) → t.medium ≡ s.medium → t.cached ≡ s.cached → t.goes_ahead ≡ s.goes_ahead → t ≡ s
 store_is s t medium cached policy = grind (arith, medium, cached, policy)
 
@@ -98,8 +93,8 @@ store_is s t medium cached policy = grind (arith, medium, cached, policy)
 pub counted_store : {M : Type 0} {state : M → State} {old mid : StoreValue M} → SettlesFlush state old mid
     → mid ≡ record old { cached = with_counted old.cached }
 counted_store {old = old} {mid = mid} made =
-    let cached = cached_is old.cached mid.cached made.counts.log made.counts.stays.active made.counts.stays.frozen in
-    store_is (record old { cached = with_counted old.cached }) mid made.keeps.medium cached made.keeps.policy
+    let cached : mid.cached ≡ with_counted old.cached = grind (arith, made.counts, made.counts.stays) in
+    store_is _ mid made.keeps.medium cached made.keeps.policy
 
 -- no flush is counted where no step is left
 pub none_counted : (s : Cached) → steps_left s ≡ 0 → counted s.log ≡ s.log
@@ -141,8 +136,7 @@ settles_once : (ahead : Bool) (before after : State) (old new : Cached) → IsBa
     → RetiresNone Settle ahead old → HasHeadroom old.log → is_dead new ≡ false
     → after.made Flush + next_durable old.log ≡ before.made Flush + next_durable new.log
 settles_once ahead before after old new order kind head live =
-    let once = λ (progress : Progress). step_once progress old.log new.log head in
-    grind (arith, cases_Bool (is_dead old), kind, order, once)
+    grind (arith, cases_Bool (is_dead old), kind, order, (λ (progress : Progress). step_once progress old.log new.log head))
 
 -- it leaves headroom, and its flushes are those of the records that became durable
 abbrev Spared : State → State → Cached → Cached → Type 0

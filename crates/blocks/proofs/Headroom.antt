@@ -53,8 +53,7 @@ record IsReady (log : LogValue) : Type 0 where
 ready_more : (numbers : List ℕ) (firsts : List (List ℕ)) (log : LogValue) → IsReady log → 0 < length numbers
     → RestsWithRoom (with_more numbers firsts log)
 ready_more numbers firsts log r some =
-    let order = order_more numbers firsts log r.order some in
-    grind (arith, r, order, behind_more log.waiting numbers, length-append log.waiting (numbers ∷ []))
+    grind (arith, r, order_more numbers firsts log r.order some, behind_more log.waiting numbers, length-append log.waiting (numbers ∷ []))
 
 -- behind a record that is retired the next one is brought home
 ready_retired : (log : LogValue) → RestsWithRoom log → 0 < length log.waiting → IsReady (sent_home (oldest_retired log))

@@ -18,8 +18,7 @@ some_limit size image there = (
 
 pub one_limit : (size limit other : ℕ) (image : Image) → HasLimit size limit image → HasLimit size other image → limit ≡ other
 one_limit size limit other image has is =
-    let one = StandsFor-one _ _ _ _ _ _ _ _ _ has.stands is.stands in
-    has.limit_is ∙ ap (λ (s : Shape). limit_of s.format) one.0 ∙ sym is.limit_is
+    has.limit_is ∙ ap (λ (s : Shape). limit_of s.format) (StandsFor-one _ _ _ _ _ _ _ _ _ has.stands is.stands).0 ∙ sym is.limit_is
 
 -- an image for which an image before stood has the limit of that one
 limit_of_one : (before : State) (limit : ℕ) → EachCut (HasLimit before.size limit) before → (image : Image) → StandsForOneOf before image
@@ -44,8 +43,7 @@ pub cut_keeps_limit : (m : State) (cached : Cached) (book : Book) → FitsBook m
     → book.ours ≡ true → EachCut (HasLimit m.size (transfer_limit cached)) m
 cut_keeps_limit m cached book fits ours image cut =
     let log = cached.log in
-    let view = fits.view in
     ⊎_elim
     (λ rest. record { shape = log.shape; array = _; next = _; stands = rest.stands; limit_is = refl })
     (λ more. record { shape = log.shape; array = _; next = _; stands = more.1.stands; limit_is = refl })
-    (may_leave_ours m.size log view image (fits.holds.leaves (fits.ours ∙ ours) image cut))
+    (may_leave_ours m.size log fits.view image (fits.holds.leaves (fits.ours ∙ ours) image cut))

@@ -1,6 +1,6 @@
 -- What is known of an image by the books for which it stands, and the store that a recovery starts.
 use Rattle.std.specs.Prelude.{Bool, true}
-use Rattle.std.proofs.Common.{◌≡◌, ◌≤◌, ◌<◌, ◌^◌, ℕ, ⊎_elim, arith, ◌∙◌, sym, ap, subst, refl, Bool, true, false, Option, None, Some, List}
+use Rattle.std.proofs.Common.{◌≡◌, ◌≤◌, ◌<◌, ◌^◌, ℕ, ⊎_elim, arith, ◌∙◌, sym, ap, subst, refl, Bool, true, Option, None, Some, List}
 use Rattle.std.proofs.Common.{[], ◌∷◌, take, inl, rules}
 use Rattle.std.proofs.lemmas.Bool.{false≢true}
 use Rattle.medium.specs.{Medium.State, Medium.Image, Medium.IsSound, Moments.EachCut, Moments.IsFlushed, Moments.LeavesOnly}
@@ -123,8 +123,7 @@ module _ (before after : State) (book : Book) (on : OpensOn before book) where
   -- contents that stand for a book have no fault but that their stamps may be used up
   pub is_cause_for : (fault : StartFault) → IsStartCause before after fault → IsCauseFor book before after fault
   is_cause_for fault h =
-      let none = no_fault image.BadSuper in
-      grind (arith, h, none, no_fault image.BadVersion, no_fault image.BadSize, no_fault image.BadHead, used_up)
+      grind (arith, h, no_fault image.BadSuper, no_fault image.BadVersion, no_fault image.BadSize, no_fault image.BadHead, used_up)
 
 -- ---- the store that a recovery starts
 

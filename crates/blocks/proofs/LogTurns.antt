@@ -112,8 +112,7 @@ module _ {M : Type 0} {state : M → State} {Follows : M → M → Type 0} {None
         → PassesOn state Follows IsTurn 2 most (record { medium = m; cached = s; goes_ahead = ahead })
         (record { medium = n; cached = record s { log = log' }; goes_ahead = ahead })
     passes_turn few =
-        let turn = turn_made result called same stays in
-        grind (arith, turn, called.answers, called.passes, called.leaves.looks, few)
+        grind (arith, turn_made result called same stays, called.answers, called.passes, called.leaves.looks, few)
 
     pub paid_turn : {most : ℕ} → sends ≤ most → count ≤ 2 * steps_left s
         → (Done → count + 2 * steps_left (record s { log = log' }) ≤ 2 * steps_left s)
@@ -151,8 +150,7 @@ pub passes_step : {M : Type 0} {state : M → State} {Follows : M → M → Type
     → PassesOn state Follows IsTurn 1 1 (record { medium = m; cached = s; goes_ahead = ahead })
     (record { medium = n; cached = stepped result s log' none; goes_ahead = ahead })
 passes_step ahead result s log' none empty some called =
-    let turn = step_turn result s log' none empty some called in
-    grind (arith, turn, called.answers, called.passes, called.leaves.looks)
+    grind (arith, step_turn result s log' none empty some called, called.answers, called.passes, called.leaves.looks)
 
 -- ---- where no call is made
 
@@ -190,10 +188,9 @@ module _ (m : State) (sound : IsSound m) (s : Cached) where
     fits = λ book f. moves f (died_holds s.log m f.view f.holds) refl f.under_way f.some refl refl refl;
     cuts = still_found;
     goes_on =
-        let spares = spared_start (sectors_of (layout_of s)) m sound in
         let out : (book : Book) → FitsBook m s book → 2 ^ 63 - 1 ≤ book.stamp + length book.writes = λ book f.
         omega (arith, f.stamps, f.holds.next, many f.holds, last, ap (λ (l : List ℕ). stamps_of l) room.none_under_way) in
-        grind (arith, spares, out);
+        grind (arith, spared_start (sectors_of (layout_of s)) m sound, out);
   }
 
   -- the active batch is frozen in place of an empty one

@@ -1,17 +1,21 @@
 -- What a read gives, and how many calls of the medium it makes.
-use Rattle.std.specs.Prelude.{Ok}
+use Rattle.std.specs.Prelude.{Ok, Err, OnOk, Bool}
 use Rattle.std.proofs.{lemmas.List.length-drop, lemmas.List.length-take-le, lemmas.List.take_all, lemmas.Slice.take-put_mid}
 use Rattle.std.proofs.Common.{◌≡◌, ℕ, zero, suc, ◌+◌, ◌*◌, ◌≤◌, ◌<◌, List, ◌++◌, length, take, drop, None, sym, ◌∙◌, ap}
-use Rattle.std.proofs.Common.{arith, inl, inr, append_assoc, append-nil, add-zero, add-one, Result, false, refl, subst}
+use Rattle.std.proofs.Common.{arith, inl, inr, append_assoc, append-nil, add-zero, add-one, Result, false, refl, subst, rules}
 use borrow.Rule.Slice.PartMut.{put_mid}
-use Rattle.medium.specs.{Medium.State, Medium.Passes, Medium.IsSound, declared.fault.MediumFault.MediumFault, Sent.SendsUpTo}
+use Rattle.medium.specs.{Medium.State, Medium.Passes, Medium.IsSound, Medium.LooksOnly, Medium.Stays, Medium.Within, Sent.SendsUpTo}
+use Rattle.medium.specs.declared.fault.MediumFault.{MediumFault}
 use Rattle.medium.specs.declared.fault.MediumFault.TheVariants.{Read}
-use Rattle.medium.proofs.{CallsSent.read_sends, Moments.quiet_joined}
+use Rattle.medium.proofs.{CallsSent.read_sends, Moments.quiet_joined, Moments.quiet_call, SectorsRead.one_look, SectorsRead.looks_wider}
+use Rattle.journal.specs.Places.{first_home}
+use Rattle.redo_log.specs.Steps.{KeepsLog}
 use Rattle.spec.specs.{Blocks.Array, Book.Book, Book.array_of, Book.blocks_at}
 use Rattle.cache.specs.{Blocks.is_listed, Blocks.unlisted, Entries.map_of, Entries.Entries}
 use Rattle.cache.proofs.{Maps.listed_is, Arrays.unlisted_most}
-use Rattle.blocks.specs.{Reads.IsInBatch, Reads.ReadsBlock, StoreValue.Cached, StoreValue.blocks_of, StoreValue.FitsBook}
-use Rattle.blocks.specs.{StoreValue.StoreValue, Calls.block_reads, Calls.reads_of, Calls.CostsReads, Passing.KeepsStore, Turns.IsTurn}
+use Rattle.blocks.specs.{Reads.IsInBatch, Reads.IsInNone, Reads.ReadsBlock, Reads.told, Looks.IsLogOrHome}
+use Rattle.blocks.specs.StoreValue.{Cached, blocks_of, layout_of, FitsBook}
+use Rattle.blocks.specs.{StoreValue.StoreValue, Calls.block_reads, Calls.reads_of, Passing.KeepsStore, Turns.IsTurn}
 use Rattle.blocks.proofs.{SectorsRead.one_more, SectorsRead.fewer_read, TurnsJoined.quiet_turn}
 
 -- ---- what a read gives
@@ -22,10 +26,10 @@ pub durable_is : (m : State) (s : Cached) (book : Book) (f : FitsBook m s book) 
 durable_is m s book f b below active frozen = rw (active, frozen) at (f.arrays.now_is b (omega (arith, below, f.blocks)))
 
 -- a block that a batch holds is the newest one
-pub newest_is : (m : State) (s : Cached) (book : Book) (f : FitsBook m s book) (b : ℕ) (bytes : List ℕ) → b < blocks_of s
-    → IsInBatch s b bytes → bytes ≡ array_of book b
-newest_is m s book f b bytes below (inl active) = rw active at (f.arrays.now_is b (omega (arith, below, f.blocks)))
-newest_is m s book f b bytes below (inr both) = rw (both.0, both.1) at (f.arrays.now_is b (omega (arith, below, f.blocks)))
+pub newest_is : (m : State) (s : Cached) (b : ℕ) (bytes : List ℕ) → b < blocks_of s → IsInBatch s b bytes → (book : Book)
+    → FitsBook m s book → bytes ≡ array_of book b
+newest_is m s b bytes below (inl active) book f = rw active at (f.arrays.now_is b (omega (arith, below, f.blocks)))
+newest_is m s b bytes below (inr both) book f = rw (both.0, both.1) at (f.arrays.now_is b (omega (arith, below, f.blocks)))
 
 one_block_suc : (array : Array) (address i : ℕ) → blocks_at array address (suc i) ≡ blocks_at array address i ++ array (address + i)
 one_block_suc array address zero = append-nil (array address) ∙ ap array (sym (add-zero address))
@@ -73,15 +77,49 @@ pub reads_copy : (s : Cached) (b : ℕ) → map_of s.active b ≡ None → map_o
 reads_copy s b active frozen =
     grind (arith, listed_is s.active.numbers s.active.bytes b, listed_is s.frozen.numbers s.frozen.bytes b)
 
--- a read that is one call
-pub costs_one : {A : Type 0} (answer : Result A MediumFault) {result : Result (Unit {0}) MediumFault} {before after : State}
-    → Passes Read result before after → CostsReads answer 1 1 before after
-costs_one answer {before = before} {after = after} call = grind (arith, call.calls_are, read_sends before after call)
-
 -- each block takes one call at most
 pub reads_few : (s : Cached) (address count : ℕ) → reads_of s address count ≤ count
 reads_few s address zero = omega arith
 reads_few s address (suc count) = grind (arith, reads_few s (address + 1) count)
+
+-- ---- a block that no batch has is read by one call
+
+module _ {M : Type 0} {state : M → State} {Follows : M → M → Type 0} {m n : M} {s : Cached} {ahead : Bool} {block : ℕ} where
+  -- it reads a copy in the log, or the sector at home
+  pub copy_keeps : KeepsLog state Follows s.log m n
+      → KeepsStore state Follows block 1 (record { medium = m; cached = s; goes_ahead = ahead })
+      (record { medium = n; cached = s; goes_ahead = ahead })
+  copy_keeps log =
+      grind (arith, log, looks_wider _ (IsLogOrHome (first_home (layout_of s)) block 1) (state m) (state n) (λ x low. inl low) log.looks)
+
+  pub home_keeps : {call : Result (Unit {0}) MediumFault} (sector : ℕ) → sector ≡ first_home (layout_of s) + block
+      → Passes Read call (state m) (state n) → Stays (state m).content (state n).content → Within (state n).may_leave (state m).may_leave
+      → Follows m n × LooksOnly (λ x. x ≡ sector) (state m) (state n)
+      → KeepsStore state Follows block 1 (record { medium = m; cached = s; goes_ahead = ahead })
+      (record { medium = n; cached = s; goes_ahead = ahead })
+  home_keeps sector is passes content sets follows = record {
+    stays = refl;
+    quiet = quiet_call (state m) (state n) passes content sets;
+    follows = follows.0;
+    looks = one_look _ (state m) (state n) sector (inr (omega (arith, is), omega (arith, is))) follows.1;
+    policy = refl;
+  }
+
+  pub reads_one : {bytes : List ℕ} (call : Result (Unit {0}) MediumFault) → Passes Read call (state m) (state n)
+      → block < blocks_of s → IsInNone s block
+      → KeepsStore state Follows block 1 (record { medium = m; cached = s; goes_ahead = ahead })
+      (record { medium = n; cached = s; goes_ahead = ahead })
+      → ((book : Book) → (fits : FitsBook (state m) s book) → OnOk call (bytes ≡ fits.view.array block))
+      → ReadsBlock state Follows (told call) block bytes (record { medium = m; cached = s; goes_ahead = ahead })
+      (record { medium = n; cached = s; goes_ahead = ahead })
+  reads_one (Ok done) passes below none keeps ok = record {
+    ok = λ book fits. ok book fits ∙ durable_is (state m) s book fits block below none.0 none.1;
+    err = search rules;
+    keeps = keeps;
+    cost = grind (arith, passes.calls_are, read_sends (state m) (state n) passes, reads_copy s block none.0 none.1);
+  }
+  reads_one (Err fault) passes below none keeps ok =
+      grind (arith, keeps, passes, read_sends (state m) (state n) passes, reads_copy s block none.0 none.1)
 
 -- ---- blocks are read one after another
 

@@ -1,7 +1,8 @@
 -- How room is made in the ring, and what that and a batch that becomes durable cost: calls, writes and flushes.
-use Rattle.std.specs.Prelude.{ℕ, suc, zero, List, length, nat_lt, Bool, if◌then◌else◌, []}
+use Rattle.std.specs.Prelude.{ℕ, suc, zero, List, length, Bool, []}
 use Rattle.std.proofs.Common.{◌≡◌, ◌⊎◌, ◌<◌, ◌≤◌, ◌+◌, ◌-◌, arith, refl, inl, inr, []}
 use Rattle.std.proofs.lemmas.Bool.Decides.{nat_tests}
+use Rattle.medium.specs.{Medium.State, Sent.sent, declared.fault.MediumFault.TheVariants.Flush}
 use Rattle.journal.specs.{declared.log_format.LogFormat.TheVariants.Two, Places.limit_of}
 use Rattle.redo_log.specs.Value.{LogValue, HasRoom, IsStepped, IsRetireStepped, of_oldest, steps_of, turn_calls, turns_calls, turn_sends}
 use Rattle.redo_log.specs.Value.{turns_sends, turn_flushes, turns_flushes, next_step_flushes, steps_flushes, AllFirsts, begun, IsAway}
@@ -29,59 +30,56 @@ more_flushes left some = grind (arith, nat_tests)
 pub next_few : (left : ℕ) → turn_sends left ≤ turns_sends left
 next_few left = grind arith
 
--- so far nothing but retire steps of the oldest record were made, or it is retired; with those of the steps that are left they are all
-pub record CountsOldest (count : ℕ → ℕ) (old new : LogValue) (before after : ℕ) : Type 0 where
+-- between two moments calls, writes and flushes were made as for these steps: all but so many that are left
+pub record Spends (left all : ℕ) (before after : State) : Type 0 where
+  pub calls : after.calls + turns_calls left ≡ before.calls + turns_calls all
+  pub sends : sent after + turns_sends left ≤ sent before + turns_sends all
+  pub flushes : after.made Flush + turns_flushes left ≡ before.made Flush + turns_flushes all
+
+-- so far nothing but retire steps of the oldest record were made, or it is retired
+pub record Retires (old new : LogValue) (before after : State) : Type 0 where
   pub so_far : ((new ≡ record old { retire_steps_left = new.retire_steps_left; ahead = new.ahead })
-      × (after + count (of_oldest new) ≡ before + count (of_oldest old)))
-      ⊎ ((new ≡ oldest_retired old) × (after ≡ before + count (of_oldest old)))
+      × Spends (of_oldest new) (of_oldest old) before after)
+      ⊎ ((new ≡ oldest_retired old) × Spends 0 (of_oldest old) before after)
 
-pub none_counted : {count : ℕ → ℕ} {log : LogValue} {before : ℕ} → CountsOldest count log log before before
-none_counted = record { so_far = inl (refl, refl) }
-
--- so many were allowed so far
-pub record AtMostOldest (count : ℕ → ℕ) (old new : LogValue) (before after : ℕ) : Type 0 where
-  pub made : ℕ
-  pub counts : CountsOldest count old new 0 made
-  pub few : after ≤ before + made
-
--- so far the head stays, or one record is retired and a slot is free
-abbrev pub OneAtMost : LogValue → LogValue → Type 0
-OneAtMost old new = (new.head ≡ old.head) ⊎ ((new.head ≡ old.head + 1) × (new.next - new.head < new.shape.slots))
+pub retires_none : (log : LogValue) (m : State) → Retires log log m m
+retires_none log m = record { so_far = inl (refl, record { calls = refl; sends = omega arith; flushes = refl }) }
 
 -- a log without room, on the way from this one
 pub record IsFull (old mid : LogValue) : Type 0 where
   pub full : HasRoom mid → ⊥
   pub under_way : mid.under_way ≡ []
   pub idle : mid.steps_left ≡ 0
-  pub one : OneAtMost old mid
+  pub ring : old.next ≤ old.head + old.shape.slots
+  pub slots : 1 ≤ old.shape.slots
 
-pub one_at_most : {old mid new : LogValue} → IsFull old mid → mid.next ≤ mid.head + mid.shape.slots → 1 ≤ mid.shape.slots
-    → IsRetireStepped mid new → OneAtMost old new
-one_at_most f ring slots stepped = grind (arith, nat_tests)
+module _ {old mid : LogValue} {before between : State} (f : IsFull old mid) (made : Retires old mid before between) where
+  -- its oldest record is not retired
+  still_full : (mid ≡ record old { retire_steps_left = mid.retire_steps_left; ahead = mid.ahead })
+      × Spends (of_oldest mid) (of_oldest old) before between
+  still_full = grind (arith, f, made.so_far)
 
-module _ {count : ℕ → ℕ} where
-  -- one step more
-  pub counts_more : (each : ℕ → ℕ) → count 0 ≡ 0 → ((left : ℕ) → 0 < left → count left ≡ each left + count (left - 1))
-      → {old mid new : LogValue} {before between after : ℕ} → IsFull old mid → IsRetireStepped mid new
-      → after ≡ between + each (of_oldest mid) → CountsOldest count old mid before between → CountsOldest count old new before after
-  counts_more each none more f stepped made counts = grind (arith, nat_tests)
+  -- one step more, good or refused
+  pub retires_more : {new : LogValue} {after : State} → IsRetireStepped mid new → after.calls ≡ between.calls + turn_calls (of_oldest mid)
+      → sent after ≤ sent between + turn_sends (of_oldest mid) → after.made Flush ≡ between.made Flush + turn_flushes (of_oldest mid)
+      → Retires old new before after
+  retires_more {after = after} stepped calls sends flushes =
+      let so_far = still_full in
+      let left = of_oldest mid in
+      let some : 0 < left = omega (arith, stepped.some) in
+      let spent : Spends (left - 1) (of_oldest old) before after =
+      grind (arith, so_far.1, calls, sends, flushes, more_calls left some, more_sends left some, more_flushes left some) in
+      grind (arith, nat_tests, so_far.0, stepped, spent)
 
-  -- then there is room for one record: none where a slot was free, and else all
-  pub counts_room : {old new : LogValue} {before after : ℕ} → (HasRoom old → new ≡ old) → (HasRoom old → after ≡ before) → HasRoom new
-      → CountsOldest count old new before after
-      → after ≡ before + (if nat_lt (old.next - old.head) old.shape.slots then 0 else count (of_oldest old))
-  counts_room stays quiet room counts = grind (arith, nat_tests)
+  pub retires_refused : (after : State) → sent after ≤ sent between + turn_sends (of_oldest mid)
+      → sent after ≤ sent before + turns_sends (of_oldest old)
+  retires_refused after sends = let so_far = still_full in omega (arith, so_far.1.sends, sends, next_few (of_oldest mid))
 
-  -- and the log is this one
-  pub room_is_made : {old new : LogValue} {before after : ℕ} → (HasRoom old → new ≡ old) → HasRoom new
-      → CountsOldest count old new before after → new ≡ with_room old
-  room_is_made stays room counts = grind (arith, nat_tests)
-
-  -- those of one step more are at most those of the steps that are left
-  pub at_most_refused : (each : ℕ → ℕ) → ((left : ℕ) → each left ≤ count left) → {old mid : LogValue} {before between after : ℕ}
-      → IsFull old mid → after ≤ between + each (of_oldest mid) → AtMostOldest count old mid before between
-      → after ≤ before + count (of_oldest old)
-  at_most_refused each few f made so_far = grind (arith, nat_tests)
+-- then there is room for one record: none is retired where a slot was free, and else the oldest
+pub retires_room : {old new : LogValue} {before after : State} → (HasRoom old → (new ≡ old) × (after ≡ before)) → HasRoom new
+    → Retires old new before after → (new ≡ with_room old) × (after.calls ≡ before.calls + room_calls old)
+    × (after.made Flush ≡ before.made Flush + room_flushes old)
+retires_room stays room made = grind (arith, nat_tests, stays, room, made.so_far)
 
 -- ---- a record is written out
 

@@ -1,7 +1,7 @@
 -- Each sector that a call of a store reads is one of the log, or for a READ the home of one of its blocks.
-use Rattle.std.proofs.Common.{◌≡◌, ◌<◌, ◌≤◌, ◌+◌, ℕ, inl, inr, arith, subst}
+use Rattle.std.proofs.Common.{◌≡◌, ◌<◌, ◌≤◌, ◌+◌, ℕ, arith, subst}
 use Rattle.medium.specs.Medium.{State, LooksOnly}
-use Rattle.medium.proofs.SectorsRead.{no_looks, one_look, looks_joined, looks_wider}
+use Rattle.medium.proofs.SectorsRead.{no_looks, looks_joined, looks_wider}
 use Rattle.journal.specs.Places.{Shape, first_home}
 use Rattle.blocks.specs.{Looks.LooksAtLog, Looks.LooksAtBlocks, StoreValue.Cached, StoreValue.layout_of}
 
@@ -19,17 +19,6 @@ looks_on before mid after old half layout first last =
 pub none_read : (before after : State) (s : Cached) (address count : ℕ) → after.looked ≡ before.looked
     → LooksAtBlocks before after s address count
 none_read before after s address count same = no_looks _ before after same
-
--- reads of the log alone
-pub log_read : (before after : State) (s : Cached) (address count : ℕ) → LooksAtLog before after s
-    → LooksAtBlocks before after s address count
-log_read before after s address count looks = looks_wider _ _ before after (λ x low. inl low) looks
-
--- the read of a block at home
-pub home_read : (before after : State) (s : Cached) (block sector : ℕ) → sector ≡ first_home (layout_of s) + block
-    → LooksOnly (λ x. x ≡ sector) before after → LooksAtBlocks before after s block 1
-home_read before after s block sector is look =
-    one_look _ before after sector (inr (omega (arith, is), omega (arith, is))) look
 
 -- the blocks before it were read, and it was
 pub one_more : (before mid after : State) (old half : Cached) (address i : ℕ) → half ≡ old → LooksAtBlocks before mid old address i

@@ -87,8 +87,7 @@ fills numbers firsts log f each some =
     let is = finished_is numbers firsts log f.idle some in
     let blocks = blocks_more log.waiting numbers each some in
     let sum = sum_by_push retire_steps_of log.waiting numbers in
-    let steady = then_steady numbers firsts log f.none_under_way in
-    grind (arith, f, length-append log.waiting (numbers ∷ []), fills_room log f each, steady)
+    grind (arith, f, length-append log.waiting (numbers ∷ []), fills_room log f each, then_steady numbers firsts log f.none_under_way)
 
 -- ---- a steady ring
 
@@ -100,12 +99,10 @@ pub keeps_on : (numbers : List ℕ) (firsts : List (List ℕ)) (log : LogValue) 
     → IsSteady (finished_with true numbers firsts log) × HaveBlocks (finished_with true numbers firsts log).waiting
 keeps_on numbers firsts log s each some =
     let rest = blocks_behind log.waiting each in
-    let left = steady_left log s in
-    let is : ahead_room log ≡ home_of (oldest_retired (settled log)) = grind (arith, nat_tests, left) in
-    let blocks = blocks_more (drop 1 log.waiting) numbers rest some in
+    let is : ahead_room log ≡ home_of (oldest_retired (settled log)) = grind (arith, nat_tests, steady_left log s) in
     let steady = then_steady numbers firsts (oldest_retired (settled log)) s.none_under_way (grind (arith, s)) rest some
     (omega (arith, s.one_free)) in
-    rw (finished_is numbers firsts log s.idle some, is) (steady, blocks)
+    rw (finished_is numbers firsts log s.idle some, is) (steady, blocks_more (drop 1 log.waiting) numbers rest some)
 
 -- whatever a batch is, it stays steady
 pub stays_on : (numbers : List ℕ) (firsts : List (List ℕ)) (log : LogValue) → IsSteady log → HaveBlocks log.waiting

@@ -88,6 +88,15 @@ pub kept : {M : Type 0} {state : M → State} {Turn : State → State → Cached
     (record { medium = m; cached = new; goes_ahead = ahead })
 kept turn = record { turn = turn; medium = refl; policy = refl }
 
+-- one turn without a call, and then one that accepts a write
+pub written_on : {M : Type 0} {state : M → State} {w : Write} {old mid new : StoreValue M} → KeepsMedium state IsTurn old mid
+    → KeepsMedium state (IsWriteTurn w true) mid new → KeepsMedium state (IsWriteTurn w true) old new
+written_on first last = record {
+  turn = then_written _ _ _ _ _ _ _ first.turn last.turn;
+  medium = last.medium ∙ first.medium;
+  policy = last.policy ∙ first.policy;
+}
+
 -- both batches change places where no record is under way, and as many steps are left
 pub swapped_steps : (s : Cached) → s.log.steps_left ≡ 0 → steps_left (record s { active = s.frozen; frozen = s.active }) ≤ steps_left s
 swapped_steps s idle = grind (arith, idle)
@@ -110,11 +119,9 @@ module _ {M : Type 0} {state : M → State} {Follows : M → M → Type 0} where
   pub kept_then : {most sends : ℕ} {old mid new : StoreValue M} → KeepsMedium state IsTurn old mid
       → PassesOn state Follows IsTurn most sends mid new → PassesOn state Follows IsTurn most sends old new
   kept_then {old = old} {mid = mid} {new = new} keeps made =
-      let turn = turns _ _ _ _ _ _ keeps.turn made.turn in
       let looks = looks_on (state old.medium) (state mid.medium) (state new.medium) old.cached mid.cached keeps.turn.goes_on.layout_stays
       (none (state old.medium) (state mid.medium) old.cached (ap (λ m. (state m).looked) keeps.medium)) made.looks in
-      let on = rw keeps.medium at made in
-      grind (arith, keeps.policy, turn, looks, on)
+      grind (arith, keeps.policy, turns _ _ _ _ _ _ keeps.turn made.turn, looks, (rw keeps.medium at made))
 
   -- nothing was done, as a record of each kind tells it
   pub rested_on : {most sends : ℕ} {old : StoreValue M} → ((m : M) → Follows m m) → ((m : M) → IsSound (state m))
@@ -149,8 +156,7 @@ module _ {M : Type 0} {state : M → State} {Follows : M → M → Type 0} where
       → is_dead mid.cached ≡ false → KeepsMedium state (IsWriteTurn w true) mid new
       → PassesOn state Follows (IsWriteTurn w true) (2 * steps_left old.cached) sends old new
   paid_written {w = w} {old = old} {mid = mid} {new = new} paid live keeps =
-      let turn = then_written w _ _ _ old.cached mid.cached new.cached paid.turn keeps.turn in
-      grind (arith, paid, live, keeps.medium, keeps.policy, turn)
+      grind (arith, paid, live, keeps.medium, keeps.policy, then_written w _ _ _ old.cached mid.cached new.cached paid.turn keeps.turn)
 
   -- a step of at most two calls, where one was left
   pub on_paid : {most sends : ℕ} {old new : StoreValue M} → 0 < steps_left old.cached

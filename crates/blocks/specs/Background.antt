@@ -6,7 +6,7 @@ use Rattle.medium.specs.declared.fault.MediumFault.TheVariants.{Flush}
 use Rattle.cache.specs.Entries.{Entries}
 use Rattle.redo_log.specs.Value.{begun, died, IsStepped, IsRetireStepped, next_calls, next_sends}
 use Rattle.redo_log.specs.Value.{next_step_flushes, next_turn_flushes, LogValue, IsSentHome}
-use Rattle.redo_log.specs.Value.{pass_calls}
+use Rattle.redo_log.specs.Value.{pass_calls, HasRoom}
 use Rattle.redo_log.specs.declared.progress.Progress.{Progress}
 use Rattle.redo_log.specs.declared.progress.Progress.TheVariants.{More, Durable}
 use Rattle.blocks.specs.{Retiring.IsRoomy, Turns.IsTurn, Ahead.counted, Ahead.past}
@@ -110,6 +110,17 @@ pub record CountsRetired {M : Type 0} (old new : StoreValue M) : Type 0 where
 -- store goes ahead three slots are free: two are left for records that a call has to begin.
 abbrev pub MayBegin : Bool → Cached → Type 0
 MayBegin ahead s = IsRoomy ahead s.log × (0 < unwritten s)
+
+-- a live store has room for a record, and so many blocks for it
+pub record MayBeginNow (s : Cached) (blocks : ℕ) : Type 0 where
+  pub live : is_dead s ≡ false
+  pub room : HasRoom s.log
+  pub some : 0 < blocks
+
+-- a live store has a record under way
+pub record IsUnderWay (s : Cached) : Type 0 where
+  pub live : is_dead s ≡ false
+  pub under_way : 0 < s.log.steps_left
 
 -- One background step. A dead store makes none. With a record under way only that record goes on;
 -- else the next batch is begun where it may be, and the oldest record is retired where none may.
@@ -236,16 +247,10 @@ pub record SettlesFlush {M : Type 0} (state : M → State) (old new : StoreValue
   pub counts : CountsFlush old.cached new.cached
   pub life : is_dead new.cached ≡ is_dead old.cached
 
--- the head goes past, and that is told
-pub record GoesPast {M : Type 0} (state : M → State) (Follows : M → M → Type 0)
-    (result : Result (Unit {0}) StoreFault) (old new : StoreValue M) : Type 0 where
-  pub passes : PassesPaid state Follows 1 old new
-  pub passing : PassesHead (state old.medium) (state new.medium) old.cached new.cached
-  pub answer : TellsLife result new.cached
-
--- one block more goes home, and that is told
-pub record GoesHome {M : Type 0} (state : M → State) (Follows : M → M → Type 0)
-    (result : Result (Unit {0}) StoreFault) (old new : StoreValue M) : Type 0 where
-  pub passes : PassesPaid state Follows 2 old new
-  pub brings : BringsHome (state old.medium) (state new.medium) old.cached new.cached
+-- the oldest record is brought on in this way, and that is told
+pub record GoesBy {M : Type 0} (state : M → State) (Follows : M → M → Type 0) (sends : ℕ)
+    (Way : State → State → Cached → Cached → Type 0) (result : Result (Unit {0}) StoreFault)
+    (old new : StoreValue M) : Type 0 where
+  pub passes : PassesPaid state Follows sends old new
+  pub way : Way (state old.medium) (state new.medium) old.cached new.cached
   pub answer : TellsLife result new.cached

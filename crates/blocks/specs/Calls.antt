@@ -1,15 +1,16 @@
 -- How many calls of the medium a read of a store makes, and what a write does to the batches.
-use Rattle.std.specs.Prelude.{◌≡◌, ℕ, ◌+◌, ◌*◌, zero, suc, Bool, true, false, [], ◌≤◌}
+use Rattle.std.specs.Prelude.{◌≡◌, ℕ, ◌+◌, ◌*◌, ◌/◌, zero, suc, Bool, true, false, [], ◌≤◌}
 use Rattle.std.specs.Prelude.{if◌then◌else◌, Result, OnOk, is_ok, IsOk}
 use Rattle.medium.specs.{Medium.State, Sent.SendsUpTo, declared.fault.MediumFault.TheVariants.Flush}
 use Rattle.cache.specs.Blocks.{is_listed}
-use Rattle.blocks.specs.{Retiring.finished, Retiring.finish_calls, Flushing.finish_flushes}
+use Rattle.blocks.specs.{Book.IsTransfer, Retiring.finished, Retiring.finish_calls}
+use Rattle.blocks.specs.Flushing.{finish_flushes}
 use Rattle.blocks.specs.{Steady.IsSteady, declared.fault.StoreFault.StoreFault}
 use Rattle.blocks.specs.{OneBatch.SendsOneBatch, Sent.batch_sends, Turns.IsWriteTurn}
 use Rattle.blocks.specs.Headroom.{HasHeadroom, FlushesOnce}
-use Rattle.blocks.specs.Passing.{PassesOn, KeepsMedium, Answers}
+use Rattle.blocks.specs.Passing.{PassesOn, Answers}
 use Rattle.blocks.specs.StoreValue.{Cached, StoreValue, FitsBeside, TakesRange, transfer_limit}
-use Rattle.blocks.specs.StoreValue.{active_of, batch_steps, steps_left, is_dead, wants}
+use Rattle.blocks.specs.StoreValue.{active_of, blocks_of, batch_steps, steps_left, is_dead, wants}
 use Rattle.spec.specs.Blocks.{Write}
 
 -- how many calls it takes to read a block: none where a batch has it, and else one, from its newest
@@ -103,12 +104,13 @@ pub record CanBegin (s : Cached) : Type 0 where
   pub idle : s.log.steps_left ≡ 0
   pub empty : s.frozen.numbers ≡ []
 
--- The active batch becomes the frozen one, and a write of a range has one of its own, for which one
--- more is to become a record at most. The log stays, and no call is made.
-pub record BeginsBatch {M : Type 0} (state : M → State) (write : Write) (address count : ℕ)
-    (old new : StoreValue M) : Type 0 where
-  pub keeps : KeepsMedium state (IsWriteTurn write true) old new
-  pub log : new.cached.log ≡ old.cached.log
-  pub frozen : new.cached.frozen ≡ old.cached.active
-  pub one_more : steps_left new.cached ≤ steps_left old.cached + batch_steps old.cached
-  pub active : TakesRange (transfer_limit old.cached) [] address count (active_of new.cached)
+-- a write of so many bytes fits beside the active batch
+pub record TakesBeside (s : Cached) (address size : ℕ) : Type 0 where
+  pub range : IsTransfer (transfer_limit s) (blocks_of s) address size
+  pub fits : FitsBeside (transfer_limit s) (active_of s) address (size / 512)
+
+-- it does not beside that of a live store
+pub record HasToTakeAlone (s : Cached) (address size : ℕ) : Type 0 where
+  pub live : is_dead s ≡ false
+  pub range : IsTransfer (transfer_limit s) (blocks_of s) address size
+  pub alone : ¬ FitsBeside (transfer_limit s) (active_of s) address (size / 512)

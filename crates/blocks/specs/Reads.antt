@@ -1,20 +1,22 @@
 -- What the calls of a store do that read blocks for a caller.
-use Rattle.std.specs.Prelude.{◌≡◌, ◌⊎◌, ◌<◌, ◌+◌, ℕ, false, List, [], length, Option, Some, None}
-use Rattle.std.specs.Prelude.{Result, OnOk, OnErr, IfErr, IfSome, IsNone}
+use Rattle.std.specs.Prelude.{◌≡◌, ◌⊎◌, ◌≤◌, ◌+◌, ◌*◌, ◌^◌, ℕ, false, List, [], length}
+use Rattle.std.specs.Prelude.{Option, Some, None, Result, Ok, Err, OnOk, IfErr, IfSome, IsNone}
 use Rattle.std.specs.Borrow.{Bor}
 use Rattle.medium.specs.{Medium.State, declared.fault.MediumFault.MediumFault}
-use Rattle.medium.specs.declared.fault.MediumFault.TheVariants.{Read}
-use Rattle.journal.specs.Places.{first_home}
+use Rattle.redo_log.specs.Value.{HasNoCopy}
 use Rattle.cache.specs.{Blocks.unlisted, Entries.map_of, Places.HasPlace}
 use Rattle.spec.specs.Book.{Book, array_of, blocks_at}
 use Rattle.blocks.specs.{declared.fault.StoreFault.StoreFault, Calls.block_reads, Calls.reads_of}
+use Rattle.blocks.specs.declared.fault.StoreFault.TheVariants.{ReadFault}
 use Rattle.blocks.specs.{Calls.CostsReads, Passing.KeepsStore, Turns.IsTurn, Turns.IsReadCause}
-use Rattle.blocks.specs.StoreValue.{Cached, StoreValue, blocks_of, layout_of, is_dead, FitsBook}
+use Rattle.blocks.specs.StoreValue.{Cached, StoreValue, blocks_of, is_dead, FitsBook}
 
--- the store is live, and has this block
-pub record IsReadable (s : Cached) (block : ℕ) : Type 0 where
+-- the store is live, and has count blocks from an address on, which have so many bytes
+pub record AreReadable (s : Cached) (address count bytes : ℕ) : Type 0 where
   pub live : is_dead s ≡ false
-  pub inside : block < blocks_of s
+  pub inside : address + count ≤ blocks_of s
+  pub small : address + count ≤ 2 ^ 31
+  pub size : bytes ≡ 512 * count
 
 -- the block's places among the numbers of both batches
 pub record HasPlaces (s : Cached) (block first second : ℕ) : Type 0 where
@@ -26,24 +28,32 @@ abbrev pub IsInBatch : Cached → ℕ → List ℕ → Type 0
 IsInBatch s block bytes = (map_of s.active block ≡ Some bytes)
     ⊎ ((map_of s.active block ≡ None) × (map_of s.frozen block ≡ Some bytes))
 
+-- no batch has the block
+abbrev pub IsInNone : Cached → ℕ → Type 0
+IsInNone s block = (map_of s.active block ≡ None) × (map_of s.frozen block ≡ None)
+
 -- a look into the batches gives the 512 bytes of a block, the newest ones, or none where no batch
 -- has it
 pub record GetsNewest (s : Cached) (block : ℕ) (result : Option (Bor (List ℕ))) : Type 0 where
   pub some : IfSome result (λ bytes. IsInBatch s block bytes.now)
   pub size : IfSome result (λ bytes. length bytes.now ≡ 512)
-  pub none : IsNone result → (map_of s.active block ≡ None) × (map_of s.frozen block ≡ None)
+  pub none : IsNone result → IsInNone s block
 
--- the block is at home alone: no batch has it, and no record waits to be retired
+-- the block is at home alone: no batch has it, nor a record that waits to be retired
 pub record IsAtHome (s : Cached) (block : ℕ) : Type 0 where
-  pub active : map_of s.active block ≡ None
-  pub frozen : map_of s.frozen block ≡ None
-  pub log : s.log.waiting ≡ []
+  pub none : IsInNone s block
+  pub log : HasNoCopy s.log block
 
--- so are count blocks from an address on
+-- count blocks from an address on are: no record waits
 pub record AreAtHome (s : Cached) (address count : ℕ) : Type 0 where
   pub active : unlisted s.active.numbers address count ≡ count
   pub frozen : unlisted s.frozen.numbers address count ≡ count
   pub log : s.log.waiting ≡ []
+
+-- how a store tells of one read of its medium
+abbrev pub told : Result (Unit {0}) MediumFault → Result (Unit {0}) StoreFault
+told (Ok done) = Ok done
+told (Err fault) = Err ReadFault
 
 -- One block is read: good, it is the newest; refused, there is a cause. The store stays, and the
 -- cost is told.
@@ -77,25 +87,3 @@ pub record ReadsBlocks {M : Type 0} (state : M → State) (Follows : M → M →
   pub turn : IsTurn (state old.medium) (state new.medium) old.cached new.cached
   pub cost : CostsReads result count (reads_of old.cached address count)
       (state old.medium) (state new.medium)
-
--- a block that no batch has is read, as what the log and the medium hold of it
-pub record ReadsDurable {M : Type 0} (state : M → State) (Follows : M → M → Type 0)
-    (result : Result (Unit {0}) MediumFault) (block : ℕ) (bytes : List ℕ) (old new : StoreValue M)
-    : Type 0 where
-  pub ok : (book : Book) → (fits : FitsBook (state old.medium) old.cached book)
-      → OnOk result (bytes ≡ fits.view.array block)
-  pub err : OnErr result (((state old.medium).failures < (state new.medium).failures)
-      × ((state old.medium).refused Read < (state new.medium).refused Read))
-  pub keeps : KeepsStore state Follows block 1 old new
-  pub cost : CostsReads result 1 1 (state old.medium) (state new.medium)
-
--- the sector at home of a block is read, by one call
-pub record ReadsAtHome {M : Type 0} (state : M → State) (Follows : M → M → Type 0)
-    (result : Result (Unit {0}) MediumFault) (block : ℕ) (bytes : List ℕ) (old new : StoreValue M)
-    : Type 0 where
-  pub ok : OnOk result (bytes
-      ≡ (state old.medium).content (first_home (layout_of old.cached) + block))
-  pub err : OnErr result (((state old.medium).failures < (state new.medium).failures)
-      × ((state old.medium).refused Read < (state new.medium).refused Read))
-  pub keeps : KeepsStore state Follows block 1 old new
-  pub cost : CostsReads result 1 1 (state old.medium) (state new.medium)

@@ -8,7 +8,7 @@ ghost use Rattle.blocks.specs.Passing.{PassesPaid};
 ghost use Rattle.blocks.specs.Ahead.{counted, gone_home, going_calls, passed, passed_calls};
 ghost use Rattle.blocks.specs.Ahead.{sent_home, sent_calls};
 ghost use Rattle.blocks.specs.Prepared.{NeedsNoneAhead};
-ghost use Rattle.blocks.specs.Background.{SettlesFlush, GoesPast, GoesHome, GoesAhead};
+ghost use Rattle.blocks.specs.Background.{SettlesFlush, GoesBy, PassesHead, BringsHome, GoesAhead};
 
 use crate::{Store, StoreFault};
 use medium::Medium;
@@ -27,7 +27,7 @@ impl<M: Medium> Store<M> {
     /// Writes the head past the oldest record, where that is flushed at home.
     pub(crate) fn pass_head(&mut self) -> Result<(), StoreFault>
         requires { IsIdle self.old.cached }
-        ensures { GoesPast M.state M.follows result self.old self.new }
+        ensures { GoesBy M.state M.follows 1 PassesHead result self.old self.new }
     {
         // The log says here that it owes no step where no record waits.
         let _ = self.log.is_retired();
@@ -41,7 +41,7 @@ impl<M: Medium> Store<M> {
     pub(crate) fn bring_home(&mut self) -> Result<(), StoreFault>
         requires idle { IsIdle self.old.cached }
         requires away { IsAway self.old.cached.log }
-        ensures { GoesHome M.state M.follows result self.old self.new }
+        ensures { GoesBy M.state M.follows 2 BringsHome result self.old self.new }
     {
         match self.log.home_ahead(&mut self.medium) {
             Ok(()) => Ok(()),

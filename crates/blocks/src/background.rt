@@ -1,6 +1,5 @@
 //! The background work, one step at a time.
 ghost use Rattle.std.specs.Prelude.{◌≡◌, ◌⊎◌, ◌↔◌, ◌<◌, ◌≤◌, true, false, [], length, IsTrue};
-ghost use Rattle.redo_log.specs.Value.{HasRoom};
 ghost use Rattle.blocks.specs.StoreValue.{is_dead, active_of, unwritten, steps_left, slots_of};
 ghost use Rattle.blocks.specs.Headroom.{KeepsHeadroom};
 ghost use Rattle.blocks.specs.Retiring.{HasSpare};
@@ -8,6 +7,7 @@ ghost use Rattle.blocks.specs.Turns.{IsTurn};
 ghost use Rattle.blocks.specs.Passing.{PassesOn, MayEmpty};
 ghost use Rattle.blocks.specs.Background.{IsBackgroundStep, CountsDown, WorksOn, BeginsNext};
 ghost use Rattle.blocks.specs.Background.{Freezes, Begins, StepsOn, RetiresOn, MayBegin};
+ghost use Rattle.blocks.specs.Background.{MayBeginNow, IsUnderWay};
 ghost use Rattle.blocks.specs.Calls.{CanBegin};
 ghost use Rattle.blocks.specs.Work.{IsIdle};
 
@@ -76,9 +76,7 @@ impl<M: Medium> Store<M> {
 
     /// Begins the frozen batch, or the active one in its place.
     pub(crate) fn begin_next(&mut self) -> Result<(), StoreFault>
-        requires live { is_dead self.old.cached ≡ false }
-        requires room { HasRoom self.old.cached.log }
-        requires some { 0 < unwritten self.old.cached }
+        requires { MayBeginNow self.old.cached (unwritten self.old.cached) }
         ensures { BeginsNext M.state self.old self.new }
     {
         if self.frozen.is_empty() {
@@ -98,9 +96,7 @@ impl<M: Medium> Store<M> {
 
     /// Begins the record of the frozen batch.
     pub(crate) fn begin(&mut self) -> Result<(), StoreFault>
-        requires live { is_dead self.old.cached ≡ false }
-        requires room { HasRoom self.old.cached.log }
-        requires some { 0 < length self.old.cached.frozen.numbers }
+        requires { MayBeginNow self.old.cached (length self.old.cached.frozen.numbers) }
         ensures { Begins M.state result self.old self.new }
     {
         match self.log.begin(self.frozen.numbers(), self.frozen.bytes()) {
@@ -114,8 +110,7 @@ impl<M: Medium> Store<M> {
 
     /// Makes one step of the record under way.
     pub(crate) fn step(&mut self) -> Result<Progress, StoreFault>
-        requires live { is_dead self.old.cached ≡ false }
-        requires under_way { 0 < self.old.cached.log.steps_left }
+        requires { IsUnderWay self.old.cached }
         ensures { StepsOn M.state M.follows result self.old self.new }
     {
         let numbers = self.frozen.numbers();

@@ -1,14 +1,13 @@
 //! How blocks are read.
-ghost use Rattle.std.specs.Prelude.{◌≡◌, ◌+◌, ◌*◌, ◌/◌, ◌^◌, ◌≤◌, ◌<◌, false, length, IsTrue, OnOk};
+ghost use Rattle.std.specs.Prelude.{◌≡◌, ◌+◌, ◌*◌, ◌/◌, ◌^◌, ◌≤◌, length, IsTrue, OnOk};
 ghost use Rattle.spec.specs.Book.{Book, array_of, blocks_at};
 ghost use Rattle.blocks.specs.Book.{IsTransfer};
-ghost use Rattle.blocks.specs.StoreValue.{blocks_of, transfer_limit, is_dead, FitsBook};
+ghost use Rattle.blocks.specs.StoreValue.{blocks_of, transfer_limit, FitsBook};
 ghost use Rattle.blocks.specs.Turns.{IsTurn};
 ghost use Rattle.blocks.specs.Passing.{KeepsStore, RefusesRead};
 ghost use Rattle.blocks.specs.Calls.{reads_of, CostsReads};
-ghost use Rattle.blocks.specs.Reads.{IsReadable, HasPlaces, IsAtHome, AreAtHome};
-ghost use Rattle.blocks.specs.Reads.{ReadsBlock, ReadsNext, ReadsBlocks, ReadsDurable, ReadsAtHome};
-ghost use Rattle.blocks.specs.Reads.{GetsNewest};
+ghost use Rattle.blocks.specs.Reads.{AreReadable, HasPlaces, IsAtHome, AreAtHome};
+ghost use Rattle.blocks.specs.Reads.{ReadsBlock, ReadsNext, ReadsBlocks, GetsNewest, told};
 
 use crate::{Store, StoreFault};
 use cache::BLOCK;
@@ -49,10 +48,7 @@ impl<M: Medium> Store<M> {
 
     // Reads `count` blocks one by one, each from where it is newest.
     fn read_each(&mut self, address: u64, count: usize, to: &mut [u8]) -> Result<(), StoreFault>
-        requires live { is_dead self.old.cached ≡ false }
-        requires inside { address + count ≤ blocks_of self.old.cached }
-        requires small { address + count ≤ 2 ^ 31 }
-        requires size { length to.old ≡ 512 * count }
+        requires { AreReadable self.old.cached address count (length to.old) }
         ensures { ReadsBlocks M.state M.follows result address count to.new self.old self.new }
     {
         let mut active = self.active.lower_bound(address);
@@ -64,7 +60,8 @@ impl<M: Medium> Store<M> {
         Ok(())
     }
 
-    // Reads one block, whose place in each batch is known, and becomes that of the next block.
+    // Reads one block from the newest batch that has it, or else its newest logged copy, or at home.
+    // Its place in each batch is known, and becomes that of the next block.
     #[inline]
     fn read_block(
         &mut self,
@@ -73,9 +70,8 @@ impl<M: Medium> Store<M> {
         frozen: &mut usize,
         to: &mut [u8],
     ) -> Result<(), StoreFault>
-        requires readable { IsReadable self.old.cached block }
+        requires readable { AreReadable self.old.cached block 1 (length to.old) }
         requires places { HasPlaces self.old.cached block active.old frozen.old }
-        requires size { length to.old ≡ 512 }
         ensures { ReadsNext M.state M.follows result block to.new active.new frozen.new
             self.old self.new }
     {
@@ -83,13 +79,13 @@ impl<M: Medium> Store<M> {
             to.copy_from_slice(bytes);
             return Ok(());
         }
+        let Some((slot, place)) = self.log.find(block) else {
+            return self.read_at_home(block, to);
+        };
         let Some(to) = to.as_mut_array() else {
             unreachable!()
         };
-        match self.read_durable(block, to) {
-            Ok(()) => Ok(()),
-            Err(_) => Err(StoreFault::ReadFault),
-        }
+        told(self.log.read_copy(&mut self.medium, slot, place, to))
     }
 
     // The bytes of a block in the newest batch that has it. Its place in each batch is known, and
@@ -121,55 +117,39 @@ impl<M: Medium> Store<M> {
 
     // Reads blocks that are at home alone.
     fn read_home(&mut self, address: u64, to: &mut [u8]) -> Result<(), StoreFault>
-        requires live { is_dead self.old.cached ≡ false }
-        requires range { IsTransfer (transfer_limit self.old.cached) (blocks_of self.old.cached)
-            address (length to.old) }
+        requires readable { AreReadable self.old.cached address (length to.old / 512)
+            (length to.old) }
         requires home { AreAtHome self.old.cached address (length to.old / 512) }
-        requires small { address + length to.old / 512 ≤ 2 ^ 31 }
         ensures { ReadsBlocks M.state M.follows result address (length to.old / 512) to.new
             self.old self.new }
     {
         for i in 0..to.len() / BLOCK {
             let at = i * BLOCK;
-            self.read_home_block(address + i as u64, &mut to[at..at + BLOCK])?;
+            self.read_at_home(address + i as u64, &mut to[at..at + BLOCK])?;
         }
         Ok(())
     }
 
     // Reads one block that is at home alone.
     #[inline]
-    fn read_home_block(&mut self, block: u64, to: &mut [u8]) -> Result<(), StoreFault>
-        requires readable { IsReadable self.old.cached block }
+    fn read_at_home(&mut self, block: u64, to: &mut [u8]) -> Result<(), StoreFault>
+        requires readable { AreReadable self.old.cached block 1 (length to.old) }
         requires home { IsAtHome self.old.cached block }
-        requires size { length to.old ≡ 512 }
         ensures { ReadsBlock M.state M.follows result block to.new self.old self.new }
     {
         let Some(to) = to.as_mut_array() else {
             unreachable!()
         };
-        match self.read_at_home(block, to) {
-            Ok(()) => Ok(()),
-            Err(_) => Err(StoreFault::ReadFault),
-        }
+        told(self.medium.read(self.sizes.home_of(block), to))
     }
+}
 
-    // Reads the newest logged copy of a block, or the block at home where there is none.
-    fn read_durable(&mut self, block: u64, to: &mut [u8; BLOCK]) -> Result<(), MediumFault>
-        requires { IsReadable self.old.cached block }
-        ensures { ReadsDurable M.state M.follows result block to.new self.old self.new }
-    {
-        match self.log.find(block) {
-            Some((slot, place)) => self.log.read_copy(&mut self.medium, slot, place, to),
-            None => self.read_at_home(block, to),
-        }
-    }
-
-    // Reads what is at home of a block.
-    #[inline]
-    fn read_at_home(&mut self, block: u64, to: &mut [u8; BLOCK]) -> Result<(), MediumFault>
-        requires { block < blocks_of self.old.cached }
-        ensures { ReadsAtHome M.state M.follows result block to.new self.old self.new }
-    {
-        self.medium.read(self.sizes.home_of(block), to)
+// How the store tells of one read of the medium.
+fn told(read: Result<(), MediumFault>) -> Result<(), StoreFault>
+    ensures { result ≡ told read }
+{
+    match read {
+        Ok(()) => Ok(()),
+        Err(_) => Err(StoreFault::ReadFault),
     }
 }

@@ -2,7 +2,8 @@
 ghost use Rattle.std.specs.Prelude.{◌≡◌, ◌<◌, ◌+◌, ◌*◌, false, OnOk};
 ghost use Rattle.medium.specs.declared.fault.MediumFault.TheVariants.{Flush};
 ghost use Rattle.spec.specs.Book.{Book, promised};
-ghost use Rattle.blocks.specs.StoreValue.{is_dead, FitsBook};
+ghost use Rattle.blocks.specs.StoreValue.{FitsBook};
+ghost use Rattle.blocks.specs.Background.{IsUnderWay};
 ghost use Rattle.blocks.specs.OneBatch.{SendsOneBatch};
 ghost use Rattle.blocks.specs.Sent.{batch_sends};
 ghost use Rattle.blocks.specs.Passing.{PassesPaid, Answers};
@@ -71,8 +72,7 @@ impl<M: Medium> Store<M> {
 
     // Makes steps until the record under way is durable.
     fn write_out(&mut self) -> Result<(), StoreFault>
-        requires live { is_dead self.old.cached ≡ false }
-        requires under_way { 0 < self.old.cached.log.steps_left }
+        requires { IsUnderWay self.old.cached }
         ensures { WritesRecord M.state M.follows result self.old self.new }
     {
         while let Progress::More = self.step()? {}

@@ -3,14 +3,13 @@ ghost use Rattle.std.specs.Prelude.{◌≡◌, ◌≤◌, ◌+◌, ◌*◌, ◌/
 ghost use Rattle.std.specs.Prelude.{is_ok};
 ghost use Rattle.blocks.specs.Book.{IsTransfer};
 ghost use Rattle.spec.specs.Book.{write_of};
-ghost use Rattle.blocks.specs.StoreValue.{blocks_of, transfer_limit, is_dead, active_of};
-ghost use Rattle.blocks.specs.StoreValue.{steps_left, FitsBeside};
+ghost use Rattle.blocks.specs.StoreValue.{blocks_of, transfer_limit, is_dead, steps_left};
 ghost use Rattle.blocks.specs.Turns.{IsWriteTurn};
 ghost use Rattle.blocks.specs.Sent.{batch_sends};
 ghost use Rattle.blocks.specs.Passing.{PassesOn, KeepsMedium, Answers};
 ghost use Rattle.blocks.specs.Prepared.{IsTakenAtOnce};
 ghost use Rattle.blocks.specs.Calls.{WritesRange, AppendsRange, CostsWrite};
-ghost use Rattle.blocks.specs.Calls.{WritesAlone, CanBegin, BeginsBatch};
+ghost use Rattle.blocks.specs.Calls.{WritesAlone, HasToTakeAlone, TakesBeside};
 
 use crate::{Store, StoreFault};
 use cache::BLOCK;
@@ -57,37 +56,19 @@ impl<M: Medium> Store<M> {
     // Makes the frozen batch durable, and lets the active one take its place: the write has a batch
     // of its own.
     fn write_alone(&mut self, address: u64, bytes: &[u8]) -> Result<(), StoreFault>
-        requires live { is_dead self.old.cached ≡ false }
-        requires range { IsTransfer (transfer_limit self.old.cached) (blocks_of self.old.cached)
-            address (length bytes.now) }
-        requires alone { ¬ FitsBeside (transfer_limit self.old.cached) (active_of self.old.cached)
-            address (length bytes.now / 512) }
+        requires { HasToTakeAlone self.old.cached address (length bytes.now) }
         ensures { WritesAlone M.state M.follows result (write_of address bytes.now)
             address (length bytes.now / 512) self.old self.new }
     {
         self.finish()?;
-        self.begin_batch(address, bytes);
-        Ok(())
-    }
-
-    // The active batch takes the place of an empty frozen one, and a write has a batch of its own.
-    fn begin_batch(&mut self, address: u64, bytes: &[u8])
-        requires free { CanBegin self.old.cached }
-        requires range { IsTransfer (transfer_limit self.old.cached) (blocks_of self.old.cached)
-            address (length bytes.now) }
-        ensures { BeginsBatch M.state (write_of address bytes.now) address
-            (length bytes.now / 512) self.old self.new }
-    {
         self.freeze();
         self.append(address, bytes);
+        Ok(())
     }
 
     // The active batch takes a write that fits.
     fn append(&mut self, address: u64, bytes: &[u8])
-        requires range { IsTransfer (transfer_limit self.old.cached) (blocks_of self.old.cached)
-            address (length bytes.now) }
-        requires fits { FitsBeside (transfer_limit self.old.cached) (active_of self.old.cached)
-            address (length bytes.now / 512) }
+        requires { TakesBeside self.old.cached address (length bytes.now) }
         ensures keeps { KeepsMedium M.state (IsWriteTurn (write_of address bytes.now) true)
             self.old self.new }
         ensures batch { AppendsRange address (length bytes.now / 512)

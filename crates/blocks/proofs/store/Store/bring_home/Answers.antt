@@ -14,14 +14,12 @@ pub returns : goal.returns
 returns g c =
     let i = c.self.inside in
     let s : Cached = record { log = i.log; active = i.active; frozen = i.frozen } in
-    let log = c.home_ahead.new.self in
     let away = rw (← c.self.view_is) at c.requires.away in
     let idle = rw (← c.self.view_is) at c.requires.idle in
-    let fewer = home_fewer s log away in
     record {
       passes = rw (← c.self.view_is) (paid_turn i.goes_ahead c.home_ahead.result c.home_ahead.ensures (λ view. (refl, refl, refl))
           (λ sent. home_stays _ _ away (sent away)) (omega (arith, few_next i.log)) (grind (arith, nat_tests))
-          (λ sent. grind (arith, nat_tests, fewer (sent away))));
-      brings = rw (← c.self.view_is) (brings_home idle.live c.home_ahead.result c.home_ahead.ensures away idle.idle);
+          (λ sent. grind (arith, nat_tests, (home_fewer s c.home_ahead.new.self away) (sent away))));
+      way = rw (← c.self.view_is) (brings_home idle.live c.home_ahead.result c.home_ahead.ensures away idle.idle);
       answer = search rules;
     }

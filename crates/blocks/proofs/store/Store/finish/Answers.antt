@@ -73,7 +73,6 @@ returns-in_err-begin g c =
     let ready = c.make_ready.ensures in
     let begins = c.begin.ensures in
     let quiet = ap (λ m. sent (g.M.Medium.state m)) begins.keeps.medium in
-    let failed = (err_from_is_err_and c.from_residual-in_err-begin.result c.from_residual-in_err-begin.ensures.1).1 in
     record {
       passes = paid_then {last = 0} g.met.M.Medium.follows_through ready.passes c.in_ok-make_ready.ensures.answer
           (kept_paid g.met.M.Medium.follows_itself begins.keeps (λ live. omega (arith, begins.begins.falls live)))
@@ -81,7 +80,7 @@ returns-in_err-begin g c =
       batch =
           let retires : RetiresForRoom c.args.self.now.goes_ahead c.args.self.now.cached.log c.begin.new.self.cached.log =
           grind (arith, begins.begins.head, ready.room.retires) in
-          rw failed (search rules);
+          rw ((err_from_is_err_and c.from_residual-in_err-begin.result c.from_residual-in_err-begin.ensures.1).1) (search rules);
       cost = search rules;
       flushes = search rules;
       one_batch = made_room g (goal.at.returns-in_err-begin g c).After-make_ready (omega (arith, quiet));

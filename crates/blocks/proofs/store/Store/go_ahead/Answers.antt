@@ -15,10 +15,9 @@ few g c none = grind (arith, c.needs_none_ahead.ensures, c.if-needs_none_ahead.f
 passes : (g : Over) (c : After-pass_head g) → PassesPaid g.M.Medium.state g.M.Medium.follows 1 c.args.self.now c.pass_head.new.self
 passes g c =
     let counts = c.count_flush.ensures in
-    let quiet = ap (λ m. sent (g.M.Medium.state m)) counts.keeps.medium in
     paid_then {first = 0} g.met.M.Medium.follows_through
     (kept_paid g.met.M.Medium.follows_itself counts.keeps (λ live. counts.counts.fewer)) (counts.life ∙ c.requires.live)
-    c.pass_head.ensures.passes (omega (arith, quiet, c.pass_head.ensures.passes.sent))
+    c.pass_head.ensures.passes (omega (arith, ap (λ m. sent (g.M.Medium.state m)) counts.keeps.medium, c.pass_head.ensures.passes.sent))
 
 -- what the head that went past makes of the log, by how many calls
 gone_past : (g : Over) (c : In_ok-pass_head g) → (HasSlots 3 c.args.self.now.cached.log → ⊥)
@@ -27,8 +26,7 @@ gone_past : (g : Over) (c : In_ok-pass_head g) → (HasSlots 3 c.args.self.now.c
     ≡ (g.M.Medium.state c.args.self.now.medium).calls + passed_calls c.args.self.now.cached.log)
     × ((g.M.Medium.state c.pass_head.new.self.medium).made Flush ≡ (g.M.Medium.state c.args.self.now.medium).made Flush)
 gone_past g c short =
-    let same = c.count_flush.ensures.keeps.medium in
-    let passing = rw same at c.pass_head.ensures.passing in
+    let passing = rw c.count_flush.ensures.keeps.medium at c.pass_head.ensures.way in
     grind (arith, nat_tests, passing, c.in_ok-pass_head.ensures.answer, c.count_flush.ensures.counts.log, short)
 
 pub returns-then-needs_none_ahead-clause-passes : goal.returns-then-needs_none_ahead-clause-passes
@@ -42,7 +40,7 @@ returns-then-needs_none_ahead-clause-going g c =
 pub returns-in_err-pass_head : goal.returns-in_err-pass_head
 returns-in_err-pass_head g c =
     let all = passes g (goal.at.returns-in_err-pass_head g c).After-pass_head in
-    let passing = rw c.count_flush.ensures.keeps.medium at c.pass_head.ensures.passing in
+    let passing = rw c.count_flush.ensures.keeps.medium at c.pass_head.ensures.way in
     record {
       passes = paid_more all (omega (arith, all.sent));
       going = grind (arith, c.in_err-pass_head.ensures.answer, c.count_flush.ensures.counts, passing);
@@ -64,7 +62,7 @@ returns-then-has_slots g c =
         past,
         c.in_ok-pass_head.ensures.answer,
         c.count_flush.ensures.counts,
-        c.pass_head.ensures.passing.stays,
+        c.pass_head.ensures.way.stays,
       );
       rests = λ none. absurd (few g (goal.at.returns-then-has_slots g c).Else-needs_none_ahead none);
     }
@@ -73,14 +71,13 @@ pub returns : goal.returns
 returns g c =
     let first = passes g (goal.at.returns g c).After-pass_head in
     let last = c.go_home.ensures in
-    let same = ap (λ (shape : Shape). limit_of shape.format) first.turn.goes_on.layout_stays in
     let past = gone_past g (goal.at.returns g c).In_ok-pass_head
     (λ slots. few g (goal.at.returns g c).Else-needs_none_ahead (inl slots)) in
     let short : HasSlots 3 c.pass_head.new.self.cached.log → ⊥ = λ (slots : HasSlots 3 c.pass_head.new.self.cached.log).
     grind (arith, c.has_slots.ensures, c.if-has_slots.false, c.self.view_is) in
     record {
       passes = paid_then g.met.M.Medium.follows_through first c.in_ok-pass_head.ensures.answer last.passes
-          (omega (arith, first.sent, last.passes.sent, same));
-      going = grind (arith, nat_tests, short, past, last.going, c.count_flush.ensures.counts, c.pass_head.ensures.passing.stays);
+          (omega (arith, first.sent, last.passes.sent, ap (λ (shape : Shape). limit_of shape.format) first.turn.goes_on.layout_stays));
+      going = grind (arith, nat_tests, short, past, last.going, c.count_flush.ensures.counts, c.pass_head.ensures.way.stays);
       rests = λ none. absurd (few g (goal.at.returns g c).Else-needs_none_ahead none);
     }

@@ -15,7 +15,7 @@ loop-self-init g c = search (rules, arith, rested_paid, g.met.M.Medium.follows_i
 pub loop-self-preserved : goal.loop-self-preserved
 loop-self-preserved g c =
     let so_far = c.loop-self.invariant in
-    let brings = c.bring_home.ensures.brings in
+    let brings = c.bring_home.ensures.way in
     let live = c.in_ok-bring_home.ensures.answer in
     record {
       passes = λ sends few.
@@ -32,13 +32,12 @@ pub returns-in_err-bring_home : goal.returns-in_err-bring_home
 returns-in_err-bring_home g c =
     let so_far = c.loop-self.invariant in
     let first = so_far.passes (sent (g.M.Medium.state c.loop-self.self.medium)) (omega arith) in
-    let brings = c.bring_home.ensures.brings in
-    let head = home_stays_head so_far.home in
+    let brings = c.bring_home.ensures.way in
     record {
       passes = paid_then g.met.M.Medium.follows_through first so_far.live c.bring_home.ensures.passes
           (few_home so_far.home (away g (goal.at.returns-in_err-bring_home g c).After-bring_home) brings.sent
           (rw (← c.self.view_is) c.has_room-few.ensures.few));
-      going = grind (arith, c.in_err-bring_home.ensures.answer, brings, head, so_far.stays, so_far.flushed);
+      going = grind (arith, c.in_err-bring_home.ensures.answer, brings, home_stays_head so_far.home, so_far.stays, so_far.flushed);
     }
 
 pub returns : goal.returns

@@ -5,10 +5,9 @@ use Rattle.blocks.proofs.store.Store.go_on.Goals as goal
 pub returns-then-may_begin : goal.returns-then-may_begin
 returns-then-may_begin g c =
     let may = c.may_begin.ensures.begins.0 c.if-may_begin.true in
-    let begins = c.begin_next.ensures.beginning in
     record {
       passes = kept_on g.met.M.Medium.follows_itself c.begin_next.ensures.keeps;
-      order = grind (arith, may, c.requires.live, begins);
+      order = grind (arith, may, c.requires.live, c.begin_next.ensures.beginning);
       left = search rules;
       active = search rules;
     }

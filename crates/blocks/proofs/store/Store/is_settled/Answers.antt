@@ -11,7 +11,6 @@ returns-then-is_empty-clause-settled g c is =
     let idle = kept.rests live c.if-self.false in
     let under_way = kept.none_under_way live idle in
     let owed = owes_none s.log c.is_retired.ensures.owes under_way (c.is_retired.ensures.none.0 c.if-not-is_retired.false) in
-    let none = none_left s idle owed (c.is_empty.ensures.0 c.if-is_empty.true) (c.is_empty-then-is_empty.ensures.0 is) in
     rw (← c.self.view_is)
     (settled (g.M.Medium.state c.self.inside.medium) (g.met.M.Medium.sound c.self.inside.medium) s c.is_retired.ensures.owes
-    under_way live none)
+    under_way live (none_left s idle owed (c.is_empty.ensures.0 c.if-is_empty.true) (c.is_empty-then-is_empty.ensures.0 is)))

@@ -10,11 +10,10 @@ returns-then-has_room g c =
     let room : HasRoom old.cached.log = rw (← c.self.view_is) (c.has_room.ensures.room.0 c.if-has_room.true) in
     let going = c.go_ahead.ensures.going in
     let free = free_is old.cached.log room.free in
-    let still = still_room old.cached.log room in
     record {
       passes = paid_more c.go_ahead.ensures.passes (omega (arith, c.go_ahead.ensures.passes.sent));
       answer = going.answer;
-      room = rw ahead (grind (arith, going, c.go_ahead.ensures.rests, still, free));
+      room = rw ahead (grind (arith, going, c.go_ahead.ensures.rests, still_room old.cached.log room, free));
       cost = rw ahead (grind (arith, going.answer, going.calls, free));
       flushed = grind (arith, going.answer, going.flushed, free);
       blocks = λ on. rw (← c.self.view_is) c.has_room.ensures.owes.blocks;

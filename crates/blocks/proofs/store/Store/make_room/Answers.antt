@@ -1,12 +1,11 @@
-use Rattle.std.proofs.Common.{◌+◌, ◌≤◌, ◌<◌, ℕ, length, refl, ◌∙◌, ap, sym, inl, arith, rules}
+use Rattle.std.proofs.Common.{◌≤◌, ◌<◌, ℕ, length, ◌∙◌, ap, sym, arith, rules}
 use Rattle.std.proofs.lemmas.Bool.{false≢true}
-use Rattle.medium.specs.{Sent.sent, Sent.SendsUpTo, declared.fault.MediumFault.TheVariants.Flush}
+use Rattle.medium.specs.Sent.{sent, SendsUpTo}
 use Rattle.journal.specs.Places.{Shape}
-use Rattle.redo_log.specs.Value.{HasRoom, of_oldest, sends_of_oldest, most_retire_sends, turn_calls, turn_sends, turn_flushes}
+use Rattle.redo_log.specs.Value.{HasRoom, sends_of_oldest, most_retire_sends}
 use Rattle.blocks.specs.{StoreValue.steps_left, Passing.PassesPaid}
-use Rattle.blocks.proofs.{Room.IsFull, Room.none_counted, Room.one_at_most, Room.counts_more, Room.counts_room, Room.room_is_made}
-use Rattle.blocks.proofs.{Room.at_most_refused, Room.more_calls, Room.more_sends, Room.more_flushes, Room.next_few, TurnsJoined.paid_then}
-use Rattle.blocks.proofs.{TurnsJoined.on_paid, TurnsJoined.rested_paid, store.Store.make_room.Given.Over}
+use Rattle.blocks.proofs.Room.{IsFull, retires_none, retires_more, retires_refused, retires_room}
+use Rattle.blocks.proofs.{TurnsJoined.paid_then, TurnsJoined.on_paid, TurnsJoined.rested_paid, store.Store.make_room.Given.Over}
 use Rattle.blocks.proofs.store.Store.make_room.Goals.{After-retire}
 use Rattle.blocks.proofs.store.Store.make_room.Goals as goal
 
@@ -29,28 +28,20 @@ is_full : (g : Over) (c : After-retire g) → IsFull c.args.self.now.cached.log 
 is_full g c =
     let live = rw (← c.self-in-loop-self.view_is) at c.loop-self.invariant.live in
     let idle = rw (← c.self-in-loop-self.view_is) at c.loop-self.invariant.idle in
-    let under_way = c.self-in-loop-self.invariant.none_under_way live idle in
     record {
       full = λ room. false≢true (sym c.loop-self-test.true ∙ c.has_room.ensures.room.1 (rw (← c.self-in-loop-self.view_is) at room));
-      under_way = rw (← c.self-in-loop-self.view_is) under_way;
+      under_way = rw (← c.self-in-loop-self.view_is) (c.self-in-loop-self.invariant.none_under_way live idle);
       idle = c.loop-self.invariant.idle;
-      one = c.loop-self.invariant.one;
+      ring = rw (← c.self.view_is) c.self.invariant.ring;
+      slots = rw (← c.self.view_is) (omega (arith, ap (λ (s : Shape). s.slots) c.self.invariant.shape, c.self.inside.sizes.some_slots));
     }
 
+-- the log had no room
+was_full : (g : Over) (c : After-retire g) → HasRoom c.args.self.now.cached.log → ⊥
+was_full g c room = let same = ap (λ v. v.cached.log) (c.loop-self.invariant.stays room) in (is_full g c).full (rw same room)
+
 pub loop-self-init : goal.loop-self-init
-loop-self-init g c = record {
-  passes = λ sends few. rested_paid g.met.M.Medium.follows_itself g.met.M.Medium.sound;
-  live = c.requires.live;
-  stays = λ room. refl;
-  quiet = λ room. refl;
-  one = inl refl;
-  costs = none_counted;
-  sends = record { made = 0; counts = none_counted; few = omega arith };
-  flushes = none_counted;
-  idle = c.requires.idle;
-  active = refl;
-  frozen = refl;
-}
+loop-self-init g c = search (rules, arith, rested_paid, g.met.M.Medium.follows_itself, g.met.M.Medium.sound, retires_none)
 
 pub loop-self-smaller : goal.loop-self-smaller
 loop-self-smaller g c =
@@ -59,37 +50,18 @@ loop-self-smaller g c =
 pub loop-self-preserved : goal.loop-self-preserved
 loop-self-preserved g c =
     let at = (goal.at.loop-self-preserved g c).After-retire in
-    let old = c.args.self.now.cached.log in
-    let here = c.self-in-loop-self.inside in
-    let full = is_full g at in
     let live = c.in_ok-retire.ensures.answer in
     let retiring = c.retire.ensures.retiring in
     let stepped = (retiring.live (must_step g at).0 live).1 in
-    let log_is = ap (λ v. v.cached.log) c.self-in-loop-self.view_is in
-    let slots = ap (λ (s : Shape). s.slots) c.self-in-loop-self.invariant.shape in
-    let kept : (c.loop-self.self.cached.log.next ≤ c.loop-self.self.cached.log.head + c.loop-self.self.cached.log.shape.slots)
-    × (1 ≤ c.loop-self.self.cached.log.shape.slots) =
-    grind (arith, log_is, c.self-in-loop-self.invariant.ring, slots, here.sizes.some_slots) in
     record {
       passes = λ sends few. step_passes g at few;
-      stays = λ room. absurd (full.full (rw (c.loop-self.invariant.stays room) room));
-      quiet = λ room. absurd (full.full (rw (c.loop-self.invariant.stays room) room));
-      one = one_at_most full kept.0 kept.1 stepped;
-      costs = counts_more turn_calls refl more_calls full stepped (retiring.counted live) c.loop-self.invariant.costs;
-      sends =
-          let so_far = c.loop-self.invariant.sends in
-          let each = turn_sends (of_oldest c.loop-self.self.cached.log) in
-          record {
-            made = so_far.made + each;
-            counts = counts_more turn_sends refl more_sends full stepped refl so_far.counts;
-            few = omega (arith, retiring.sent, so_far.few);
-          };
-      flushes = counts_more turn_flushes refl more_flushes full stepped (retiring.flushed live)
-          c.loop-self.invariant.flushes;
-      live = c.in_ok-retire.ensures.answer;
+      stays = λ room. absurd (was_full g at room);
+      retires = retires_more (is_full g at) c.loop-self.invariant.retires stepped (retiring.counted live) retiring.sent
+          (retiring.flushed live);
+      live = live;
       idle = c.retire.ensures.counts.idle;
-      active = c.retire.ensures.retiring.active ∙ c.loop-self.invariant.active;
-      frozen = c.retire.ensures.retiring.frozen ∙ c.loop-self.invariant.frozen;
+      active = retiring.active ∙ c.loop-self.invariant.active;
+      frozen = retiring.frozen ∙ c.loop-self.invariant.frozen;
     }
 
 pub returns-in_err-retire : goal.returns-in_err-retire
@@ -97,15 +69,15 @@ returns-in_err-retire g c = record {
   passes =
       let at = (goal.at.returns-in_err-retire g c).After-retire in
       let old = c.args.self.now.cached.log in
-      let all = at_most_refused turn_sends next_few (is_full g at) c.retire.ensures.retiring.sent c.loop-self.invariant.sends in
       let few : sends_of_oldest old ≤ most_retire_sends old.shape.format = rw (← c.self.view_is) c.has_room-few.ensures.few in
+      let after = g.M.Medium.state c.retire.new.self.medium in
+      let all = retires_refused (is_full g at) c.loop-self.invariant.retires after c.retire.ensures.retiring.sent in
       step_passes g at (omega (arith, all, few));
   answer = search rules;
   room =
       let died = c.retire.ensures.retiring.dies c.in_err-retire.ensures.answer.1 in
-      let full = is_full g (goal.at.returns-in_err-retire g c).After-retire in
-      let room : HasRoom c.args.self.now.cached.log → ⊥ = λ room. full.full (rw (c.loop-self.invariant.stays room) room) in
-      grind (arith, died.is, c.loop-self.invariant, c.retire.ensures.retiring, room);
+      let room = was_full g (goal.at.returns-in_err-retire g c).After-retire in
+      grind (arith, died.is, c.loop-self.invariant, c.loop-self.invariant.retires.so_far, c.retire.ensures.retiring, room);
   cost = search rules;
   flushed = search rules;
   blocks = λ on. absurd (false≢true on);
@@ -116,22 +88,22 @@ returns g c =
     let room : HasRoom c.loop-self.self.cached.log =
     rw (← c.self-in-loop-self.view_is) (c.has_room.ensures.room.0 c.loop-self-test.false) in
     let so_far = c.loop-self.invariant in
+    let old = c.args.self.now.cached.log in
+    let few : sends_of_oldest old ≤ most_retire_sends old.shape.format = rw (← c.self.view_is) c.has_room-few.ensures.few in
+    let all = retires_room (λ had. let same = so_far.stays had in (ap (λ v. v.cached.log) same, ap (λ v. g.M.Medium.state v.medium) same))
+    room so_far.retires in
     record {
-      passes =
-          let old = c.args.self.now.cached.log in
-          let few : sends_of_oldest old ≤ most_retire_sends old.shape.format = rw (← c.self.view_is) c.has_room-few.ensures.few in
-          so_far.passes _ (grind (arith, so_far.sends, so_far.sends.counts.so_far, few));
+      passes = so_far.passes _ (grind (arith, so_far.retires.so_far, few));
       answer = search rules;
       room = record {
-        retires = grind (arith, so_far.one, so_far.stays);
+        retires = grind (arith, so_far.retires.so_far, so_far.stays);
         room = room;
-        made = room_is_made so_far.stays room so_far.costs;
-        quiet = so_far.quiet;
+        made = all.0;
+        quiet = λ had. ap (λ v. v.medium) (so_far.stays had);
         active = so_far.active;
         frozen = so_far.frozen;
       };
-      cost = counts_room so_far.stays (λ had. ap (λ m. (g.M.Medium.state m).calls) (so_far.quiet had)) room so_far.costs;
-      flushed = counts_room so_far.stays (λ had. ap (λ m. (g.M.Medium.state m).made Flush) (so_far.quiet had)) room
-          so_far.flushes;
+      cost = all.1;
+      flushed = all.2;
       blocks = λ on. absurd (false≢true on);
     }

@@ -1,8 +1,8 @@
 use Rattle.std.proofs.Common.{◌≡◌, ℕ, false}
-use Rattle.medium.specs.{Sent.sent, Sent.SendsUpTo, declared.fault.MediumFault.TheVariants.Flush}
+use Rattle.medium.specs.Sent.{SendsUpTo}
 use Rattle.blocks.specs.{Passing.PassesPaid, StoreValue.is_dead, StoreValue.steps_left}
-use Rattle.redo_log.specs.Value.{HasRoom, turns_calls, turns_sends, turns_flushes}
-use Rattle.blocks.proofs.Room.{OneAtMost, CountsOldest, AtMostOldest}
+use Rattle.redo_log.specs.Value.{HasRoom}
+use Rattle.blocks.proofs.Room.{Retires}
 use Rattle.blocks.proofs.store.Store.make_room.Given as goal
 
 abbrev pub invariant-loop-self : goal.invariant-loop-self
@@ -10,15 +10,8 @@ invariant-loop-self g l = record {
   passes : (sends : ℕ) → SendsUpTo sends (g.M.Medium.state l.fn.self.medium) (g.M.Medium.state l.self.medium)
       → PassesPaid g.M.Medium.state g.M.Medium.follows sends l.fn.self l.self;
   live : is_dead l.self.cached ≡ false;
-  stays : HasRoom l.fn.self.cached.log → l.self.cached.log ≡ l.fn.self.cached.log;
-  quiet : HasRoom l.fn.self.cached.log → l.self.medium ≡ l.fn.self.medium;
-  one : OneAtMost l.fn.self.cached.log l.self.cached.log;
-  costs : CountsOldest turns_calls l.fn.self.cached.log l.self.cached.log (g.M.Medium.state l.fn.self.medium).calls
-      (g.M.Medium.state l.self.medium).calls;
-  sends : AtMostOldest turns_sends l.fn.self.cached.log l.self.cached.log (sent (g.M.Medium.state l.fn.self.medium))
-      (sent (g.M.Medium.state l.self.medium));
-  flushes : CountsOldest turns_flushes l.fn.self.cached.log l.self.cached.log ((g.M.Medium.state l.fn.self.medium).made Flush)
-      ((g.M.Medium.state l.self.medium).made Flush);
+  stays : HasRoom l.fn.self.cached.log → l.self ≡ l.fn.self;
+  retires : Retires l.fn.self.cached.log l.self.cached.log (g.M.Medium.state l.fn.self.medium) (g.M.Medium.state l.self.medium);
   idle : l.self.cached.log.steps_left ≡ 0;
   active : l.self.cached.active ≡ l.fn.self.cached.active;
   frozen : l.self.cached.frozen ≡ l.fn.self.cached.frozen;

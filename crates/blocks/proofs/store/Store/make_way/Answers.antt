@@ -22,11 +22,10 @@ returns-then-may_go g c =
     let is = counted_store c.count_flush.ensures in
     let may = rw is at (c.may_go.ensures.0 c.if-may_go.true) in
     let goes = rw is at c.step_ahead.ensures.goes in
-    let counts = rw is at c.count_flush.ensures.counts in
     record {
       passes = kept_then c.count_flush.ensures.keeps c.step_ahead.ensures.passes;
       way = rw on (record { goes = λ some. goes; retires = λ none. absurd (none may) });
-      falls = λ live. let fewer = go_falls _ _ _ _ goes may live in omega (arith, fewer, counts.fewer);
+      falls = λ live. let fewer = go_falls _ _ _ _ goes may live in omega (arith, fewer, (rw is at c.count_flush.ensures.counts).fewer);
       active = goes.active;
     }
 
@@ -42,15 +41,13 @@ returns g c =
     let log = c.count_flush.new.self.cached.log in
     let no : ¬ (CanPass log ⊎ IsAway log) = λ may. false≢true (sym c.if-may_go.false ∙ c.may_go.ensures.1 may) in
     let is = counted_store c.count_flush.ensures in
-    let none = rw is at no in
     let retiring = rw is at c.retire-2.ensures.retiring in
     let same = ap (λ (l : LogValue). length l.waiting) c.count_flush.ensures.counts.log in
     record {
       passes = kept_then c.count_flush.ensures.keeps c.retire-2.ensures.passes;
-      way = rw on (record { goes = λ some. absurd (none some); retires = λ not. retiring });
+      way = rw on (record { goes = λ some. absurd ((rw is at no) some); retires = λ not. retiring });
       falls = λ live.
           let waits : 0 < length log.waiting = grind (arith, nat_tests, c.requires.waits, same) in
-          let fewer = c.retire-2.ensures.counts.falls waits live in
-          omega (arith, fewer, c.count_flush.ensures.counts.fewer);
+          omega (arith, c.retire-2.ensures.counts.falls waits live, c.count_flush.ensures.counts.fewer);
       active = retiring.active;
     }

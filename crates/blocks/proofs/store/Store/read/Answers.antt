@@ -1,24 +1,30 @@
-use Rattle.std.proofs.Common.{◌≤◌, ◌+◌, ◌/◌, ◌^◌, length, ap, refl, arith, rules}
+use Rattle.std.proofs.Common.{◌/◌, length, ap, refl, arith, rules}
 use Rattle.journal.specs.Places.{Shape}
 use Rattle.medium.proofs.Moments.{quiet_start}
+use Rattle.blocks.specs.Reads.{AreReadable}
 use Rattle.blocks.proofs.{TurnsJoined.quiet_turn, SectorsRead.none_read, store.Store.read.Given.Over, store.Store.read.Goals.Else-is_dead}
 use Rattle.blocks.proofs.store.Store.read.Goals as goal
 
--- the number of a block is small
-small : (g : Over) (c : Else-is_dead g) → c.args.address + length c.args.to.now / 512 ≤ 2 ^ 31
-small g c =
-    let blocks = ap (λ (s : Shape). s.blocks) c.self.invariant.shape in
+-- the blocks can be read
+readable : (g : Over) (c : Else-is_dead g)
+    → AreReadable c.args.self.now.cached c.args.address (length c.args.to.now / 512) (length c.args.to.now)
+readable g c =
     let same = ap (λ v. v.cached.log.shape.blocks) c.self.view_is in
-    omega (arith, blocks, same, c.self.inside.sizes.most_blocks, c.requires.inside)
+    record {
+      live = search rules;
+      inside = c.requires.inside;
+      small = omega (arith, ap (λ (s : Shape). s.blocks) c.self.invariant.shape, same, c.self.inside.sizes.most_blocks, c.requires.inside);
+      size = omega (arith, c.requires.whole);
+    }
 
 pub are_at_home-requires : goal.are_at_home-requires
-are_at_home-requires g c = small g (goal.at.are_at_home-requires g c).Else-is_dead
+are_at_home-requires g c = (readable g (goal.at.are_at_home-requires g c).Else-is_dead).small
 
-pub read_home-requires-clause-small : goal.read_home-requires-clause-small
-read_home-requires-clause-small g c = small g (goal.at.read_home-requires-clause-small g c).Else-is_dead
+pub read_home-requires-clause-readable : goal.read_home-requires-clause-readable
+read_home-requires-clause-readable g c = readable g (goal.at.read_home-requires-clause-readable g c).Else-is_dead
 
-pub read_each-requires-clause-small : goal.read_each-requires-clause-small
-read_each-requires-clause-small g c = small g (goal.at.read_each-requires-clause-small g c).Else-is_dead
+pub read_each-requires : goal.read_each-requires
+read_each-requires g c = readable g (goal.at.read_each-requires g c).Else-is_dead
 
 pub returns-then-is_dead-clause-turn : goal.returns-then-is_dead-clause-turn
 returns-then-is_dead-clause-turn g c =

@@ -1,47 +1,39 @@
 use Rattle.std.proofs.Common.{◌∙◌, refl, arith, rules}
-use Rattle.blocks.proofs.{ReadCalls.durable_is, ReadCalls.newest_is, ReadCalls.reads_newest, ReadCalls.reads_copy, SectorsRead.none_read}
+use Rattle.blocks.proofs.ReadCalls.{copy_keeps, newest_is, reads_newest, reads_one}
+use Rattle.blocks.proofs.SectorsRead.{none_read}
 use Rattle.blocks.proofs.store.Store.read_block.Goals as goal
 
-pub returns-in-Ok : goal.returns-in-Ok
-returns-in-Ok g c =
-    let s = c.args.self.now.cached in
-    let none = c.in_default.ensures.gets.none refl in
-    let one = reads_copy s c.args.block none.0 none.1 in
-    record {
-      reads = record {
-        ok = λ book fits.
-            c.in-Ok.ensures.ok book fits
-            ∙ durable_is (g.M.Medium.state c.args.self.now.medium) s book fits c.args.block c.requires.readable.inside none.0 none.1;
-        err = search rules;
-        keeps = c.read_durable.ensures.keeps;
-        cost = grind (arith, c.read_durable.ensures.cost, c.in-Ok.ensures.cost, one);
-      };
-      next = c.in_default.ensures.next;
-    }
-
+-- a batch has it
 pub returns-in-Some : goal.returns-in-Some
 returns-in-Some g c =
     let s = c.args.self.now.cached in
+    let m = g.M.Medium.state c.args.self.now.medium in
     let held = c.in-Some.ensures.gets.some in
     let none = reads_newest s c.args.block c.in-Some.bytes.now held in
+    let newest = newest_is m s c.args.block c.in-Some.bytes.now (omega (arith, c.requires.readable.inside)) held in
+    let looks = none_read m m s c.args.block 1 refl in
     record {
       reads = record {
-        ok = λ book fits.
-            c.copy_from_slice.ensures.after
-            ∙ newest_is (g.M.Medium.state c.args.self.now.medium) s book fits c.args.block c.in-Some.bytes.now c.requires.readable.inside
-            held;
+        ok = λ book fits. c.copy_from_slice.ensures.after ∙ newest book fits;
         err = search rules;
-        keeps =
-            let m = g.M.Medium.state c.args.self.now.medium in
-            let looks = none_read m m s c.args.block 1 refl in
-            search rules;
+        keeps = search rules;
         cost = search (rules, arith, none);
       };
       next = c.in-Some.ensures.next;
     }
 
-pub returns-in-Err : goal.returns-in-Err
-returns-in-Err g c =
-    let s = c.args.self.now.cached in
-    let none = c.in_default.ensures.gets.none refl in
-    search (rules, arith, c.read_durable.ensures, reads_copy s c.args.block none.0 none.1)
+-- its copy in the log is read, or that is refused
+pub returns : goal.returns
+returns g c =
+    let readable = rw (← c.self.view_is) at c.requires.readable in
+    let none = rw (← c.self.view_is) at (c.in_default.ensures.gets.none refl) in
+    let copy = c.read_copy.ensures in
+    record {
+      reads = rw (← c.self.view_is, c.told.ensures) (reads_one c.read_copy.result copy.passes (omega (arith, readable.inside)) none
+          (copy_keeps copy.keeps) (λ book fits. copy.ok fits.view c.args.block fits.holds (search rules)));
+      next = c.in_default.ensures.next;
+    }
+
+pub read_at_home-requires-clause-home : goal.read_at_home-requires-clause-home
+read_at_home-requires-clause-home g c =
+    record { none = c.in_default.ensures.gets.none refl; log = rw (← c.self.view_is) c.in_default-find.ensures }

@@ -1,33 +1,37 @@
-use Rattle.std.proofs.Common.{◌≡◌, ◌*◌, ◌/◌, ◌-◌, ◌+◌, length, ◌≤◌, sym, subst, arith, rules}
-use Rattle.blocks.specs.{Reads.IsAtHome, StoreValue.Cached}
+use Rattle.std.proofs.Common.{◌≡◌, ◌*◌, ◌/◌, ◌-◌, ◌+◌, length, ◌≤◌, ◌<◌, ℕ, List, [], ap, arith, rules}
+use Rattle.cache.specs.Entries.{Entries}
+use Rattle.redo_log.specs.Value.{LogValue, HasNoCopy}
 use Rattle.blocks.proofs.ReadCalls.{none_at, keeps_turn, all_read, keeps_more, calls_more, block_more}
 use Rattle.blocks.proofs.store.Store.read_home.Goals as goal
 
-pub read_home_block-requires-clause-home : goal.read_home_block-requires-clause-home
-read_home_block-requires-clause-home g c =
+-- no record that waits has a copy where none waits
+no_copy : (log : LogValue) (b : ℕ) → log.waiting ≡ [] → HasNoCopy log b
+no_copy log b empty age waits = let none = ap (λ (w : List (List ℕ)). length w) empty in absurd (omega (arith, waits, none))
+
+pub read_at_home-requires-clause-home : goal.read_at_home-requires-clause-home
+read_at_home-requires-clause-home g c =
     let s = c.args.self.now.cached in
-    let count = length c.args.to.now / 512 in
-    let home = c.requires.home in
-    subst (λ (s : Cached). IsAtHome s (c.args.address + c.loop-i.i)) (sym c.loop-i.invariant.keeps.stays) (record {
-      active = none_at s.active c.args.address count c.loop-i.i home.active (omega (arith, c.loop-i-test.true));
-      frozen = none_at s.frozen c.args.address count c.loop-i.i home.frozen (omega (arith, c.loop-i-test.true));
-      log = home.log;
+    let none = λ (batch : Entries). none_at batch c.args.address (length c.args.to.now / 512) c.loop-i.i in
+    let below : c.loop-i.i < length c.args.to.now / 512 = omega (arith, c.loop-i-test.true) in
+    rw c.loop-i.invariant.keeps.stays (record {
+      none = (none s.active c.requires.home.active below, none s.frozen c.requires.home.frozen below);
+      log = no_copy s.log (c.args.address + c.loop-i.i) c.requires.home.log;
     })
 
 pub loop-i-preserved : goal.loop-i-preserved
 loop-i-preserved g c =
     block_more c.loop-i.invariant g.met.M.Medium.sound g.met.M.Medium.follows_through (c.loop-i.i * 512)
     (c.loop-i.i * 512 + 512 - c.loop-i.i * 512) (omega arith) (omega arith) (omega (arith, c.loop-i-test.true, c.loop-i.auto.to))
-    c.read_home_block.auto.to c.in_ok-read_home_block.ensures
+    c.read_at_home.auto.to c.in_ok-read_at_home.ensures
 
-pub returns-in_err-read_home_block : goal.returns-in_err-read_home_block
-returns-in_err-read_home_block g c =
+pub returns-in_err-read_at_home : goal.returns-in_err-read_at_home
+returns-in_err-read_at_home g c =
     let read = c.loop-i.invariant in
-    let one = c.read_home_block.ensures in
+    let one = c.read_at_home.ensures in
     let more : c.loop-i.i + 1 ≤ length c.args.to.now / 512 = omega (arith, c.loop-i-test.true) in
     let keeps = keeps_more read g.met.M.Medium.follows_through more one.keeps in
     let turn = keeps_turn g.met.M.Medium.sound keeps in
-    let reads = calls_more read c.read_home_block.new.self more one.cost.reads in
+    let reads = calls_more read c.read_at_home.new.self more one.cost.reads in
     search (rules, arith, read, one)
 
 pub returns : goal.returns
@@ -35,4 +39,4 @@ returns g c =
     let all : c.loop-i.i ≡ length c.args.to.now / 512 = omega arith in
     let read = rw all at c.loop-i.invariant in
     let turn = keeps_turn g.met.M.Medium.sound read.keeps in
-    search (rules, arith, read, all_read read (omega (arith, c.loop-i.auto.to, all, c.requires.range.whole)))
+    search (rules, arith, read, all_read read (omega (arith, c.loop-i.auto.to, all, c.requires.readable.size)))

@@ -5,11 +5,10 @@ use Rattle.blocks.proofs.store.Store.step_ahead.Goals as goal
 
 pub returns : goal.returns
 returns g c =
-    let can = c.can_pass.ensures in
     let away = c.is_away.ensures in
     record {
       passes = rested_on g.met.M.Medium.follows_itself g.met.M.Medium.sound;
-      goes = grind (arith, c.self.view_is, can, away, c.requires.live, unchanged (g.M.Medium.state c.args.self.now.medium));
+      goes = grind (arith, c.self.view_is, c.can_pass.ensures, away, c.requires.live, unchanged (g.M.Medium.state c.args.self.now.medium));
       left = omega arith;
       rests = λ none. refl;
       answer = c.requires.live;

@@ -61,9 +61,8 @@ returns-clause-batches g c =
     record {
       active = search rules;
       rests = λ none.
-          let no_frozen = none_of old.frozen.numbers (omega (arith, none)) in
           let no_active = none_of old.active.numbers (omega (arith, none)) in
-          ap (λ v. v.medium) (last.rests no_active) ∙ ap (λ v. v.medium) (first.rests no_frozen);
+          ap (λ v. v.medium) (last.rests no_active) ∙ ap (λ v. v.medium) (first.rests (none_of old.frozen.numbers (omega (arith, none))));
       waits = search rules;
       finishes = finishes;
       retires = search rules;

@@ -21,13 +21,12 @@ returns g c =
     let on : old.goes_ahead ≡ true = rw (← c.self.view_is) c.if-not-self.false in
     let idle : old.cached.log.steps_left ≡ 0 =
     rw (← c.self.view_is) (c.self.invariant.rests (rw (← c.self.view_is) at live) c.if-self.false) in
-    let counts = c.count_flush.ensures.counts in
     let is = counted_store c.count_flush.ensures in
     let goes = rw is at c.step_ahead.ensures.goes in
     let step = c.step_ahead.ensures in
     record {
       passes = kept_then c.count_flush.ensures.keeps step.passes;
       order = grind (arith, live, on, goes);
-      steps = grind (arith, live, on, step.left, step.rests, counts.fewer, is, none_counted old.cached);
+      steps = grind (arith, live, on, step.left, step.rests, c.count_flush.ensures.counts.fewer, is, none_counted old.cached);
       active = inl (ap (λ batch. batch.numbers) goes.active);
     }

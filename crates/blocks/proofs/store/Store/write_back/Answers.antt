@@ -9,11 +9,10 @@ use Rattle.blocks.proofs.store.Store.write_back.Goals as goal
 
 pub returns-then-is_written : goal.returns-then-is_written
 returns-then-is_written g c =
-    let same = unchanged (g.M.Medium.state c.args.self.now.medium) in
     let written = c.is_written.ensures.0 c.if-is_written.true in
     record {
       passes = rested_on g.met.M.Medium.follows_itself g.met.M.Medium.sound;
-      order = grind (arith, same, written);
+      order = grind (arith, unchanged (g.M.Medium.state c.args.self.now.medium), written);
       steps = record { left = λ live. inl written; rests = λ none. refl; dead = λ dead. refl };
       active = inl refl;
     }
@@ -41,12 +40,11 @@ pub returns-then-self : goal.returns-then-self
 returns-then-self g c =
     let open_ = left g (goal.at.returns-then-self g c).Else-is_written in
     let lives = live g (goal.at.returns-then-self g c).Else-is_written in
-    let some = begun g (goal.at.returns-then-self g c).Then-self lives in
     let steps = steps_to_write c.args.self.now.cached open_ in
     let made = c.step.ensures in
     record {
       passes = grind (arith, made.passes);
-      order = grind (arith, open_, some, made.record_step);
+      order = grind (arith, open_, begun g (goal.at.returns-then-self g c).Then-self lives, made.record_step);
       steps = grind (arith, open_, lives, steps, made.writes.falls);
       active = inl (ap (λ batch. batch.numbers) made.writes.active);
     }
@@ -61,14 +59,12 @@ begin_next-requires g c = record {
 pub returns-then-may_write : goal.returns-then-may_write
 returns-then-may_write g c =
     let open_ = left g (goal.at.returns-then-may_write g c).Else-is_written in
-    let lives = live g (goal.at.returns-then-may_write g c).Else-is_written in
-    let may = c.may_write.ensures.begins.0 c.if-may_write.true in
     let steps = steps_to_write c.args.self.now.cached open_ in
     let made = c.begin_next.ensures in
     record {
       passes = kept_on g.met.M.Medium.follows_itself made.keeps;
-      order = grind (arith, open_, may, made.beginning);
-      steps = grind (arith, open_, lives, steps, made.falls);
+      order = grind (arith, open_, c.may_write.ensures.begins.0 c.if-may_write.true, made.beginning);
+      steps = grind (arith, open_, live g (goal.at.returns-then-may_write g c).Else-is_written, steps, made.falls);
       active = made.active;
     }
 
@@ -82,14 +78,13 @@ pub returns : goal.returns
 returns g c =
     let open_ = left g (goal.at.returns g c).Else-is_written in
     let lives = live g (goal.at.returns g c).Else-is_written in
-    let none = idle g (goal.at.returns g c).Else-self lives in
     let steps = steps_to_write c.args.self.now.cached open_ in
     let no : ¬ MayWrite c.args.self.now.goes_ahead c.args.self.now.cached.log =
     λ may. false≢true (sym c.if-may_write.false ∙ c.may_write.ensures.begins.1 may) in
     let made = c.make_way.ensures in
     record {
       passes = made.passes;
-      order = grind (arith, open_, none, no, made.way);
+      order = grind (arith, open_, idle g (goal.at.returns g c).Else-self lives, no, made.way);
       steps = grind (arith, open_, lives, steps, made.falls);
       active = inl (ap (λ batch. batch.numbers) made.active);
     }
