@@ -1,7 +1,6 @@
 -- How many blocks a transfer has at most, and how many steps are left at most.
 use Rattle.std.proofs.Common.{◌≡◌, ◌≤◌, ℕ, ◌+◌, ◌*◌, ap, arith, rules, Bool}
 use Rattle.journal.specs.{Places.Shape, Places.limit_of, declared.log_format.LogFormat.LogFormat, declared.super_sector.Super.Super}
-use Rattle.journal.specs.declared.log_format.LogFormat.TheVariants.{One, Two}
 use Rattle.blocks.specs.StoreValue.{Cached, layout_of, blocks_of, slots_of, transfer_limit, batch_steps, steps_for, waiting, HasLimits}
 use Rattle.blocks.specs.Kept.{Invariant}
 use Rattle.redo_log.specs.Value.{most_steps, most_retire_steps}
@@ -17,8 +16,7 @@ limit_most format = grind arith
 few : (format : LogFormat) (slots steps left frozen active : ℕ) → steps ≤ most_steps format → left ≤ most_retire_steps format * slots
     → frozen ≤ most_steps format + most_retire_steps format + 10 → active ≤ most_steps format + most_retire_steps format + 10
     → steps + left + frozen + active ≤ (slots + 4) * (2 * limit_of format + 16)
-few One slots steps left frozen active a b c d = omega (arith, a, b, c, d)
-few Two slots steps left frozen active a b c d = omega (arith, a, b, c, d)
+few format slots steps left frozen active a b c d = grind (arith, a, b, c, d)
 
 -- the limits of a store
 pub has_limits : (size : ℕ) (sizes : Super) (s : Cached) (writing ahead : Bool) → Invariant size sizes s writing ahead → HasLimits s

@@ -1,5 +1,5 @@
 -- What a read gives, and how many calls of the medium it makes.
-use Rattle.std.specs.Prelude.{Ok, Err, OnOk, Bool}
+use Rattle.std.specs.Prelude.{Ok, Err, OnOk}
 use Rattle.std.proofs.{lemmas.List.length-drop, lemmas.List.length-take-le, lemmas.List.take_all, lemmas.Slice.take-put_mid}
 use Rattle.std.proofs.Common.{◌≡◌, ℕ, zero, suc, ◌+◌, ◌*◌, ◌≤◌, ◌<◌, List, ◌++◌, length, take, drop, None, sym, ◌∙◌, ap}
 use Rattle.std.proofs.Common.{arith, inl, inr, append_assoc, append-nil, add-zero, add-one, Result, false, refl, subst, rules}
@@ -84,42 +84,38 @@ reads_few s address (suc count) = grind (arith, reads_few s (address + 1) count)
 
 -- ---- a block that no batch has is read by one call
 
-module _ {M : Type 0} {state : M → State} {Follows : M → M → Type 0} {m n : M} {s : Cached} {ahead : Bool} {block : ℕ} where
+module _ {M : Type 0} {state : M → State} {Follows : M → M → Type 0} {n : M} {old : StoreValue M} {block : ℕ} where
   -- it reads a copy in the log, or the sector at home
-  pub copy_keeps : KeepsLog state Follows s.log m n
-      → KeepsStore state Follows block 1 (record { medium = m; cached = s; goes_ahead = ahead })
-      (record { medium = n; cached = s; goes_ahead = ahead })
+  pub copy_keeps : KeepsLog state Follows old.cached.log old.medium n → KeepsStore state Follows block 1 old (record old { medium = n })
   copy_keeps log =
-      grind (arith, log, looks_wider _ (IsLogOrHome (first_home (layout_of s)) block 1) (state m) (state n) (λ x low. inl low) log.looks)
+      let home = first_home (layout_of old.cached) in
+      grind (arith, log, looks_wider _ (IsLogOrHome home block 1) (state old.medium) (state n) (λ x low. inl low) log.looks)
 
-  pub home_keeps : {call : Result (Unit {0}) MediumFault} (sector : ℕ) → sector ≡ first_home (layout_of s) + block
-      → Passes Read call (state m) (state n) → Stays (state m).content (state n).content → Within (state n).may_leave (state m).may_leave
-      → Follows m n × LooksOnly (λ x. x ≡ sector) (state m) (state n)
-      → KeepsStore state Follows block 1 (record { medium = m; cached = s; goes_ahead = ahead })
-      (record { medium = n; cached = s; goes_ahead = ahead })
+  pub home_keeps : {call : Result (Unit {0}) MediumFault} (sector : ℕ) → sector ≡ first_home (layout_of old.cached) + block
+      → Passes Read call (state old.medium) (state n) → Stays (state old.medium).content (state n).content
+      → Within (state n).may_leave (state old.medium).may_leave
+      → Follows old.medium n × LooksOnly (λ x. x ≡ sector) (state old.medium) (state n)
+      → KeepsStore state Follows block 1 old (record old { medium = n })
   home_keeps sector is passes content sets follows = record {
     stays = refl;
-    quiet = quiet_call (state m) (state n) passes content sets;
+    quiet = quiet_call (state old.medium) (state n) passes content sets;
     follows = follows.0;
-    looks = one_look _ (state m) (state n) sector (inr (omega (arith, is), omega (arith, is))) follows.1;
+    looks = one_look _ (state old.medium) (state n) sector (inr (omega (arith, is), omega (arith, is))) follows.1;
     policy = refl;
   }
 
-  pub reads_one : {bytes : List ℕ} (call : Result (Unit {0}) MediumFault) → Passes Read call (state m) (state n)
-      → block < blocks_of s → IsInNone s block
-      → KeepsStore state Follows block 1 (record { medium = m; cached = s; goes_ahead = ahead })
-      (record { medium = n; cached = s; goes_ahead = ahead })
-      → ((book : Book) → (fits : FitsBook (state m) s book) → OnOk call (bytes ≡ fits.view.array block))
-      → ReadsBlock state Follows (told call) block bytes (record { medium = m; cached = s; goes_ahead = ahead })
-      (record { medium = n; cached = s; goes_ahead = ahead })
+  pub reads_one : {bytes : List ℕ} (call : Result (Unit {0}) MediumFault) → Passes Read call (state old.medium) (state n)
+      → block < blocks_of old.cached → IsInNone old.cached block → KeepsStore state Follows block 1 old (record old { medium = n })
+      → ((book : Book) → (fits : FitsBook (state old.medium) old.cached book) → OnOk call (bytes ≡ fits.view.array block))
+      → ReadsBlock state Follows (told call) block bytes old (record old { medium = n })
   reads_one (Ok done) passes below none keeps ok = record {
-    ok = λ book fits. ok book fits ∙ durable_is (state m) s book fits block below none.0 none.1;
+    ok = λ book fits. ok book fits ∙ durable_is (state old.medium) old.cached book fits block below none.0 none.1;
     err = search rules;
     keeps = keeps;
-    cost = grind (arith, passes.calls_are, read_sends (state m) (state n) passes, reads_copy s block none.0 none.1);
+    cost = grind (arith, passes.calls_are, read_sends (state old.medium) (state n) passes, reads_copy old.cached block none.0 none.1);
   }
   reads_one (Err fault) passes below none keeps ok =
-      grind (arith, keeps, passes, read_sends (state m) (state n) passes, reads_copy s block none.0 none.1)
+      grind (arith, keeps, passes, read_sends (state old.medium) (state n) passes, reads_copy old.cached block none.0 none.1)
 
 -- ---- blocks are read one after another
 

@@ -60,8 +60,8 @@ impl<M: Medium> Store<M> {
         Ok(())
     }
 
-    // Reads one block from the newest batch that has it, or else its newest logged copy, or at home.
-    // Its place in each batch is known, and becomes that of the next block.
+    // Reads one block from the newest batch that has it, or else from its newest logged copy or its
+    // home. Its place in each batch is known, and becomes that of the next block.
     #[inline]
     fn read_block(
         &mut self,
