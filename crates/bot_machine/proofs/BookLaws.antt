@@ -14,10 +14,10 @@ use Rattle.spec.specs.declared.event.Answer.{Answer}
 use Rattle.spec.specs.Rules.{UnitState, CarriesOut, Ticks, write_in_progress, checked}
 use Rattle.spec.specs.Exchange.{Script, finished, taking, sending, at_once, moment_of}
 use Rattle.spec.specs.Conversation.{Conversation, OpensExchange, Takes, OutStep}
-use Rattle.spec.specs.UnitConversation.{Intends, way_of, UnitStep, write_of_packet, write_of_event}
+use Rattle.spec.specs.UnitConversation.{Intends, UnitStep, write_of_packet, write_of_event}
 use Rattle.bot_machine.specs.Acts.{CarriesOutAtOnce, CarriesOutLast, PacketCarriesOut, EventCarriesOut}
-use Rattle.bot_machine.proofs.Wrappers.{at_once-takes_none}
-use Rattle.bot_machine.proofs.UnitLaws.{keeps_intentions, keeps_writes, stays_faulted, ticks_only}
+use Rattle.bot_machine.proofs.Wrappers.{at_once-writes_none}
+use Rattle.bot_machine.proofs.UnitLaws.{keeps_writes, stays_faulted, ticks_only}
 use Rattle.spec.specs.Book.{Book}
 use Rattle.spec.specs.declared.command.Command.{Command}
 use Rattle.scsi_unit.specs.Laws.{IsSameLife, is_promising}
@@ -37,8 +37,7 @@ module _ (P : Option Write → Type 0) (refused : Bool) (old new : Conversation 
   opened : (packet : List ℕ) → OfCarried (CarriesOutAtOnce packet old.unit)
       → OpensExchange Intends CarriesOut Ticks refused packet old new → P None
   opened packet carried o =
-      let none = λ (now : moment_of o.case ≡ at_once). keeps_intentions.unwritten old.unit o.command.block.items []
-      (λ n out. at_once-takes_none o.case o.command.host o.intended o.is_case now n (o.intends ∙ ap way_of out)) in
+      let none = at_once-writes_none old.unit o.command.block.items [] o.case o.command.host o.intended o.intends o.is_case in
       let carries : moment_of o.case ≡ at_once → CarriesOutAtOnce packet old.unit o.command.block.items [] =
       λ now. record {
         command = o.command;

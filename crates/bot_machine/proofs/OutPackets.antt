@@ -19,21 +19,21 @@ use Rattle.spec.specs.Book.{Book}
 use Rattle.spec.specs.Rules.{UnitState, CarriesOut, Ticks, Intention}
 use Rattle.scsi_unit.specs.Calls.{IsBounded}
 use Rattle.scsi_unit.specs.Serving.{has_refused, IsSparing, TicksOver}
-use Rattle.scsi_unit.specs.UnitValue.{UnitValue, unit_limit, state_of, IsOfSize, intention_of}
+use Rattle.scsi_unit.specs.UnitValue.{UnitValue, unit_limit, state_of, FitsUnit, IsOfSize, intention_of}
 use Rattle.spec.specs.declared.event.Event.{Event}
 use Rattle.spec.specs.declared.event.Event.TheVariants as event
 use Rattle.spec.specs.declared.event.Answer.{Answer}
 use Rattle.spec.specs.declared.event.Answer.TheVariants as answer
 use Rattle.spec.specs.Conversation.{OutStep, SetupStep}
 use Rattle.spec.specs.UnitConversation.{Intends, UnitStep, write_of_packet, write_of_event, on_line}
-use Rattle.bot_machine.specs.Acts.{PacketCarriesOut, EventCarriesOut}
+use Rattle.bot_machine.specs.Acts.{CarriesOutNone, PacketCarriesOut, EventCarriesOut}
 use Rattle.spec.specs.declared.intent.Intent.TheVariants as intent
 use Rattle.bot_machine.specs.Promising.{SendsBy}
 use Rattle.bot_machine.specs.Refinement.{taking_of, left_of, halt_of, IsInPhase}
 use Rattle.spec.specs.Packets.{packets_of}
-use Rattle.bot_machine.specs.Reading.{LooksBesides, LooksIn, ReadsAt, WrapperReadsAt}
-use Rattle.bot_machine.specs.Serving.{BeginsOn, TakesOn, RestsOn, SparesOn, SendsOn, HandsOn}
-use Rattle.bot_machine.proofs.UnitLaws.{few_ticks, none_made, step_made, staying_so, proceeding, proceeding_so, promises_by_book}
+use Rattle.bot_machine.specs.Reading.{LooksBesides, LooksIn, ReadsAt}
+use Rattle.bot_machine.specs.Serving.{ServesPacket, HandsOn}
+use Rattle.bot_machine.proofs.UnitLaws.{few_ticks, none_made, step_made, staying_so, proceeding, fits_size, promises_by_book}
 use Rattle.bot_machine.proofs.UnitLaws.{quiet_by_book}
 use Rattle.bot_machine.proofs.Wrappers.{besides, waits_to_send_none}
 use Rattle.bot_machine.specs.declared.bulk_state.BulkState.{BulkState}
@@ -92,48 +92,68 @@ sends_none m unit by CarriedOut = record { plain = λ none. none_made m unit; qu
 pub none_named : {M : Type 0} (m : State) (disk : DiskValue M) (happens : Event) → LooksIn m m disk happens
 none_named m disk happens = no_looks (λ s. (s < first_home_of disk.unit) ⊎ ReadsAt disk happens s) m m refl
 
--- the log alone was read, or home sectors that the event reads
-pub named_in : {M : Type 0} (before after : State) (disk : DiskValue M) (happens : Event) (At : ℕ → Type 0)
-    → ((s : ℕ) → At s → ReadsAt disk happens s) → LooksBesides At before after disk.unit → LooksIn before after disk happens
-named_in before after disk happens At told looks = besides before after disk.unit At (ReadsAt disk happens) told looks
+-- what was done with a packet to Bulk-Out is a step of the disk
+pub served : {M : Type 0} (state : M → State) (Follows : M → M → Type 0) (At : ℕ → Type 0) (old new : DiskValue M) (from to : BulkState)
+    (packet : List ℕ) → old.line.out_halted ≡ false
+    → ServesPacket (state old.unit.store.medium) (state new.unit.store.medium) old.unit new.unit old.line new.line false packet
+    → HandsOn state Follows At old.unit new.unit from to
+    → ((s : ℕ) → At s → ReadsAt old (event.Out (record { items = packet })) s) → new.line.packet_size ≡ old.line.packet_size
+    → IsStep (state old.unit.store.medium) (state new.unit.store.medium) old (event.Out (record { items = packet })) answer.Ack new
+served state Follows At old new from to packet halted serves passes reads size =
+    let before = state old.unit.store.medium in
+    let after = state new.unit.store.medium in
+    let s = subst (λ h. ServesPacket before after old.unit new.unit old.line new.line h packet) (sym halted) serves in
+    record {
+      proceeds = s.proceeds;
+      rests = λ book fits none. s.rests book fits (λ block taken carries. none (block, taken, carries));
+      ticks = tt;
+      spares = s.spares;
+      few = passes.few;
+      plain = λ book size. (s.sends book size).plain;
+      quiet = λ book size. (s.sends book size).quiet;
+      looks = besides before after old.unit At (ReadsAt old (event.Out (record { items = packet }))) reads passes.looks;
+      elapses = passes.elapses;
+      limit_stays = passes.limit;
+      packets_stay = size;
+    }
 
-module _ {M : Type 0} (before after : State) (old new : DiskValue M) (packet : List ℕ) where
-  -- what a packet does where Bulk-Out is halted or not, and this is left of the exchange
-  pub record DoesFor (halted : Bool) (left : Script) : Type 0 where
-    pub proceeds : (book : Book) → FitsDisk before old book → Proceeds before after old.unit new.unit
-        (λ unit later. OutStep Intends CarriesOut Ticks (has_refused before after) halted left packet
-        (on_line old.line unit) answer.Ack (on_line new.line later))
-        (write_of_packet old.line.packet_size halted left packet (state_of old.unit book)) book
-    pub rests : (book : Book) → FitsDisk before old book
-        → ((block taken : List ℕ) → PacketCarriesOut old.line.packet_size halted left packet (state_of old.unit book) block taken → ⊥)
-        → new.unit ≡ old.unit
-    pub spares : (book : Book) → FitsDisk before old book → (block taken : List ℕ)
-        → PacketCarriesOut old.line.packet_size halted left packet (state_of old.unit book) block taken
-        → (answer : Result (List ℕ) Sense) × IsSparing before after block taken old.unit answer new.unit
-        × IsBounded before after block taken old.unit × Tells answer new.line
-    pub sends : (book : Book) → IsOfSize old.unit book → SendsBy before after old.unit (state_of old.unit book)
-        (PacketCarriesOut old.line.packet_size halted left packet (state_of old.unit book))
+-- a packet that has no command carried out, where the unit stays as it is
+pub idle : {M : Type 0} (m : State) (unit : UnitValue M) (from to : Line) (packet : List ℕ) → IsSound m
+    → ((book : Book) → IsOfSize unit book → OutStep Intends CarriesOut Ticks (has_refused m m) false from.left packet
+    (on_line from (state_of unit book)) answer.Ack (on_line to (state_of unit book)))
+    → ((book : Book) → None ≡ write_of_packet from.packet_size false from.left packet (state_of unit book))
+    → ((book : Book) → IsOfSize unit book
+    → CarriesOutNone (PacketCarriesOut from.packet_size false from.left packet (state_of unit book)))
+    → ServesPacket m m unit unit from to false packet
+idle m unit from to packet sound step none never = record {
+  proceeds = λ book fits. staying_so m unit _ _ book sound fits (none book) (step book (fits_size m unit book fits));
+  rests = λ book fits still. refl;
+  spares = λ book fits block taken carries. absurd (never book (fits_size m unit book fits) block taken carries);
+  sends = λ book size. sends_none m unit _ _;
+}
 
-  does_for : (halted : Bool) (left : Script) → halted ≡ old.line.out_halted → left ≡ old.line.left → DoesFor halted left
-      → (At : ℕ → Type 0) → ((s : ℕ) → At s → ReadsAt old (event.Out (record { items = packet })) s)
-      → TakesFew before after old.unit new.unit → LooksBesides At before after old.unit → Elapses before after
-      → unit_limit new.unit ≡ unit_limit old.unit → new.line.packet_size ≡ old.line.packet_size
-      → IsStep before after old (event.Out (record { items = packet })) answer.Ack new
-  does_for halted left same_halt same_left does At reads few looks elapses limit size =
-      let d = subst (λ h. DoesFor h old.line.left) same_halt (subst (λ l. DoesFor halted l) same_left does) in
-      record {
-        proceeds = d.proceeds;
-        rests = λ book fits none. d.rests book fits (λ block taken carries. none (block, taken, carries));
-        ticks = tt;
-        spares = d.spares;
-        few = few;
-        plain = λ book size. (d.sends book size).plain;
-        quiet = λ book size. (d.sends book size).quiet;
-        looks = named_in before after old (event.Out (record { items = packet })) At reads looks;
-        elapses = elapses;
-        limit_stays = limit;
-        packets_stay = size;
-      }
+-- a packet that has this command carried out, over these bytes, and no other
+pub carried : {M : Type 0} (before after : State) (old new : UnitValue M) (from to : Line) (packet block bytes : List ℕ)
+    → ((book : Book) → FitsUnit before old book → Proceeds before after old new
+    (λ unit later. OutStep Intends CarriesOut Ticks (has_refused before after) false from.left packet (on_line from unit) answer.Ack
+    (on_line to later)) (write_of_packet from.packet_size false from.left packet (state_of old book)) book)
+    → ((book : Book) → IsOfSize old book
+    → PacketCarriesOut from.packet_size false from.left packet (state_of old book) block bytes
+    × ((other taken : List ℕ) → PacketCarriesOut from.packet_size false from.left packet (state_of old book) other taken
+    → (other ≡ block) × (taken ≡ bytes)))
+    → (told : Result (List ℕ) Sense) × IsSparing before after block bytes old told new × IsBounded before after block bytes old
+    × Tells told to
+    → ServesPacket before after old new from to false packet
+carried before after old new from to packet block bytes proceeds one spared = record {
+  proceeds = proceeds;
+  rests = λ book fits none. absurd (none block bytes (one book (fits_size before old book fits)).0);
+  spares = λ book fits other taken carries.
+      let same = (one book (fits_size before old book fits)).1 other taken carries in rw (same.0, same.1) spared;
+  sends = λ book size. record {
+    plain = λ none. spared.2.one_batch.plain (promises_by_book old book block size ∙ none block bytes (one book size).0);
+    quiet = λ all. spared.2.quiet (quiet_by_book old book block size (all block bytes (one book size).0));
+  };
+}
 
 -- an event that has the unit do nothing
 nothing_done : {M : Type 0} (m : State) (disk : DiskValue M) (line : Line) (happens : Event) (told : Answer) → IsSound m
@@ -170,46 +190,6 @@ pub not_ready : {M : Type 0} (m : State) (disk : DiskValue M) (packet : List ℕ
 not_ready m disk packet packets halt status sound halted left =
     nothing_done m disk disk.line (event.Out (record { items = packet })) answer.Nak sound (λ book. grind arith) (λ book. grind arith)
     (λ book block taken carries. grind arith) tt refl
-
--- a packet where a command wrapper is expected
-pub begins : {M : Type 0} (before after : State) (old new : DiskValue M) (packet : List ℕ) → false ≡ old.line.out_halted
-    → finished ≡ old.line.left → BeginsOn before after old.unit new.unit old.line new.line packet
-    → RestsOn old.line.packet_size before old.unit new.unit finished packet
-    → SparesOn old.line.packet_size before after old.unit new.unit new.line finished packet
-    → SendsOn old.line.packet_size before after old.unit finished packet → TakesFew before after old.unit new.unit
-    → LooksBesides (WrapperReadsAt old.unit packet) before after old.unit → Elapses before after
-    → unit_limit new.unit ≡ unit_limit old.unit → new.line.packet_size ≡ old.line.packet_size
-    → IsStep before after old (event.Out (record { items = packet })) answer.Ack new
-begins before after old new packet halted left opens rests spares sends few looks elapses limit size =
-    does_for before after old new packet false finished halted left (record {
-      proceeds = λ book fits. proceeding_so before after old.unit new.unit _ _ None None book (opens book fits) refl
-          (λ later moves. (refl, moves));
-      rests = rests;
-      spares = spares;
-      sends = sends;
-    })
-    (WrapperReadsAt old.unit packet)
-    (λ s at. (at.0, record { unhalted = sym halted; expected = sym left; wrapper = at.1 }, at.2)) few looks elapses limit size
-
--- a packet where data is expected
-pub goes_on : {M : Type 0} (before after : State) (old new : DiskValue M) (packet : List ℕ) (t : Taking) (taken : List ℕ)
-    → false ≡ old.line.out_halted → taking_of t taken ≡ old.line.left
-    → TakesOn before after old.unit new.unit old.line new.line t taken packet
-    → RestsOn old.line.packet_size before old.unit new.unit (taking_of t taken) packet
-    → SparesOn old.line.packet_size before after old.unit new.unit new.line (taking_of t taken) packet
-    → SendsOn old.line.packet_size before after old.unit (taking_of t taken) packet
-    → TakesFew before after old.unit new.unit → LooksBesides (λ _. ⊥) before after old.unit → Elapses before after
-    → unit_limit new.unit ≡ unit_limit old.unit → new.line.packet_size ≡ old.line.packet_size
-    → IsStep before after old (event.Out (record { items = packet })) answer.Ack new
-goes_on before after old new packet t taken halted left takes rests spares sends few looks elapses limit size =
-    does_for before after old new packet false (taking_of t taken) halted left (record {
-      proceeds = λ book fits. proceeding_so before after old.unit new.unit _ _ _ _ book (takes book fits) refl
-          (λ later moves. (refl, moves));
-      rests = rests;
-      spares = spares;
-      sends = sends;
-    })
-    (λ _. ⊥) (λ s at. absurd at) few looks elapses limit size
 
 -- a step in the background
 pub ticked : {M : Type 0} (work : Work) (before after : State) (old new : DiskValue M)
@@ -299,14 +279,5 @@ unit_stays state Follows At unit from to itself phase size = record {
   follows = itself unit.store.medium;
 }
 
--- a command that is carried out, over a book of the unit's size, has as few calls made that write as it promises
-pub sends_so : {M : Type 0} (before after : State) (unit : UnitValue M) (block taken bytes : List ℕ) (book : Book) → IsOfSize unit book
-    → IsBounded before after block taken unit → (CarriedOut : List ℕ → List ℕ → Type 0) → CarriedOut block bytes
-    → SendsBy before after unit (state_of unit book) CarriedOut
-sends_so before after unit block taken bytes book size bounded CarriedOut carried = record {
-  plain = λ none. bounded.one_batch.plain (promises_by_book unit book block size ∙ none block bytes carried);
-  quiet = λ all. bounded.quiet (quiet_by_book unit book block size (all block bytes carried));
-}
-
--- a command that waits for its data sends none, no read was made, and no other call
-pub ruleset nothing_read = (waits_to_send_none, none_besides, sends_none)
+-- a command that waits for its data sends none, and no read was made
+pub ruleset nothing_read = (waits_to_send_none, none_besides)

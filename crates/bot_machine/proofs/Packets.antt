@@ -29,15 +29,9 @@ few_bytes High512 = (omega arith, omega arith)
 -- where something is left, there is one packet more than after it
 one_more : (n size : ℕ) → 0 < size → 0 < n → (n + (size - 1)) / size ≡ suc (((n - size) + (size - 1)) / size)
 one_more n size some h =
-    let shifted : n + (size - 1) ≡ (n - 1) + size = omega arith in
-    let before : (n + (size - 1)) / size ≡ (n - 1) / size + 1 = ap (λ k. k / size) shifted ∙ add-div_right (n - 1) some in
-    let last : (n - 1) / size ≡ ((n - size) + (size - 1)) / size = elim (cases_lt n size) [
-      | inl less ↦
-          div-eq_of_lt (let k : n - 1 < size = omega arith in k)
-          ∙ sym (div-eq_of_lt (let k : (n - size) + (size - 1) < size = omega arith in k))
-      | inr more ↦ ap (λ k. k / size) (let k : n - 1 ≡ (n - size) + (size - 1) = omega arith in k)
-    ] in
-    omega (arith, before, last)
+    let before : (n + (size - 1)) / size ≡ (n - 1) / size + 1
+    = ap (λ k. k / size) (let k : n + (size - 1) ≡ (n - 1) + size = omega arith in k) ∙ add-div_right (n - 1) some in
+    grind (arith, before, div-eq_of_lt)
 
 -- where there is data, the first packet takes at most `size` bytes of it
 pub packets_of-more : (size : ℕ) (bytes : List ℕ) → 0 < size → 0 < length bytes
@@ -56,36 +50,20 @@ packets_of-none size some =
     ap (λ n. cut_into size n []) none
 
 module _ (size : ℕ) (packet : 0 < size) where
-  front_of : (n end : ℕ) (xs : List ℕ) → end ≡ min n size → take size (take n xs) ≡ take end xs
-  front_of n end xs e = elim (cases_lt n size) [
-    | inl h ↦ take_all size (take n xs) (omega (arith, length-take n xs)) ∙ ap (λ k. take k xs) (let k : n ≡ end = omega arith in k)
-    | inr h ↦ take-take size n xs h ∙ ap (λ k. take k xs) (let k : size ≡ end = omega arith in k)
-  ]
+  first_of : (xs : List ℕ) (from to end : ℕ) → end ≡ min to (from + size) → from < to
+      → take size (slice_range xs from to) ≡ slice_range xs from end
+  first_of xs from to end e h = grind (arith, take-take {A = ℕ}, take_all {A = ℕ}, length-take {A = ℕ})
 
-  rest_of : (n end : ℕ) (xs : List ℕ) → end ≡ min n size → drop size (take n xs) ≡ take (n - end) (drop end xs)
-  rest_of n end xs e = elim (cases_lt n size) [
-    | inl h ↦
-        drop_all size (take n xs) (omega (arith, length-take n xs))
-        ∙ ap (λ k. take k (drop end xs)) (let k : 0 ≡ n - end = omega arith in k)
-    | inr h ↦ ap (λ k. drop size (take k xs)) (let k : n ≡ size + (n - size) = omega arith in k) ∙ drop-take size (n - size) xs
-        ∙ ap (λ k. take (n - k) (drop k xs)) (let k : size ≡ end = omega arith in k)
-  ]
+  rest_of : (xs : List ℕ) (from to end : ℕ) → end ≡ min to (from + size) → from < to
+      → drop size (slice_range xs from to) ≡ slice_range xs end to
+  rest_of xs from to end e h = grind (arith, drop-take {X = ℕ}, drop_all {X = ℕ}, length-take {A = ℕ}, drop-drop {A = ℕ})
 
   -- the packets of a part of a buffer: the first bytes of the part, then those of the rest
   pub packets_of-range : (xs : List ℕ) (from to end : ℕ) → from < to → to ≤ length xs → end ≡ min to (from + size)
       → packets_of size (slice_range xs from to) ≡ slice_range xs from end ∷ packets_of size (slice_range xs end to)
   packets_of-range xs from to end h k e =
-      let n = to - from in
-      let m = end - from in
-      let is : m ≡ min n size = omega arith in
-      let some : 0 < length (slice_range xs from to) = omega (arith, length-take n (drop from xs), length-drop from xs) in
-      let there : from + m ≡ end = omega arith in
-      let left : n - m ≡ to - end = omega arith in
-      packets_of-more size (slice_range xs from to) packet some
-      ∙ ap (λ p. p ∷ packets_of size (drop size (take n (drop from xs)))) (front_of n m (drop from xs) is)
-      ∙ ap (λ p. take m (drop from xs) ∷ packets_of size p)
-      (rest_of n m (drop from xs) is ∙ ap (λ p. take (n - m) p) (drop-drop m from xs)
-      ∙ ap (λ p. take (n - m) (drop p xs)) there ∙ ap (λ p. take p (drop end xs)) left)
+      let some : 0 < length (slice_range xs from to) = omega (arith, length-take (to - from) (drop from xs), length-drop from xs) in
+      rw (packets_of-more size (slice_range xs from to) packet some, first_of xs from to end e h, rest_of xs from to end e h) refl
 
   -- a part with bytes in it has a first packet
   pub packets_of-some : (xs : List ℕ) (from to : ℕ) → from < to → to ≤ length xs
@@ -169,18 +147,7 @@ same_front packet room more e = grind (arith, take_all {A = ℕ})
 
 pub front_filled : (front packet rest : List ℕ) (filled size more : ℕ) → length front ≡ filled → filled ≤ size
     → more ≡ min (length packet) (size - filled) → take (filled + more) (front ++ (take more packet ++ rest)) ≡ take size (front ++ packet)
-front_filled front packet rest filled size more l h e =
-    let there : more ≤ length (take more packet) = omega (arith, length-take more packet) in
-    let all : length (take more packet) ≤ more = omega (arith, length-take more packet) in
-    let whole : length front + (size - filled) ≡ size = omega arith in
-    ap (λ k. take (k + more) (front ++ (take more packet ++ rest))) (sym l)
-    ∙ take-append-add front (take more packet ++ rest) more
-    ∙ ap (λ p. front ++ p)
-    (take-append-le more (take more packet) rest there
-    ∙ take_all more (take more packet) all
-    ∙ sym (same_front packet (size - filled) more e))
-    ∙ sym (take-append-add front packet (size - filled))
-    ∙ ap (λ k. take k (front ++ packet)) whole
+front_filled front packet rest filled size more l h e = grind (arith, length-take {A = ℕ}, take-append-add {A = ℕ}, take-append-le {A = ℕ}, take_all {A = ℕ})
 
 module _ {A : Type 0} (most size due : ℕ) (a b : A) where
   -- the last packet of the data

@@ -6,7 +6,7 @@ use Rattle.spec.specs.declared.way.Way.{Way}
 use Rattle.spec.specs.declared.case.Case.{Case}
 use Rattle.spec.specs.Cases.{IsCase}
 use Rattle.spec.specs.CommandWrapper.{SpellsCommand}
-use Rattle.bot_machine.proofs.Wrappers.{one_wrapper, one_case, at_once-takes_none}
+use Rattle.bot_machine.proofs.Wrappers.{one_wrapper, one_case, at_once-writes_none}
 use Rattle.spec.specs.Book.{StampsOut, Book}
 use Rattle.spec.specs.Rules.{UnitState, CarriesOut, Ticks, write_in_progress, with_progress, opened_unit}
 use Rattle.spec.specs.declared.event.Event.{Event}
@@ -17,7 +17,7 @@ use Rattle.spec.specs.Exchange.{Line, Script, finished, taking, sending, Moment,
 use Rattle.spec.specs.Conversation.{Conversation, IsCarriedOut, Begins, OpensExchange, Takes, OutStep, SetupStep}
 use Rattle.spec.specs.UnitConversation.{Intends, way_of, write_of_packet, UnitStep, UnitRun, on_line}
 use Rattle.bot_machine.specs.Striking.{HasStamps, without_ticks, answers_without_ticks, IsUntroubled}
-use Rattle.bot_machine.proofs.UnitLaws.{keeps_intentions, is_function, ticks_only, knows_images}
+use Rattle.bot_machine.proofs.UnitLaws.{is_function, ticks_only, knows_images}
 use Rattle.medium.specs.Medium.{State}
 use Rattle.scsi_unit.specs.UnitValue.{unit_limit, state_of as unit_state}
 use Rattle.bot_machine.specs.declared.lives.disk_state.DiskState.{DiskState}
@@ -61,8 +61,8 @@ opens_once : (packet : List ℕ) (old one other : Conversation UnitState) → ¬
     → OpensExchange Intends CarriesOut Ticks false packet old one
     → OpensExchange Intends CarriesOut Ticks false packet old other → one ≡ other
 opens_once packet old one other stamps a b =
-    let none = λ (moment : at_once ≡ moment_of a.case). keeps_intentions.unwritten old.unit a.command.block.items [] (λ n out.
-    at_once-takes_none a.case a.command.host a.intended a.is_case (sym moment) n (a.intends ∙ ap way_of out)) in
+    let none = λ (moment : at_once ≡ moment_of a.case). at_once-writes_none old.unit a.command.block.items [] a.case a.command.host
+    a.intended a.intends a.is_case (sym moment) in
     begins_once (moment_of a.case) a.case a.command a.intended old one other (λ moment. (rw (none moment) stamps))
     a.begins (opens_as packet old other a.command a.intended a.case a.spelled a.intends a.is_case b)
 
@@ -139,67 +139,25 @@ first_of old new happens events [] run = absurd run
 first_of old new happens events (a ∷ as_) (mid, step, stamps, rest) =
     record { mid = mid; answer = a; later = as_; told = refl; step = step; stamps = stamps; run = rest }
 
--- the first event of a run that is no step in the background, and the run after it
-record FirstPacket (old other : Conversation UnitState) (first : Event) (more : List Event) (answers : List Answer) : Type 0 where
-  mid : Conversation UnitState
-  answer : Answer
-  step : UnitStep false old first answer mid
-  stamps : HasStamps old first
-  events : List Event
-  told : List Answer
-  run : Untroubled mid events told other
-  events_are : without_ticks events ≡ more
-  answers_are : answers ≡ answer ∷ answers_without_ticks events told
+-- without its steps in the background it is one, too
+struck : (events : List Event) (answers : List Answer) (old new : Conversation UnitState) → Untroubled old events answers new
+    → Untroubled old (without_ticks events) (answers_without_ticks events answers) new
+struck [] [] old new run = run
+struck (event.Tick ∷ events) (answer ∷ answers) old new (mid, step, stamps, rest) =
+    subst (λ o. Untroubled o (without_ticks events) (answers_without_ticks events answers) new) (still old mid answer stamps step)
+    (struck events answers mid new rest)
+struck (happens ∷ events) (answer ∷ answers) old new (mid, step, stamps, rest) = (mid, step, stamps, struck events answers mid new rest)
+struck events answers old new run = absurd run
 
-begins : (fewer : List Event) (old other : Conversation UnitState) (told : List Answer) (first : Event) (more : List Event)
-    → Untroubled old fewer told other → without_ticks fewer ≡ first ∷ more
-    → FirstPacket old other first more (answers_without_ticks fewer told)
-begins [] old other told first more run e = grind arith
-begins (x ∷ xs) old other [] first more run e = absurd run
-begins (event.Tick ∷ xs) old other (a ∷ as_) first more (mid, step, stamps, rest) e =
-    subst (λ o. FirstPacket o other first more (answers_without_ticks xs as_)) (still old mid a stamps step)
-    (begins xs mid other as_ first more rest e)
-begins (x ∷ xs) old other (a ∷ as_) first more (mid, step, stamps, rest) e =
-    let same : x ≡ first = grind arith in
-    record {
-      mid = mid;
-      answer = a;
-      step = subst (λ e. UnitStep false old e a mid) same step;
-      stamps = subst (HasStamps old) same stamps;
-      events = xs;
-      told = as_;
-      run = rest;
-      events_are = grind arith;
-      answers_are = refl;
-    }
-
--- a run of steps in the background alone
-ends : (fewer : List Event) (old other : Conversation UnitState) (told : List Answer) → Untroubled old fewer told other
-    → without_ticks fewer ≡ [] → (answers_without_ticks fewer told ≡ []) × (other ≡ old)
-ends [] old other [] run e = (refl, run)
-ends [] old other (a ∷ as_) run e = absurd run
-ends (x ∷ xs) old other [] run e = absurd run
-ends (event.Tick ∷ xs) old other (a ∷ as_) (mid, step, stamps, rest) e =
-    let later = ends xs mid other as_ rest e in (later.0, later.1 ∙ still old mid a stamps step)
-ends (x ∷ xs) old other (a ∷ as_) run e = grind arith
-
-same_packets : (events : List Event) (old new other : Conversation UnitState) (answers : List Answer) (fewer : List Event)
-    (told : List Answer) → Untroubled old events answers new → Untroubled old fewer told other
-    → without_ticks events ≡ without_ticks fewer
-    → (answers_without_ticks events answers ≡ answers_without_ticks fewer told) × (new ≡ other)
-same_packets [] old new other [] fewer told run again e =
-    let end = ends fewer old other told again (sym e) in (sym end.0, run ∙ sym end.1)
-same_packets [] old new other (a ∷ as_) fewer told run again e = absurd run
-same_packets (x ∷ xs) old new other [] fewer told run again e = absurd run
-same_packets (event.Tick ∷ xs) old new other (a ∷ as_) fewer told (mid, step, stamps, rest) again e =
-    same_packets xs mid new other as_ fewer told rest
-    (subst (λ o. Untroubled o fewer told other) (sym (still old mid a stamps step)) again) e
-same_packets (x ∷ xs) old new other (a ∷ as_) fewer told (mid, step, stamps, rest) again e =
-    let b = begins fewer old other told x (without_ticks xs) again (sym e) in
-    let one = one_step old mid b.mid x a b.answer b.stamps step b.step in
-    let later = same_packets xs mid new other as_ b.events b.told rest
-    (subst (λ m. Untroubled m b.events b.told other) (sym one.1) b.run) (sym b.events_are) in
-    (ap (λ a. a ∷ answers_without_ticks xs as_) one.0 ∙ ap (λ t. b.answer ∷ t) later.0 ∙ sym b.answers_are, later.1)
+-- the same events from the same state give the same answers, and end in the same state
+runs_once : (events : List Event) (answers told : List Answer) (old new other : Conversation UnitState)
+    → Untroubled old events answers new → Untroubled old events told other → (answers ≡ told) × (new ≡ other)
+runs_once [] [] [] old new other run again = (refl, run ∙ sym again)
+runs_once (e ∷ es) (a ∷ as_) (b ∷ bs) old new other (mid, step, stamps, rest) (mid', step', stamps', rest') =
+    let one = one_step old mid mid' e a b stamps step step' in
+    let later = runs_once es as_ bs mid new other rest (subst (λ m. Untroubled m es bs other) (sym one.1) rest') in
+    grind arith
+runs_once events answers told old new other run again = grind arith
 
 pub ticks_struck : (old new other : Conversation UnitState) (events fewer : List Event) (answers told : List Answer)
     (refusals refused : List Bool) (run : UnitRun old events answers refusals new)
@@ -207,8 +165,9 @@ pub ticks_struck : (old new other : Conversation UnitState) (events fewer : List
     → IsUntroubled old events answers refusals new run → IsUntroubled old fewer told refused other again
     → (answers_without_ticks events answers ≡ answers_without_ticks fewer told) × (new ≡ other)
 ticks_struck old new other events fewer answers told refusals refused run again e u v =
-    same_packets events old new other answers fewer told (untroubled old events answers refusals new run u)
-    (untroubled old fewer told refused other again v) e
+    runs_once (without_ticks fewer) _ _ old new other
+    (rw e at (struck events answers old new (untroubled old events answers refusals new run u)))
+    (struck fewer told old other (untroubled old fewer told refused other again v))
 
 -- ---- a disk keeps to it
 

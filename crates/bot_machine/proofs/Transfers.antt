@@ -11,7 +11,7 @@ use Rattle.spec.specs.declared.case.Case.TheVariants.{C5, C6}
 use Rattle.spec.specs.declared.case.Endpoint.{Endpoint}
 use Rattle.spec.specs.declared.status.Status.TheVariants.{Passed, Failed, PhaseError}
 use Rattle.spec.specs.Sense.{Sense}
-use Rattle.spec.specs.Rules.{UnitState, CarriesOut, Ticks, write_in_progress, with_progress}
+use Rattle.spec.specs.Rules.{UnitState, CarriesOut, Ticks, intention, write_in_progress, with_progress}
 use Rattle.spec.specs.declared.event.Event.{Event}
 use Rattle.spec.specs.declared.event.Event.TheVariants as event
 use Rattle.spec.specs.declared.event.Answer.{Answer}
@@ -28,10 +28,10 @@ use Rattle.bot_machine.proofs.Packets.{packets_of-more, packets_of-none, last_pa
 use Rattle.bot_machine.proofs.StruckTicks.{one_request, Untroubled, opens_as, untroubled, First, first_of}
 use Rattle.spec.specs.Cases.{IsCase, size_of_way}
 use Rattle.spec.specs.CommandWrapper.{SpellsCommand}
-use Rattle.bot_machine.proofs.Wrappers.{one_wrapper, at_once-takes_none}
+use Rattle.bot_machine.proofs.Wrappers.{one_wrapper, one_case, at_once-writes_none}
 use Rattle.spec.specs.Book.{StampsOut}
 use Rattle.bot_machine.specs.Striking.{HasStamps}
-use Rattle.bot_machine.proofs.UnitLaws.{keeps_intentions, is_function}
+use Rattle.bot_machine.proofs.UnitLaws.{is_function}
 
 -- ---- lists of packets
 
@@ -224,18 +224,6 @@ module _ (size : ℕ) (some : 0 < size) (case : Case) (command : Cbw) (intended 
     packets : line.line.packet_size ≡ size
     left : line.line.left ≡ taking case command intended came due
 
-  -- the command is carried out over these bytes
-  record Taken (bytes : List ℕ) (unit : UnitState) (packets : List (List ℕ)) : Type 0 where
-    from : Conversation UnitState
-    mid : Conversation UnitState
-    unit_is : from.unit ≡ unit
-    size_is : from.line.packet_size ≡ size
-    carried : IsCarriedOut Intends CarriesOut Ticks false case command intended bytes from mid
-    stamps : ¬ StampsOut (with_progress from.unit.book (write_in_progress from.unit command.block.items bytes))
-    later : List Answer
-    same : packets ≡ packets_in later
-    run : Untroubled mid asks later new
-
   abbrev from : Conversation UnitState → List ℕ → ℕ → Conversation UnitState
   from old came due = record old { line = record old.line { out_halted = false; left = taking case command intended came due } }
 
@@ -253,8 +241,8 @@ module _ (size : ℕ) (some : 0 < size) (case : Case) (command : Cbw) (intended 
     bytes = take (size_of_way intended) (came ++ take size rest)
 
     took : (length (drop size rest) < length rest → 0 < length (drop size rest) → Awaits f.mid bytes (length (drop size rest))
-        → Taken (take (size_of_way intended) (bytes ++ drop size rest)) f.mid.unit (packets_in f.later))
-        → Taken (take (size_of_way intended) (came ++ rest)) old.unit (packets_in answers)
+        → CarriedOut case command intended (take (size_of_way intended) (bytes ++ drop size rest)) f.mid.unit new.unit (heard_in f.later))
+        → CarriedOut case command intended (take (size_of_way intended) (came ++ rest)) old.unit new.unit (heard_in answers)
     took again =
         let now = takes old f.mid came (length rest) (take size rest) f.answer awaits f.step f.stamps in
         let sized = awaits.packets in
@@ -276,28 +264,20 @@ module _ (size : ℕ) (some : 0 < size) (case : Case) (command : Cbw) (intended 
                 let all = take_all size rest last in
                 let wrote = last_packet old.line.packet_size (length (take size rest)) (length rest)
                 (write_in_progress old.unit command.block.items bytes) None l.size l.last in
-                record {
-                  from = from old came (length rest);
-                  mid = f.mid;
-                  unit_is = refl;
-                  size_is = sized;
-                  carried = subst (λ p. IsCarriedOut Intends CarriesOut Ticks false case command intended
-                      (take (size_of_way intended) (came ++ p))
-                      (from old came (length rest)) f.mid) all l.carried_out;
-                  stamps = subst (λ p. ¬ StampsOut (with_progress old.unit.book
-                      (write_in_progress old.unit command.block.items (take (size_of_way intended) (came ++ p))))) all
-                      (subst (λ w. ¬ StampsOut (with_progress old.unit.book w)) (sym wrote) now.1);
-                  later = f.later;
-                  same = rw (f.told, now.0.0) refl;
-                  run = rw (drop_all size rest last, packets_of-none size some) at f.run;
-                }
+                heard_of (take (size_of_way intended) (came ++ rest)) (from old came (length rest)) f.mid [] answers f.later
+                (subst (λ p. ¬ StampsOut (with_progress old.unit.book
+                (write_in_progress old.unit command.block.items (take (size_of_way intended) (came ++ p))))) all
+                (subst (λ w. ¬ StampsOut (with_progress old.unit.book w)) (sym wrote) now.1))
+                sized (subst (λ p. IsCarriedOut Intends CarriesOut Ticks false case command intended
+                (take (size_of_way intended) (came ++ p)) (from old came (length rest)) f.mid) all l.carried_out)
+                (rw (f.told, now.0.0) refl) (rw (drop_all size rest last, packets_of-none size some) at f.run)
             | inr off ↦ let h = off.size in absurd (omega (arith, length-take size rest))
           ]
         ]
 
   all_taken : (n : ℕ) (rest came : List ℕ) (answers : List Answer) (old : Conversation UnitState) → length rest ≤ n → 0 < length rest
       → Awaits old came (length rest) → Untroubled old (map packet_out (packets_of size rest) ++ asks) answers new
-      → Taken (take (size_of_way intended) (came ++ rest)) old.unit (packets_in answers)
+      → CarriedOut case command intended (take (size_of_way intended) (came ++ rest)) old.unit new.unit (heard_in answers)
   all_taken zero rest came answers old few more awaits run = absurd (omega (arith, few, more))
   all_taken (suc n) rest came answers old few more awaits run =
       let f = first_of old new (packet_out (take size rest)) (map packet_out (packets_of size (drop size rest)) ++ asks) answers
@@ -332,15 +312,13 @@ module _ (size : ℕ) (some : 0 < size) (t : Transfer) (old new : UnitState) (as
       ⊎_elim (λ none. absurd (let e = sym none ∙ is in cc)) (λ all. all) t.announced in
       let d = all_taken size some case t.command intended asks only end refl (length t.sent) t.sent [] f.later f.mid (omega arith)
       (rw is (omega arith)) (rw whole awaits) f.run in
-      rw (← same, ← d.unit_is) (heard_of size some case t.command intended asks only end refl _ d.from d.mid [] answers d.later d.stamps
-      d.size_is d.carried (rw (f.told, ack) d.same) d.run)
+      rw (f.told, ack, ← same) d
 
   outcome : (moment : Moment) → moment ≡ moment_of case
       → Begins Intends CarriesOut Ticks false moment case t.command intended (on_line (at_rest size) old) f.mid
       → Outcome moment case t.command intended t.sent old new (heard_in answers)
   outcome at_once is begins =
-      let none = keeps_intentions.unwritten old t.command.block.items []
-      (λ n out. at_once-takes_none case t.command.host intended is_case (sym is) n (intends ∙ ap way_of out)) in
+      let none = at_once-writes_none old t.command.block.items [] case t.command.host intended intends is_case (sym is) in
       heard_of size some case t.command intended asks only end refl [] (on_line (at_rest size) old) f.mid
       (packets_of size t.sent) answers f.later (rw none f.stamps) refl begins (rw (f.told, ack) refl) f.run
   outcome never is begins =
@@ -353,29 +331,33 @@ module _ (size : ℕ) (some : 0 < size) (t : Transfer) (old new : UnitState) (as
 
 -- ---- transfers at two sizes
 
-one_transfer : (size other : ℕ) → 0 < size → 0 < other → (t : Transfer) (old new last : UnitState) (heard again : Heard)
-    → IsTransferred size t old new heard → IsTransferred other t old last again → (new ≡ last) × (heard ≡ again)
-one_transfer size other some more t old new last heard again a b =
+-- what comes of one transfer, by the case and what the unit intends
+transferred : (size : ℕ) → 0 < size → (t : Transfer) (old new : UnitState) (heard : Heard) → IsTransferred size t old new heard
+    → (case : Case) × (let intended : Way = way_of (intention old t.command.block.items) in
+    IsCase case t.command.host intended × Outcome (moment_of case) case t.command intended t.sent old new heard)
+transferred size some t old new heard a =
     let f = first_of (on_line (at_rest size) old) (on_line (at_rest size) new) (packet_out t.wrapper)
     (map packet_out (packets_of size t.sent) ++ a.asks) a.answers
     (untroubled (on_line (at_rest size) old) (events_of size t a.asks) a.answers a.refusals (on_line (at_rest size) new) a.run
     a.untroubled) in
-    let g = first_of (on_line (at_rest other) old) (on_line (at_rest other) last) (packet_out t.wrapper)
-    (map packet_out (packets_of other t.sent) ++ b.asks) b.answers
-    (untroubled (on_line (at_rest other) old) (events_of other t b.asks) b.answers b.refusals (on_line (at_rest other) last) b.run
-    b.untroubled) in
     let o = opened size t.wrapper t.command t.spelled old f.mid f.answer f.step in
-    let p = opened other t.wrapper t.command t.spelled old g.mid g.answer g.step in
     let case = o.1.case in
-    let intended = o.1.intended in
-    let same = one_wrapper t.wrapper o.1.command t.command o.1.spelled t.spelled in
-    let intends = subst (λ (c : Cbw). Intends old c.block.items intended) same o.1.intends in
-    let is_case = subst (λ (c : Cbw). IsCase case c.host intended) same o.1.is_case in
-    one_outcome (moment_of case) case t.command intended t.sent old new last heard again
-    (rw a.heard_is (outcome size some t old new a.asks a.only a.answers f o.0 case intended intends is_case (moment_of case) refl
-    (opens_as t.wrapper (on_line (at_rest size) old) f.mid t.command intended case t.spelled intends is_case o.1)))
-    (rw b.heard_is (outcome other more t old last b.asks b.only b.answers g p.0 case intended intends is_case (moment_of case) refl
-    (opens_as t.wrapper (on_line (at_rest other) old) g.mid t.command intended case t.spelled intends is_case p.1)))
+    let is_case = rw (o.1.intends, one_wrapper t.wrapper o.1.command t.command o.1.spelled t.spelled) at o.1.is_case in (
+      case,
+      (
+        is_case,
+        rw a.heard_is (outcome size some t old new a.asks a.only a.answers f o.0 case _ refl is_case (moment_of case) refl
+            (opens_as t.wrapper (on_line (at_rest size) old) f.mid t.command _ case t.spelled refl is_case o.1)),
+      ),
+    )
+
+one_transfer : (size other : ℕ) → 0 < size → 0 < other → (t : Transfer) (old new last : UnitState) (heard again : Heard)
+    → IsTransferred size t old new heard → IsTransferred other t old last again → (new ≡ last) × (heard ≡ again)
+one_transfer size other some more t old new last heard again a b =
+    let p = transferred size some t old new heard a in
+    let q = transferred other more t old last again b in
+    one_outcome (moment_of p.0) p.0 t.command _ t.sent old new last heard again p.1.1
+    (rw (one_case q.0 p.0 _ _ q.1.0 p.1.0) at q.1.1)
 
 pub sizes_alike : SizesAreAlike
 sizes_alike size other some more [] old new last [] [] a b = (a ∙ sym b, refl)

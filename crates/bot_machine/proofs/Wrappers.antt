@@ -45,6 +45,12 @@ pub at_once-takes_none : (case : Case) (host intended : Way) → IsCase case hos
     → (n : ℕ) → intended ≢ Out n
 at_once-takes_none case host intended is moment n e = grind arith
 
+-- and it writes nothing
+pub at_once-writes_none : (unit : UnitState) (block taken : List ℕ) (case : Case) (host intended : Way) → Intends unit block intended
+    → IsCase case host intended → moment_of case ≡ at_once → write_in_progress unit block taken ≡ None
+at_once-writes_none unit block taken case host intended intends is moment = keeps_intentions.unwritten unit block taken
+    (λ n out. at_once-takes_none case host intended is moment n (intends ∙ ap way_of out))
+
 -- a command that is carried out after its data does not intend to send any
 pub after_data-sends_none : (case : Case) (host intended : Way) → IsCase case host intended → moment_of case ≡ after_data
     → (n : ℕ) → intended ≢ In n
@@ -171,9 +177,8 @@ module _ {M : Type 0} (unit : UnitValue M) (book : Book) (size : IsOfSize unit b
   -- a command that is carried out at once writes nothing
   pub no_write : (taken : List ℕ) → at_once ≡ moment_of exchange.case
       → write_in_progress (state_of unit book) exchange.command.block.items taken ≡ None
-  no_write taken moment = keeps_intentions.unwritten (state_of unit book) exchange.command.block.items taken
-      (λ n out. at_once-takes_none exchange.case exchange.command.host exchange.intended begun.is_case (sym moment) n
-      (intends ∙ ap way_of out))
+  no_write taken moment = at_once-writes_none (state_of unit book) exchange.command.block.items taken exchange.case exchange.command.host
+      exchange.intended intends begun.is_case (sym moment)
 
   -- and it is carried out in the event of its wrapper
   pub carries_out : at_once ≡ moment_of exchange.case

@@ -1,5 +1,5 @@
 -- What the parts of an event do to the unit and to the line.
-use Rattle.std.specs.Prelude.{◌≡◌, ◌<◌, ◌≤◌, ◌*◌, ◌⊎◌, ℕ, false, List, length, take, None, Result}
+use Rattle.std.specs.Prelude.{◌≡◌, ◌<◌, ◌≤◌, ◌*◌, ℕ, Bool, List, length, Result}
 use Rattle.spec.specs.declared.wrapper.Cbw.{Cbw}
 use Rattle.spec.specs.declared.case.Case.{Case}
 use Rattle.spec.specs.declared.way.Way.TheVariants as ways
@@ -19,12 +19,13 @@ use Rattle.bot_machine.specs.declared.bulk_state.Taking.{Taking}
 use Rattle.bot_machine.specs.declared.bulk_state.Phase.TheVariants.{Command, DataOut}
 use Rattle.bot_machine.specs.declared.bulk_state.BulkState.{BulkState}
 use Rattle.spec.specs.Packets.{bytes_of}
-use Rattle.spec.specs.Exchange.{Line, Script, moment_of, at_once}
-use Rattle.spec.specs.Conversation.{IsCarriedOut, OpensExchange, Locks, Takes}
+use Rattle.spec.specs.declared.event.Answer.TheVariants.{Ack}
+use Rattle.spec.specs.Exchange.{Line, moment_of, at_once}
+use Rattle.spec.specs.Conversation.{IsCarriedOut, OutStep}
 use Rattle.spec.specs.UnitConversation.{way_of, Intends, write_of_packet, on_line}
-use Rattle.bot_machine.specs.Acts.{PacketCarriesOut}
+use Rattle.bot_machine.specs.Acts.{CarriesOutNone, PacketCarriesOut}
 use Rattle.bot_machine.specs.Promising.{SendsBy}
-use Rattle.bot_machine.specs.Refinement.{taking_of, line_with, IsTaking, IsInPhase}
+use Rattle.bot_machine.specs.Refinement.{IsTaking, IsInPhase}
 use Rattle.bot_machine.specs.Disk.{Proceeds, Elapses, TakesFew, Tells}
 use Rattle.bot_machine.specs.Reading.{LooksBesides}
 
@@ -47,71 +48,34 @@ pub record IsBegun {M : Type 0} (unit : UnitValue M) (packet : List ℕ) (exchan
 abbrev pub LiesIn : List ℕ → Case → List ℕ → Type 0
 LiesIn buffer case out = moment_of case ≡ at_once → buffer ≡ out
 
-module _ {M : Type 0} (before after : State) (old new : UnitValue M) (from to : Line) where
-  -- the command of an exchange is carried out over these bytes
-  abbrev pub CarriesOutOn : Exchange → List ℕ → Type 0
-  CarriesOutOn exchange bytes = (book : Book) → FitsUnit before old book
-      → Proceeds before after old new
-      (λ unit later. IsCarriedOut Intends CarriesOut Ticks (has_refused before after)
-      exchange.case exchange.command exchange.intended bytes (on_line from unit) (on_line to later))
-      (write_in_progress (state_of old book) exchange.command.block.items bytes) book
+-- the command of an exchange is carried out over these bytes
+abbrev pub CarriesOutOn : {M : Type 0} → State → State → UnitValue M → UnitValue M → Line → Line
+    → Exchange → List ℕ → Type 0
+CarriesOutOn before after old new from to exchange bytes = (book : Book) → FitsUnit before old book
+    → Proceeds before after old new
+    (λ unit later. IsCarriedOut Intends CarriesOut Ticks (has_refused before after)
+    exchange.case exchange.command exchange.intended bytes (on_line from unit) (on_line to later))
+    (write_in_progress (state_of old book) exchange.command.block.items bytes) book
 
-  -- a packet comes where a command wrapper is expected
-  abbrev pub BeginsOn : List ℕ → Type 0
-  BeginsOn packet = (book : Book) → FitsUnit before old book → Proceeds before after old new
-      (λ unit later. OpensExchange Intends CarriesOut Ticks (has_refused before after)
-      packet (on_line from unit) (on_line to later)
-      ⊎ Locks Intends CarriesOut Ticks (has_refused before after)
-      packet (on_line from unit) (on_line to later)) None book
-
-  -- a packet comes where data is expected, of which the first bytes of this buffer came already
-  abbrev pub TakesOn : Taking → List ℕ → List ℕ → Type 0
-  TakesOn t taken packet = (book : Book) → FitsUnit before old book → Proceeds before after old new
-      (λ unit later. Takes Intends CarriesOut Ticks (has_refused before after)
-      t.exchange.case t.exchange.command t.exchange.intended (take t.filled taken) t.due
-      packet (on_line from unit) (on_line to later))
-      (write_of_packet from.packet_size false (taking_of t taken) packet (state_of old book)) book
-
--- where a packet, of at most `most` bytes, has no command carried out, the unit stays as it is
-abbrev pub RestsOn : {M : Type 0} → ℕ → State → UnitValue M → UnitValue M → Script → List ℕ
-    → Type 0
-RestsOn most before old new left packet = (book : Book) → FitsUnit before old book
-    → ((block taken : List ℕ)
-    → PacketCarriesOut most false left packet (state_of old book) block taken → ⊥)
-    → new ≡ old
-
--- Where a packet, of at most `most` bytes, has a command carried out, the unit makes no call of
--- the medium that it does not need, no more than its calls of the store add up to, and the line is
--- to tell its answer.
-abbrev pub SparesOn : {M : Type 0} → ℕ → State → State → UnitValue M → UnitValue M → Line
-    → Script → List ℕ → Type 0
-SparesOn most before after old new to left packet = (book : Book) → FitsUnit before old book
-    → (block taken : List ℕ)
-    → PacketCarriesOut most false left packet (state_of old book) block taken
-    → (answer : Result (List ℕ) Sense) × IsSparing before after block taken old answer new
-    × IsBounded before after block taken old × Tells answer to
-
--- a packet, of at most `most` bytes, has as few calls made that write as its command promises
-abbrev pub SendsOn : {M : Type 0} → ℕ → State → State → UnitValue M → Script → List ℕ → Type 0
-SendsOn most before after old left packet = (book : Book) → IsOfSize old book
-    → SendsBy before after old (state_of old book)
-    (PacketCarriesOut most false left packet (state_of old book))
-
--- A packet takes data, of which the first bytes of this buffer came already: by the rules, and the
--- unit rests where no command is carried out, and makes few calls where one is.
-pub record TakesFor {M : Type 0} (before after : State) (old new : UnitValue M) (from : BulkState)
-    (to : Line) (taken packet : List ℕ) (pending : Taking) : Type 0 where
-  pub takes : (left : Script)
-      → TakesOn before after old new (line_with from left) to pending taken packet
-  pub rests : RestsOn (bytes_of from.size) before old new (taking_of pending taken) packet
-  pub spares : SparesOn (bytes_of from.size) before after old new to (taking_of pending taken)
-      packet
-  pub sends : SendsOn (bytes_of from.size) before after old (taking_of pending taken) packet
-
-abbrev pub TakesData : {M : Type 0} → State → State → UnitValue M → UnitValue M → BulkState → Line
-    → List ℕ → List ℕ → Type 0
-TakesData before after old new from to taken packet = (pending : Taking)
-    → from.phase ≡ DataOut pending → TakesFor before after old new from to taken packet pending
+-- A packet comes to Bulk-Out, which is halted or not: it is taken by the rules.
+pub record ServesPacket {M : Type 0} (before after : State) (old new : UnitValue M)
+    (from to : Line) (halted : Bool) (packet : List ℕ) : Type 0 where
+  pub proceeds : (book : Book) → FitsUnit before old book → Proceeds before after old new
+      (λ unit later. OutStep Intends CarriesOut Ticks (has_refused before after) halted from.left
+      packet (on_line from unit) Ack (on_line to later))
+      (write_of_packet from.packet_size halted from.left packet (state_of old book)) book
+  -- where it has no command carried out, the unit stays as it is
+  pub rests : (book : Book) → FitsUnit before old book → CarriesOutNone
+      (PacketCarriesOut from.packet_size halted from.left packet (state_of old book)) → new ≡ old
+  -- where it has one, the unit makes no call of the medium that it does not need, no more than its
+  -- calls of the store add up to, and the line is to tell its answer
+  pub spares : (book : Book) → FitsUnit before old book → (block taken : List ℕ)
+      → PacketCarriesOut from.packet_size halted from.left packet (state_of old book) block taken
+      → (answer : Result (List ℕ) Sense) × IsSparing before after block taken old answer new
+      × IsBounded before after block taken old × Tells answer to
+  -- it has as few calls made that write as its command promises
+  pub sends : (book : Book) → IsOfSize old book → SendsBy before after old (state_of old book)
+      (PacketCarriesOut from.packet_size halted from.left packet (state_of old book))
 
 -- A part of an event passes these on: a phase that the unit allows, its limit and the size of a
 -- packet as they were, and the medium, which comes after what it was by few calls, and of which no
@@ -125,14 +89,6 @@ pub record HandsOn {M : Type 0} (state : M → State) (Follows : M → M → Typ
   pub looks : LooksBesides At (state old.store.medium) (state new.store.medium) old
   pub elapses : Elapses (state old.store.medium) (state new.store.medium)
   pub follows : Follows old.store.medium new.store.medium
-
--- what a part of an event that takes the last data, or data of a wrong size, does and passes on
-pub record EndsData {M : Type 0} (state : M → State) (Follows : M → M → Type 0)
-    (old new : UnitValue M) (from to : BulkState) (line : Line) (taken packet : List ℕ)
-    : Type 0 where
-  pub serves : TakesData (state old.store.medium) (state new.store.medium) old new from line taken
-      packet
-  pub passes : HandsOn state Follows (λ _. ⊥) old new from to
 
 -- ---- what these parts ask for
 

@@ -1,6 +1,6 @@
 //! What the disk does with a packet to Bulk-Out.
 ghost use Rattle.std.specs.Prelude.{◌≡◌, ◌≤◌, ◌+◌, ◌-◌, ◌*◌, ◌++◌, ℕ, List, Result};
-ghost use Rattle.std.specs.Prelude.{MatchOption, None, length, min, take};
+ghost use Rattle.std.specs.Prelude.{MatchOption, None, false, length, min, take};
 ghost use Rattle.spec.specs.Cases.{size_of_way};
 ghost use Rattle.spec.specs.CommandWrapper.{SpellsNone};
 ghost use Rattle.spec.specs.Sense.{Sense};
@@ -10,13 +10,11 @@ ghost use Rattle.scsi_unit.specs.Calls.{IsBounded};
 ghost use Rattle.scsi_unit.specs.Serving.{IsSparing};
 ghost use Rattle.scsi_unit.specs.UnitValue.{unit_limit};
 ghost use Rattle.bot_machine.specs.Disk.{Tells};
-ghost use Rattle.spec.specs.Exchange.{Script, finished};
+ghost use Rattle.spec.specs.Exchange.{Script};
 ghost use Rattle.bot_machine.specs.Refinement.{line_of, line_with, LaysOut};
-ghost use Rattle.spec.specs.Packets.{bytes_of};
-ghost use Rattle.bot_machine.specs.Serving.{IsBegun, CarriesOutOn, BeginsOn, RestsOn, SparesOn};
-ghost use Rattle.bot_machine.specs.Serving.{TakesData, HandsOn, EndsData, CanCarryOut, LiesIn};
+ghost use Rattle.bot_machine.specs.Serving.{IsBegun, CarriesOutOn, ServesPacket, HandsOn};
+ghost use Rattle.bot_machine.specs.Serving.{CanCarryOut, LiesIn};
 ghost use Rattle.bot_machine.specs.Serving.{AwaitsWrapper, AwaitsData, AwaitsEnd, HasMoreDue};
-ghost use Rattle.bot_machine.specs.Serving.{SendsOn};
 ghost use Rattle.scsi_unit.specs.Reading.{IsOneOf};
 ghost use Rattle.bot_machine.specs.Reading.{sectors_for, WrapperReadsAt};
 
@@ -88,16 +86,9 @@ pub(crate) fn open<M: Medium>(
     packet: &[u8],
 )
     requires { AwaitsWrapper (unit_limit unit.old) bulk.old transfer.old }
-    ensures opens { BeginsOn
+    ensures serves { ServesPacket
         (M.state unit.old.store.medium) (M.state unit.new.store.medium) unit.old unit.new
-        (line_of bulk.old transfer.old) (line_of bulk.new transfer.new) packet.now }
-    ensures rests { RestsOn (bytes_of bulk.old.size) (M.state unit.old.store.medium)
-        unit.old unit.new finished packet.now }
-    ensures spares { SparesOn (bytes_of bulk.old.size)
-        (M.state unit.old.store.medium) (M.state unit.new.store.medium) unit.old unit.new
-        (line_of bulk.new transfer.new) finished packet.now }
-    ensures sends { SendsOn (bytes_of bulk.old.size) (M.state unit.old.store.medium)
-        (M.state unit.new.store.medium) unit.old finished packet.now }
+        (line_of bulk.old transfer.old) (line_of bulk.new transfer.new) false packet.now }
     ensures passes { HandsOn M.state M.follows (WrapperReadsAt unit.old packet.now)
         unit.old unit.new bulk.old bulk.new }
 {
@@ -130,8 +121,9 @@ pub(crate) fn take_data<M: Medium>(
     packet: &[u8],
 )
     requires { AwaitsData unit.old bulk.old transfer.old }
-    ensures serves { TakesData (M.state unit.old.store.medium) (M.state unit.new.store.medium)
-        unit.old unit.new bulk.old (line_of bulk.new transfer.new) transfer.old packet.now }
+    ensures serves { ServesPacket
+        (M.state unit.old.store.medium) (M.state unit.new.store.medium) unit.old unit.new
+        (line_of bulk.old transfer.old) (line_of bulk.new transfer.new) false packet.now }
     ensures passes { HandsOn M.state M.follows (λ _. ⊥) unit.old unit.new bulk.old bulk.new }
 {
     let Phase::DataOut(pending) = &mut bulk.phase else {
@@ -166,8 +158,10 @@ fn take_more(pending: &mut Taking, taken: &mut [u8], packet: &[u8], most: u32)
 #[inline(never)]
 fn end_data<M: Medium>(unit: &mut Unit<M>, bulk: &mut BulkState, transfer: &mut [u8], packet: &[u8])
     requires { AwaitsEnd unit.old bulk.old transfer.old packet.now }
-    ensures { EndsData M.state M.follows unit.old unit.new bulk.old bulk.new
-        (line_of bulk.new transfer.new) transfer.old packet.now }
+    ensures serves { ServesPacket
+        (M.state unit.old.store.medium) (M.state unit.new.store.medium) unit.old unit.new
+        (line_of bulk.old transfer.old) (line_of bulk.new transfer.new) false packet.now }
+    ensures passes { HandsOn M.state M.follows (λ _. ⊥) unit.old unit.new bulk.old bulk.new }
 {
     let Phase::DataOut(pending) = mem::replace(&mut bulk.phase, Phase::Command) else {
         unreachable!()
