@@ -16,7 +16,7 @@ use Rattle.spec.specs.Exchange.{Script, finished, taking, sending, at_once, mome
 use Rattle.spec.specs.Conversation.{Conversation, OpensExchange, Takes, OutStep}
 use Rattle.spec.specs.UnitConversation.{Intends, UnitStep, write_of_packet, write_of_event}
 use Rattle.bot_machine.specs.Acts.{CarriesOutAtOnce, CarriesOutLast, PacketCarriesOut, EventCarriesOut}
-use Rattle.bot_machine.proofs.Wrappers.{at_once-writes_none}
+use Rattle.bot_machine.proofs.Wrappers.{at_once-writes_none, carries_at_once}
 use Rattle.bot_machine.proofs.UnitLaws.{keeps_writes, stays_faulted, ticks_only}
 use Rattle.spec.specs.Book.{Book}
 use Rattle.spec.specs.declared.command.Command.{Command}
@@ -38,18 +38,7 @@ module _ (P : Option Write → Type 0) (refused : Bool) (old new : Conversation 
       → OpensExchange Intends CarriesOut Ticks refused packet old new → P None
   opened packet carried o =
       let none = at_once-writes_none old.unit o.command.block.items [] o.case o.command.host o.intended o.intends o.is_case in
-      let carries : moment_of o.case ≡ at_once → CarriesOutAtOnce packet old.unit o.command.block.items [] =
-      λ now. record {
-        command = o.command;
-        intended = o.intended;
-        case = o.case;
-        spelled = o.spelled;
-        intends = o.intends;
-        is_case = o.is_case;
-        is_at_once = now;
-        block_is = refl;
-        none_taken = refl;
-      } in
+      let carries = carries_at_once packet old.unit o.command o.intended o.case o.spelled o.intends o.is_case in
       let begins = o.begins in
       grind (arith, none, carries, carried)
 

@@ -8,6 +8,5 @@ pub mod Transfers
 pub mod Moved
 pub mod StruckTicks
 pub mod LifeActions
-pub mod ArmedFaults
 pub mod LifeStarts
 pub mod LifeRuns

@@ -1,6 +1,6 @@
--- What happens in a life: an event comes, the power is cut.
+-- What happens in a life: an event comes, the power is cut, a fuse or a failure is armed.
 use Rattle.std.specs.Prelude.{if◌then◌else◌}
-use Rattle.std.proofs.Common.{◌≡◌, ℕ, Bool, true, false, nat_lt, List, [], ◌∷◌, None, refl, sym, subst, ◌∙◌, ap, arith, inl, inr}
+use Rattle.std.proofs.Common.{◌≡◌, ℕ, Bool, true, false, nat_lt, List, [], ◌∷◌, None, Some, Option, refl, sym, subst, ◌∙◌, ap, arith, inl, inr}
 use Rattle.std.proofs.lemmas.Bool.{false≢true}
 use Rattle.std.proofs.lemmas.List.{append-nil}
 use Rattle.medium.specs.Medium.{State, Image, CutLeaves}
@@ -29,12 +29,12 @@ use Rattle.spec.specs.Rules.{UnitState}
 use Rattle.scsi_unit.specs.UnitValue.{unit_limit}
 use Rattle.bot_machine.proofs.UnitLaws.{limit_between_calls}
 use Rattle.bot_machine.proofs.Runs.{one_counted}
-use Rattle.spec.specs.Lives.{Action, plays, cuts, Remains, Place, before_first, runs, off, Standing, after_cut, LivesStep, LivesRun}
+use Rattle.spec.specs.Lives.{Action, plays, cuts, arms, fails, Remains, Place, before_first, runs, off, Standing, after_cut, LivesStep, LivesRun}
 use Rattle.spec.specs.Blocks.{Array}
 use Rattle.bot_machine.specs.Moving.{Does, EventMovesIn, EventMoves}
-use Rattle.bot_machine.proofs.Moved.{one_move, none_refused, some_refused, caused_once}
+use Rattle.bot_machine.proofs.Moved.{one_move, none_refused, some_refused, caused_once, one_fuse_more}
 use Rattle.bot_machine.specs.LivesValue.{LivesValue, medium_in, state_in, OpensOn, HasLimit, IsAt, LimitAt, book_at, FoundAt, FitsLives}
-use Rattle.bot_machine.specs.LivesValue.{LivesGoTo, LivesGoOn}
+use Rattle.bot_machine.specs.LivesValue.{LivesGoTo, LivesGoOn, AreCaused}
 use Rattle.scsi_unit.specs.Serving.{has_refused}
 
 -- one action is a run
@@ -61,25 +61,37 @@ module _ (device : Device) where
   abbrev pub lives_at : DiskState → LivesValue
   lives_at state = record { device = device; state = state }
 
+  -- one action in which the medium refused no call: lives stand there afterwards
+  pub goes_quietly : (action : Action) (answers : List Answer) (old new : DiskState) (there : Standing → Standing)
+      → Does device old action answers new → (state_in new).failures ≡ (state_in old).failures
+      → AreCaused (medium_in old) (action ∷ []) (false ∷ []) (medium_in new) → (state_in new).size ≡ (state_in old).size
+      → ((here : Standing) → FitsLives (lives_at old) here → LivesStep (presented device) false here action answers (there here)
+      × FitsLives (lives_at new) (there here))
+      → ((here : Standing) → ((book_at (there here).place).ours ≡ (book_at here.place).ours) × ((there here).limit ≡ here.limit))
+      → LivesGoOn (lives_at old) (action ∷ []) answers (lives_at new)
+  goes_quietly action answers old new there does same caused size goes stays = record {
+    refusals = false ∷ [];
+    moves = one_move device false old new action answers does (none_refused (state_in old) (state_in new) same);
+    refused = omega (arith, same);
+    caused = caused;
+    goes = λ here fits. record {
+      there = there here;
+      run = one_run device false here (there here) action answers (goes here fits).0;
+      fits = (goes here fits).1;
+      ours = (stays here).0;
+      limit_stays = λ ours. (stays here).1;
+    };
+    size_stays = size;
+    device_stays = refl;
+  }
+
   -- nothing happens to a disk, or to a medium without one
   pub stays : (state : DiskState) (action : Action) (answers : List Answer) → Does device state action answers state
       → ((here : Standing) → FitsLives (lives_at state) here → LivesStep (presented device) false here action answers here)
       → LivesGoOn (lives_at state) (action ∷ []) answers (lives_at state)
-  stays state action answers does step = record {
-    refusals = false ∷ [];
-    moves = one_move device false state state action answers does (none_refused (state_in state) (state_in state) refl);
-    refused = omega arith;
-    caused = omega arith;
-    goes = λ here fits. record {
-      there = here;
-      run = one_run device false here here action answers (step here fits);
-      fits = fits;
-      ours = refl;
-      limit_stays = λ ours. refl;
-    };
-    size_stays = refl;
-    device_stays = refl;
-  }
+  stays state action answers does step =
+      goes_quietly action answers state state (λ here. here) does refl (omega arith) refl (λ here fits. (step here fits, fits))
+      (λ here. (refl, refl))
 
   -- one action in which the medium was called, while the power was on before it
   pub called_once : (action : Action) (answers : List Answer) (old new : DiskState) → Does device old action answers new
@@ -150,27 +162,18 @@ module _ (device : Device) where
     pub is_cut : LivesGoOn (lives_at state) (cuts keep ∷ []) [] (lives_at (Stopped new))
     is_cut =
         let same = ap of_all cut.refused_stay in
-        record {
-          refusals = false ∷ [];
-          moves = one_move device false state (Stopped new) (cuts keep) [] (refl, cut) (none_refused (state_in state) (state_of new) same);
-          refused = omega (arith, same);
-          caused = let room = cut.without_room_stays in let none = ap faults_in cut.power_on in omega (arith, room, none);
-          goes = λ here fits. record {
-            there = record here { place = after_cut here.place; armed = false };
-            run = one_run device false here (record here { place = after_cut here.place; armed = false }) (cuts keep) [] (refl, refl);
-            fits = record {
-              is_at = cut_place here.place fits.is_at;
-              limit_at = cut_limit_at here.place here.limit fits.is_at fits.limit_at;
-              limited = λ ours. left_before (λ n. HasLimit n here.limit) (fits.limited (sym (book_after_cut here.place) ∙ ours));
-              found = cut_found here.place fits.found;
-              unfused = λ unarmed. ap (λ (p : Power). p.fuse) cut.power_on;
-            };
-            ours = book_after_cut here.place;
-            limit_stays = λ ours. refl;
-          };
-          size_stays = size;
-          device_stays = refl;
-        }
+        let room = cut.without_room_stays in
+        let none = ap faults_in cut.power_on in
+        goes_quietly (cuts keep) [] state (Stopped new) (λ here. record here { place = after_cut here.place; armed = false }) (refl, cut)
+        same (omega (arith, room, none)) size
+        (λ here fits. ((refl, refl), record {
+          is_at = cut_place here.place fits.is_at;
+          limit_at = cut_limit_at here.place here.limit fits.is_at fits.limit_at;
+          limited = λ ours. left_before (λ n. HasLimit n here.limit) (fits.limited (sym (book_after_cut here.place) ∙ ours));
+          found = cut_found here.place fits.found;
+          unfused = λ unarmed. ap (λ (p : Power). p.fuse) cut.power_on;
+        }))
+        (λ here. (book_after_cut here.place, refl))
 
   -- ---- an event
 
@@ -303,3 +306,84 @@ module _ (device : Device) where
       stays (Running disk) (plays event) (Off ∷ [])
       (Off, refl, subst (λ (b : Bool). EventMovesIn b disk event Off (Running disk)) (sym is_off) (refl, refl))
       (λ here fits. grind arith)
+
+  -- ---- a fuse or a failure is armed
+
+  -- the medium with this fuse and this failure armed
+  abbrev pub armed : Option ℕ → Option ℕ → Sim → Sim
+  armed fuse fail m = record m { power = record m.power { fuse = fuse; fail = fail } }
+
+  -- a disk over it
+  abbrev pub on_medium : Sim → DiskValue Sim → DiskValue Sim
+  on_medium m disk = record disk { unit = record disk.unit { store = record disk.unit.store { medium = m } } }
+
+  -- whatever is armed, lives stand where they stood
+  module _ (state new : DiskState) (same : state_in new ≡ state_in state) (at : (place : Place) → IsAt place state → IsAt place new) where
+    limit_still : (place : Place) (limit : ℕ) → LimitAt place limit state → LimitAt place limit new
+    limit_still place limit h = grind (arith, same)
+
+    arms_so : (action : Action) (set : Bool → Bool) → AreCaused (medium_in state) (action ∷ []) (false ∷ []) (medium_in new)
+        → Does device state action [] new
+        → ((here : Standing) → LivesStep (presented device) false here action [] (record here { armed = set here.armed }))
+        → ((is : Bool) → (is ≡ false → (medium_in state).power.fuse ≡ None) → set is ≡ false → (medium_in new).power.fuse ≡ None)
+        → LivesGoOn (lives_at state) (action ∷ []) [] (lives_at new)
+    arms_so action set caused does step unfused =
+        goes_quietly action [] state new (λ here. record here { armed = set here.armed }) does (ap (λ (m : State). m.failures) same)
+        caused (ap (λ (m : State). m.size) same)
+        (λ here fits. (step here, record {
+          is_at = at here.place fits.is_at;
+          limit_at = limit_still here.place here.limit fits.limit_at;
+          limited = λ ours. subst (λ (m : State). EachCut (HasLimit m.size here.limit) m) (sym same) (fits.limited ours);
+          found = λ ours. subst (λ (m : State). EachCut (FoundAt m.size here.place) m) (sym same) (fits.found ours);
+          unfused = unfused here.armed fits.unfused;
+        }))
+        (λ here. (refl, refl))
+
+    arms_fuse : (writes : ℕ) → AreCaused (medium_in state) (arms writes ∷ []) (false ∷ []) (medium_in new)
+        → Does device state (arms writes) [] new → LivesGoOn (lives_at state) (arms writes ∷ []) [] (lives_at new)
+    arms_fuse writes caused does =
+        arms_so (arms writes) (λ is. true) caused does (λ here. (refl, refl)) (λ is unfused e. absurd (false≢true (sym e)))
+
+  armed_at_rest : (fuse fail : Option ℕ) (m : Sim) (place : Place) → IsAt place (Stopped m) → IsAt place (Stopped (armed fuse fail m))
+  armed_at_rest fuse fail m place h = grind arith
+
+  armed_running : (fuse fail : Option ℕ) (disk : DiskValue Sim) (place : Place) → IsAt place (Running disk)
+      → IsAt place (Running (on_medium (armed fuse fail disk.unit.store.medium) disk))
+  armed_running fuse fail disk place h = grind arith
+
+  abbrev pub fused : ℕ → Sim → Sim
+  fused writes m = armed (Some writes) m.power.fail m
+
+  pub arms_medium : (writes : ℕ) (m new : Sim) → new ≡ fused writes m
+      → LivesGoOn (lives_at (Stopped m)) (arms writes ∷ []) [] (lives_at (Stopped new))
+  arms_medium writes m new e =
+      rw e (arms_fuse (Stopped m) (Stopped (fused writes m)) refl (armed_at_rest (Some writes) m.power.fail m) writes
+      (omega (arith, one_fuse_more writes m)) (refl, refl))
+
+  pub arms_disk : (writes : ℕ) (disk new : DiskValue Sim) → new.unit.store.medium ≡ fused writes disk.unit.store.medium
+      → new ≡ on_medium new.unit.store.medium disk
+      → LivesGoOn (lives_at (Running disk)) (arms writes ∷ []) [] (lives_at (Running new))
+  arms_disk writes disk new e others =
+      let m = disk.unit.store.medium in
+      rw (others ∙ ap (λ (m : Sim). on_medium m disk) e) (arms_fuse (Running disk) (Running (on_medium (fused writes m) disk)) refl
+      (armed_running (Some writes) m.power.fail disk) writes (omega (arith, one_fuse_more writes m)) (refl, (refl, refl)))
+
+  abbrev pub failing : ℕ → Sim → Sim
+  failing call m = armed m.power.fuse (Some call) m
+
+  pub fails_medium : (call : ℕ) (m new : Sim) → new ≡ failing call m
+      → LivesGoOn (lives_at (Stopped m)) (fails call ∷ []) [] (lives_at (Stopped new))
+  fails_medium call m new e =
+      rw e (arms_so (Stopped m) (Stopped (failing call m)) refl (armed_at_rest m.power.fuse (Some call) m) (fails call) (λ is. is)
+      (omega arith) (refl, refl) (λ here. (refl, refl)) (λ is unfused e. unfused e))
+
+  pub fails_disk : (call : ℕ) (disk new : DiskValue Sim) → new.unit.store.medium ≡ failing call disk.unit.store.medium
+      → new ≡ on_medium new.unit.store.medium disk
+      → LivesGoOn (lives_at (Running disk)) (fails call ∷ []) [] (lives_at (Running new))
+  fails_disk call disk new e others =
+      let m = disk.unit.store.medium in
+      rw (others ∙ ap (λ (m : Sim). on_medium m disk) e) (arms_so (Running disk) (Running (on_medium (failing call m) disk)) refl
+      (armed_running m.power.fuse (Some call) disk) (fails call) (λ is. is) (omega arith) (refl, (refl, refl)) (λ here. (refl, refl))
+      (λ is unfused e. unfused e))
+
+pub ruleset arming = (arms_medium, arms_disk, fails_medium, fails_disk)

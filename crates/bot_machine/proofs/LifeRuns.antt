@@ -12,7 +12,7 @@ use Rattle.spec.specs.Lives.{Action, starts, Standing, LivesRun}
 use Rattle.bot_machine.specs.declared.lives.disk_state.DiskState.{DiskState}
 use Rattle.bot_machine.specs.declared.lives.disk_state.DiskState.TheVariants.{Stopped}
 use Rattle.bot_machine.specs.Moving.{MovesBy}
-use Rattle.bot_machine.specs.Lifetimes.{AppendsFor, actions_of, actions_of_all, armed_by, events_in, AreLived, AreLivedUpTo}
+use Rattle.bot_machine.specs.Lifetimes.{StandsFirst, AppendsFor, actions_of, actions_of_all, armed_by, events_in, AreLived, AreLivedUpTo}
 use Rattle.bot_machine.specs.Lifetimes.{KeepsPromiseUpTo, IsRefusedFor}
 use Rattle.bot_machine.specs.LivesValue.{LivesValue, medium_in, state_in, AreCaused, LeavesLimit, FitsLives, LivesGoTo, LivesGoOn}
 use Rattle.bot_machine.specs.LivesValue.{MayRefuse, LivesStopAt, LivesStop, IsAtRest, OpensOn, HasLimit, FoundAt, RestsAlone}
@@ -35,9 +35,7 @@ pub LivesRun-append : (device : Device) (xs ys : List Action) (told more : List 
     → LivesRun (presented device) b ys more others c
     → LivesRun (presented device) a (xs ++ ys) (told ++ more) (refusals ++ others) c
 LivesRun-append device [] ys told more [] others a b c r s =
-    let moved : LivesRun (presented device) a ys more others c =
-    subst (λ (x : Standing). LivesRun (presented device) x ys more others c) r.1 s in
-    subst (λ (l : List Answer). LivesRun (presented device) a ys (l ++ more) others c) (sym r.0) moved
+    rw (r.0, ← r.1) s
 LivesRun-append device (x ∷ xs) ys told more (refused ∷ refusals) others a b c r s = (
   r.0,
   r.1,
@@ -69,14 +67,12 @@ module _ (a b c : LivesValue) (xs ys : List Action) (told more : List Answer) (f
   -- the first part, by the device at the end
   pub first_run : c.device ≡ b.device → (here : Standing) (fits : FitsLives a here)
       → LivesRun (presented c.device) here xs told first.refusals (first.goes here fits).there
-  first_run same here fits =
-      subst (λ (i : Device). LivesRun (presented i) here xs told first.refusals (first.goes here fits).there) (sym same)
-      (first.goes here fits).run
+  first_run same here fits = rw (← same) at (first.goes here fits).run
 
   -- the second part, by the device at the beginning
   pub next_moves : (others : List Bool) (state : DiskState) → MovesBy b.device b.state ys more others state
       → MovesBy a.device b.state ys more others state
-  next_moves others state moves = subst (λ (i : Device). MovesBy i b.state ys more others state) first.device_stays moves
+  next_moves others state moves = rw first.device_stays at moves
 
   -- lives go on, and go on
   pub lives_go_on : LivesGoOn b ys more c → LivesGoOn a (xs ++ ys) (told ++ more) c
@@ -150,8 +146,7 @@ module _ (a b c : LivesValue) (xs ys : List Action) (told more : List Answer) (f
             opens = last.opens;
             ours = last.ours ∙ mid.ours;
             cause = λ ours. more_refused last.book fault _ _ (state_in c.state).failures less (last.cause ours);
-            limited = λ ours.
-                subst (λ (n : ℕ). LeavesLimit n c.state) (mid.limit_stays (sym (last.ours ∙ mid.ours) ∙ ours)) (last.limited ours);
+            limited = λ ours. rw (mid.limit_stays (sym (last.ours ∙ mid.ours) ∙ ours)) at (last.limited ours);
             found = last.found;
           }
 
@@ -236,11 +231,9 @@ pub not_for_a_fuse : (fuse : Option ℕ) (old armed : LivesValue) (after : State
 not_for_a_fuse None old armed after fault same h = subst (λ (x : LivesValue). IsNotOpened (state_in x.state) after fault) same h
 not_for_a_fuse (Some writes) old armed after fault fused h = subst (λ (m : Sim). IsNotOpened (state_of m) after fault) fused h
 
--- the first lives, over a medium that opens with this book
-pub first_fits : (m : Sim) (device : Device) → IsAtRest m → m.power.fuse ≡ None → (limit : ℕ) (book : Book) → OpensOn (state_of m) book
-    → HasLimit (state_of m).size limit (state_of m).content
-    → FitsLives (record { device = device; state = Stopped m }) (first_standing limit book)
-first_fits m device rest unfused limit book opens has = record {
+-- the first lives, over a medium that opens with a book
+pub first_fits : (m : Sim) (device : Device) → StandsFirst m (record { device = device; state = Stopped m })
+first_fits m device limit book rest unfused opens has = record {
   is_at = (rest, opens);
   limit_at = has;
   limited = λ ours. first_limited m limit rest.flushed has;
@@ -262,7 +255,7 @@ module _ (m : Sim) (device : Device) (rest : IsAtRest m) (unfused : m.power.fuse
       caused = few_causes m (medium_in after.state) (actions_of_all lives) on.refusals on.caused;
       lives = kept;
     };
-    moves = subst (λ (x : DiskState). MovesBy device (Stopped m) (actions_of_all lives) told on.refusals x) ended.alone on.moves;
+    moves = rw ended.alone at on.moves;
     rests = ended.rests;
     unfused = ended.unfused;
     size_stays = on.size_stays;
@@ -279,14 +272,12 @@ module _ (m : Sim) (device : Device) (rest : IsAtRest m) (unfused : m.power.fuse
           on.refusals Leaves
       kept limit book opens has =
           let here : Standing = first_standing limit book in
-          let g = on.goes here (first_fits m device rest unfused limit book opens has) in
+          let g = on.goes here (first_fits m device limit book rest unfused opens has) in
           record {
             last = g.there;
-            run = subst (λ (x : Device). LivesRun (presented x) here (actions_of_all lives) told on.refusals g.there) on.device_stays g.run;
-            limited = λ ours image cut. subst (λ (n : ℕ). HasLimit n limit image) on.size_stays
-                (subst (λ (n : ℕ). LeavesLimit n after.state) (g.limit_stays ours) (g.fits.limited (g.ours ∙ ours)) image cut);
-            found = λ ours image cut. subst (λ (n : ℕ). FoundAt n g.there.place image) on.size_stays
-                (g.fits.found (g.ours ∙ ours) image cut);
+            run = rw on.device_stays at g.run;
+            limited = λ ours image cut. rw (g.limit_stays ours, on.size_stays) at (g.fits.limited (g.ours ∙ ours) image cut);
+            found = λ ours image cut. rw on.size_stays at (g.fits.found (g.ours ∙ ours) image cut);
           }
 
 module _ (m : Sim) (device : Device) (rest : IsAtRest m) (unfused : m.power.fuse ≡ None) (mid after : LivesValue) (told : List Answer)
@@ -304,10 +295,7 @@ module _ (m : Sim) (device : Device) (rest : IsAtRest m) (unfused : m.power.fuse
   stop = lives_stop begun mid after (actions_of_all lived) (armed_by life.fuse) told [] on fault told (append-nil told) last
 
   arms : MovesBy device (Stopped (medium_in mid.state)) (armed_by life.fuse) [] last.refusals (Stopped last.at)
-  arms =
-      subst (λ (i : Device). MovesBy i (Stopped (medium_in mid.state)) (armed_by life.fuse) [] last.refusals (Stopped last.at))
-      on.device_stays
-      (subst (λ (x : DiskState). MovesBy mid.device x (armed_by life.fuse) [] last.refusals (Stopped last.at)) ended.alone last.moves)
+  arms = rw on.device_stays at (rw ended.alone at last.moves)
 
   abbrev actions : List Action
   actions = actions_of_all lived ++ armed_by life.fuse
@@ -315,7 +303,7 @@ module _ (m : Sim) (device : Device) (rest : IsAtRest m) (unfused : m.power.fuse
   at_stop : (limit : ℕ) (book : Book) → OpensOn (state_of m) book → HasLimit (state_of m).size limit (state_of m).content
       → LivesStopAt after (first_standing limit book) actions told stop.refusals
       (refused_events stop.refusals + (state_of m).failures) fault
-  at_stop limit book opens has = stop.goes (first_standing limit book) (first_fits m device rest unfused limit book opens has)
+  at_stop limit book opens has = stop.goes (first_standing limit book) (first_fits m device limit book rest unfused opens has)
 
   kept_up_to : (limit : ℕ) (book : Book) → OpensOn (state_of m) book → HasLimit (state_of m).size limit (state_of m).content
       → AreKeptUpTo (StandsForSome (state_of m).size) (StandsAs (state_of m).size) (HasLimit (state_of m).size) (presented device) limit
@@ -328,8 +316,8 @@ module _ (m : Sim) (device : Device) (rest : IsAtRest m) (unfused : m.power.fuse
             stop.device_stays g.run;
         next = g.book;
         opens = g.opens;
-        limited = λ ours image cut. subst (λ (n : ℕ). HasLimit n limit image) stop.size_stays (g.limited (g.ours ∙ ours) image cut);
-        found = λ ours image cut. subst (λ (n : ℕ). MayFind n g.book image) stop.size_stays (g.found (g.ours ∙ ours) image cut);
+        limited = λ ours image cut. rw stop.size_stays at (g.limited (g.ours ∙ ours) image cut);
+        found = λ ours image cut. rw stop.size_stays at (g.found (g.ours ∙ ours) image cut);
       }
 
   abbrev keeps : KeepsPromiseUpTo m device actions told (medium_in after.state)

@@ -172,22 +172,15 @@ module _ (m : Sim) (on : m.power.off ≡ false) where
       → WouldOpen (state_of m) place blocks array stamp
   would_open blocks array stamp (before_first book) is found = record { book = book; opens = refl; ours = refl; stands = inl is.1 }
   would_open blocks array stamp (between remains) is found = next_opens m remains blocks array stamp found
-  would_open blocks array stamp (runs conversation) is found = absurd is
-  would_open blocks array stamp (off remains) is found = absurd (false≢true (sym on ∙ is))
+  would_open blocks array stamp place is found = grind (arith, on)
 
 -- ---- what a start leaves, where it has no disk
-
--- over a book with which a life would open
-may_find : (before after : Sim) (leaves : StartLeaves (state_of before) (state_of after)) → before.unflushed ≡ []
-    → (book : Book) → OpensOn (state_of before) book → book.ours ≡ true → EachCut (MayFind (state_of after).size book) (state_of after)
-may_find before after leaves none book on ours = leaves.finds book on ours (none_flushed before none)
 
 -- where each image had one limit, each still has it
 limited_start : (before after : Sim) (leaves : StartLeaves (state_of before) (state_of after)) (limit : ℕ) (book : Book)
     → OpensOn (state_of before) book → book.ours ≡ true → LeavesLimit limit (Stopped before) → LeavesLimit limit (Stopped after)
 limited_start before after leaves limit book on ours has =
-    subst (λ (n : ℕ). EachCut (HasLimit n limit) (state_of after)) (sym leaves.bounded.moments.size_stays)
-    (at_exit (HasLimit (state_of before).size limit) (state_of before) (state_of after) (is_sound after)
+    rw leaves.bounded.moments.size_stays (at_exit (HasLimit (state_of before).size limit) (state_of before) (state_of after) (is_sound after)
     (start_keeps_limit (state_of before) (state_of after) limit leaves
     (λ image cut. with_shape (state_of before).size image (on.ours ours image cut)) has))
 
@@ -274,8 +267,7 @@ module _ (device : Device) (m : Sim) (on : m.power.off ≡ false) where
         ∙ ap (λ (u : UnitState). on_line (at_rest device.packet_size) u) (is_opened.unit w.book)) in
         elim (cases_Bool new.power.off) [
           | inl is_off ↦ power_went (Running disk) follows is_off here fits.unfused w.book (unit_limit disk.unit) w.opens w.ours keeps.0
-              (λ ours. subst (λ (n : ℕ). EachCut (HasLimit (state_of new).size n) (state_of new)) (keeps.1 (sym w.ours ∙ ours))
-              (limited ours))
+              (λ ours. rw (keeps.1 (sym w.ours ∙ ours)) at (limited ours))
               found
           | inr still ↦ record {
             there = record here { place = runs (started (unit_limit disk.unit) (presented device) w.book); limit = unit_limit disk.unit };
@@ -294,10 +286,8 @@ module _ (device : Device) (m : Sim) (on : m.power.off ≡ false) where
 
     pub start_has_disk : LivesGoOn (lives_at device (Stopped m)) (starts ∷ []) [] (lives_at device (Running disk))
     start_has_disk =
-        called_once device starts [] (Stopped m) (Running disk) (
-          refl,
-          subst (λ (b : Bool). StartsIn b device m (Running disk)) (sym on) (is_opened, record { leaves = leaves; follows = follows }),
-        )
+        called_once device starts [] (Stopped m) (Running disk)
+        (refl, subst (λ (b : Bool). StartsIn b device m (Running disk)) (sym on) (is_opened, record { leaves = leaves; follows = follows }))
         follows on leaves.bounded.moments.size_stays
         (λ here fits. goes_to (Running disk) (has_refused (state_of m) (state_of new)) here fits (begun here fits))
 
@@ -312,10 +302,8 @@ module _ (device : Device) (m : Sim) (on : m.power.off ≡ false) where
     -- power went in it
     pub start_is_cut : after.power.off ≡ true → LivesGoOn (lives_at device (Stopped m)) (starts ∷ []) [] (lives_at device (Stopped after))
     start_is_cut is_off =
-        called_once device starts [] (Stopped m) (Stopped after) (
-          refl,
-          subst (λ (b : Bool). StartsIn b device m (Stopped after)) (sym on) (record { leaves = leaves; follows = follows }, is_off),
-        )
+        called_once device starts [] (Stopped m) (Stopped after)
+        (refl, subst (λ (b : Bool). StartsIn b device m (Stopped after)) (sym on) (record { leaves = leaves; follows = follows }, is_off))
         follows on leaves.bounded.moments.size_stays
         (λ here fits.
         let w = would here fits in
@@ -323,7 +311,7 @@ module _ (device : Device) (m : Sim) (on : m.power.off ≡ false) where
         (power_went (Stopped after) follows is_off here fits.unfused w.book here.limit w.opens w.ours
         (keeps_same m on here.place here.limit fits.is_at)
         (λ ours. limited_start m after leaves here.limit w.book (stands_ours w ours) ours (fits.limited (sym w.ours ∙ ours)))
-        (λ ours. may_find m after leaves (flushed_at m on here.place fits.is_at) w.book (stands_ours w ours) ours)))
+        (λ ours. leaves.finds w.book (stands_ours w ours) ours (none_flushed m (flushed_at m on here.place fits.is_at)))))
 
     -- it was refused, and the power is on
     pub start_is_refused : after.power.off ≡ false → (fault : StartFault) → IsNotOpened (state_of m) (state_of after) fault
@@ -347,7 +335,7 @@ module _ (device : Device) (m : Sim) (on : m.power.off ≡ false) where
             ours = w.ours;
             cause = λ ours. counted m after w.book fault (h.possible w.book (stands_ours w ours));
             limited = λ ours. limited_start m after leaves here.limit w.book (stands_ours w ours) ours (fits.limited (sym w.ours ∙ ours));
-            found = λ ours. may_find m after leaves (flushed_at m on here.place fits.is_at) w.book (stands_ours w ours) ours;
+            found = λ ours. leaves.finds w.book (stands_ours w ours) ours (none_flushed m (flushed_at m on here.place fits.is_at));
           };
       rests = refl;
       on = still;
@@ -366,8 +354,7 @@ module _ (device : Device) where
   pub start_without_power : (m : Sim) → m.power.off ≡ true
       → LivesGoOn (lives_at device (Stopped m)) (starts ∷ []) [] (lives_at device (Stopped m))
   start_without_power m is_off =
-      stays device (Stopped m) starts [] (refl, subst (λ (b : Bool). StartsIn b device m (Stopped m)) (sym is_off) refl)
-      (λ here fits. grind arith)
+      stays device (Stopped m) starts [] (refl, rw is_off refl) (λ here fits. grind arith)
 
 -- ---- whatever the medium holds
 

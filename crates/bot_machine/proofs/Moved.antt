@@ -16,7 +16,7 @@ use Rattle.medium.specs.Power.{faults_in}
 use Rattle.medium.specs.Sim.{Sim, state_of, ComesAfter}
 use Rattle.medium.proofs.SimCalls.{keeps_power}
 use Rattle.spec.specs.Conversation.{refused_events}
-use Rattle.bot_machine.specs.LivesValue.{is_fault, faults_armed, AreCaused, HasPackets, LivesGoOn}
+use Rattle.bot_machine.specs.LivesValue.{is_fault, faults_armed, AreCaused}
 use Rattle.bot_machine.specs.Lifetimes.{causes_in}
 
 -- where no more calls were refused, none was
@@ -39,8 +39,7 @@ pub MovesBy-append : (device : Device) (xs ys : List Action) (told more : List A
     (a b c : DiskState) → MovesBy device a xs told refusals b → MovesBy device b ys more others c
     → MovesBy device a (xs ++ ys) (told ++ more) (refusals ++ others) c
 MovesBy-append device [] ys told more [] others a b c r s =
-    let moved : MovesBy device a ys more others c = subst (λ (x : DiskState). MovesBy device x ys more others c) r.1 s in
-    subst (λ (l : List Answer). MovesBy device a ys (l ++ more) others c) (sym r.0) moved
+    rw (r.0, ← r.1) s
 MovesBy-append device (x ∷ xs) ys told more (refused ∷ refusals) others a b c r s = (
   r.0,
   r.1,
@@ -49,8 +48,7 @@ MovesBy-append device (x ∷ xs) ys told more (refused ∷ refusals) others a b 
   r.4,
   MovesBy-append device xs ys r.2 more refusals others r.0 b c r.5 s,
 )
-MovesBy-append device [] ys told more (refused ∷ refusals) others a b c r s = absurd r
-MovesBy-append device (x ∷ xs) ys told more [] others a b c r s = absurd r
+MovesBy-append device xs ys told more refusals others a b c r s = absurd r
 
 -- faults that actions arm are counted one list after the other
 faults_armed-append : (xs ys : List Action) → faults_armed (xs ++ ys) ≡ faults_armed xs + faults_armed ys
@@ -91,14 +89,3 @@ moves_keep device P each old new [] answers [] moves has = subst P (sym moves.1)
 moves_keep device P each old new (action ∷ actions) answers (refused ∷ refusals) moves has =
     moves_keep device P each moves.0 new actions moves.2 refusals moves.5 (each old moves.0 action moves.1 moves.4.does has)
 moves_keep device P each old new actions answers refusals moves has = absurd moves
-
-packets_kept : (device : Device) (old new : DiskState) (action : Action) (answers : List Answer) → Does device old action answers new
-    → HasPackets device.packet_size old → HasPackets device.packet_size new
-packets_kept device old new action answers does has = grind arith
-
--- where lives go on, the size of their packets stays
-pub keeps_packets : (device : Device) (old new : DiskState) (actions : List Action) (answers : List Answer)
-    → LivesGoOn (record { device = device; state = old }) actions answers (record { device = device; state = new })
-    → HasPackets device.packet_size old → HasPackets device.packet_size new
-keeps_packets device old new actions answers goes has =
-    moves_keep device (HasPackets device.packet_size) (packets_kept device) old new actions answers goes.refusals goes.moves has

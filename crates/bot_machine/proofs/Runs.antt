@@ -137,8 +137,7 @@ module _ {S F : Type 0} (Intends : S → List ℕ → Way → Type 0)
   turns_on owed old (e ∷ es) (a ∷ as_) (f ∷ fs) new (mid, step, rest) owes =
       let next = step_next owed f old e a mid step owes in
       next.2 (marks_in Intends CarriesOut Ticks mid es as_ fs new rest) (turns_on next.0 mid es as_ fs new rest next.1)
-  turns_on owed old (e ∷ es) [] refusals new run owes = absurd run
-  turns_on owed old (e ∷ es) (a ∷ as_) [] new run owes = absurd run
+  turns_on owed old events answers refusals new run owes = absurd run
 
   -- a run that begins where a wrapper is expected takes wrappers and tells their statuses by turns
   pub by_turns : (old : Conversation S) (events : List Event) (answers : List Answer)
@@ -240,6 +239,8 @@ runs_more first before after old mid new events answers refusals event answer bo
     let s = step.proceeds r.later r.fits in
     let run = Run-more Intends CarriesOut Ticks events answers refusals (over old book) (over mid r.later)
     (over new s.later) event answer (has_refused before after) r.run s.moves in
+    let more = λ (image : Image). FoundIn-more first.size image events answers refusals (over old book) (over mid r.later)
+    (over new s.later) event answer (has_refused before after) r.run s.moves in
     record {
       later = s.later;
       run = run;
@@ -249,11 +250,8 @@ runs_more first before after old mid new events answers refusals event answer bo
           (refusals ++ has_refused before after ∷ []) (over new s.later) run;
       cuts = λ ours. weaker _ _ first after
           (λ image found. ⊎_elim
-          (λ was. ⊎_elim inl (λ in_run. inr (FoundIn-more first.size image events answers refusals (over old book)
-          (over mid r.later) (over new s.later) event answer (has_refused before after) r.run s.moves (inl in_run))) was)
-          (λ now. inr (FoundIn-more first.size image events answers refusals (over old book)
-          (over mid r.later) (over new s.later) event answer (has_refused before after) r.run s.moves
-          (inr (subst (λ n. FoundWith n r.later (write_of_event (over mid r.later) event) image) (sym size) now))))
+          (λ was. ⊎_elim inl (λ in_run. inr (more image (inl in_run))) was)
+          (λ now. inr (more image (inr (subst (λ n. FoundWith n r.later (write_of_event (over mid r.later) event) image) (sym size) now))))
           found)
           (joined _ _ first before after (r.cuts ours) (s.cuts (r.ours ∙ ours)));
       at_exit = λ ours. s.at_exit (r.ours ∙ ours);

@@ -40,14 +40,12 @@ join [] = []
 join (packet ∷ packets) = packet ++ join packets
 
 data_before : (packets : List (List ℕ)) (status : List ℕ) → data_in (packets ++ status ∷ []) ≡ join packets
-data_before [] status = refl
-data_before (packet ∷ []) status = refl
 data_before (packet ∷ next ∷ packets) status = ap (λ l. packet ++ l) (data_before (next ∷ packets) status)
+data_before packets status = refl
 
 status_last : (packets : List (List ℕ)) (status : List ℕ) → status_in (packets ++ status ∷ []) ≡ status
-status_last [] status = refl
-status_last (packet ∷ []) status = refl
 status_last (packet ∷ next ∷ packets) status = status_last (next ∷ packets) status
+status_last packets status = refl
 
 -- what is heard where these packets and this status wrapper came
 pub heard_so : (answers : List Answer) (packets : List (List ℕ)) (status bytes : List ℕ) → packets_in answers ≡ packets ++ status ∷ []
@@ -91,24 +89,14 @@ quiet left answer answers same ends = grind arith
 -- one event by which the host asks
 asked : (happens : Event) (old mid : Conversation UnitState) (answer : Answer) (answers : List Answer) → Asks happens
     → UnitStep false old happens answer mid → Ends mid.line.left answers → Ends old.line.left (answer ∷ answers) × (mid.unit ≡ old.unit)
-asked (event.Out packet) old mid answer answers asks step ends = absurd asks
-asked event.In old mid answer answers asks step ends = (
-  rw step.0 (token old.line.in_halted old.line.left old.line answers refl
-      (subst (λ (c : Conversation UnitState). Ends c.line.left answers) step.1 ends)),
-  ap (λ (c : Conversation UnitState). c.unit) step.1,
-)
-asked (event.Setup packet) old mid answer answers (end, spelled) step ends =
-    let c = cleared packet end old.line mid.line answer spelled step.0 in
-    (quiet old.line.left answer answers (c.1 answers) (rw (← c.0) ends), step.1)
-asked event.Tick old mid answer answers asks step ends = absurd asks
+asked happens old mid answer answers asks step ends = grind (arith, token, cleared, quiet)
 
 pub asks_end : (asks : List Event) → All Asks asks → (answers : List Answer) (old new : Conversation UnitState)
     → Untroubled old asks answers new → new.line.left ≡ finished → Ends old.line.left answers × (new.unit ≡ old.unit)
-asks_end [] only [] old new run ends = (rw (← run, ends) refl, ap (λ (c : Conversation UnitState). c.unit) run)
 asks_end (e ∷ es) only (a ∷ as_) old new (mid, step, stamps, rest) ends =
     let later = asks_end es (All-tail Asks e es only) as_ mid new rest ends in
     let now = asked e old mid a as_ (All-head Asks e es only) step later.0 in (now.0, later.1 ∙ now.1)
-asks_end asks only answers old new run ends = absurd run
+asks_end asks only answers old new run ends = grind arith
 
 -- ---- packets to Bulk-Out while something is sent
 
@@ -125,12 +113,12 @@ pub sends_all : (sent : List (List ℕ)) (asks : List Event) → All Asks asks �
     → Sends old.line.left → Untroubled old (map packet_out sent ++ asks) answers new → new.line.left ≡ finished
     → Ends old.line.left answers × (new.unit ≡ old.unit)
 sends_all [] asks only answers old new sends run ends = asks_end asks only answers old new run ends
-sends_all (packet ∷ sent) asks only [] old new sends run ends = absurd run
 sends_all (packet ∷ sent) asks only (a ∷ as_) old new sends (mid, step, stamps, rest) ends =
     let same = idle old.line.out_halted old.line.left packet old mid a as_ sends step in
     let later = sends_all sent asks only as_ old new sends
     (subst (λ c. Untroubled c (map packet_out sent ++ asks) as_ new) same.0 rest) ends in
     (quiet old.line.left a as_ same.1 later.0, later.1)
+sends_all sent asks only answers old new sends run ends = absurd run
 
 -- ---- what is laid out, and what a command that was carried out tells
 
@@ -164,14 +152,12 @@ module _ (size : ℕ) (some : 0 < size) where
 
   pub told_sends : (case : Case) (command : Cbw) (intended : Way) (answer : Result (List ℕ) Sense) (line : Line)
       → Sends (told case command intended answer line).left
-  told_sends case command intended (Ok bytes) line = (laid (sent_in line.packet_size case bytes) _ _ line).0
-  told_sends case command intended (Err fault) line = (laid [] _ _ line).0
+  told_sends case command intended answer line = grind (arith, laid)
 
 -- what is taken of the first bytes and then of others
 front_first : (n : ℕ) (xs ys : List ℕ) → take n (take n xs ++ ys) ≡ take n (xs ++ ys)
-front_first zero xs ys = refl
-front_first (suc n) [] ys = refl
 front_first (suc n) (x ∷ xs) ys = ap (λ l. x ∷ l) (front_first n xs ys)
+front_first n xs ys = grind arith
 
 -- what comes of a transfer, whatever the size of a packet
 record CarriedOut (case : Case) (command : Cbw) (intended : Way) (bytes : List ℕ) (old new : UnitState) (heard : Heard) : Type 0 where
@@ -250,11 +236,7 @@ module _ (size : ℕ) (some : 0 < size) (case : Case) (command : Cbw) (intended 
           | inl m ↦
               let more = m.more in
               let due : length rest - old.line.packet_size ≡ length (drop size rest) = omega (arith, length-drop size rest) in
-              let next : Awaits f.mid bytes (length (drop size rest)) = record {
-                halted = grind arith;
-                packets = grind arith;
-                left = grind arith;
-              } in
+              let next : Awaits f.mid bytes (length (drop size rest)) = grind arith in
               let whole : take (size_of_way intended) (bytes ++ drop size rest) ≡ take (size_of_way intended) (came ++ rest) =
               simp (front_first, append_assoc, take-append-drop) in
               rw (f.told, now.0.0, ← whole, ← m.unit) (again (omega arith) (omega arith) next)
@@ -278,12 +260,12 @@ module _ (size : ℕ) (some : 0 < size) (case : Case) (command : Cbw) (intended 
   all_taken : (n : ℕ) (rest came : List ℕ) (answers : List Answer) (old : Conversation UnitState) → length rest ≤ n → 0 < length rest
       → Awaits old came (length rest) → Untroubled old (map packet_out (packets_of size rest) ++ asks) answers new
       → CarriedOut case command intended (take (size_of_way intended) (came ++ rest)) old.unit new.unit (heard_in answers)
-  all_taken zero rest came answers old few more awaits run = absurd (omega (arith, few, more))
   all_taken (suc n) rest came answers old few more awaits run =
       let f = first_of old new (packet_out (take size rest)) (map packet_out (packets_of size (drop size rest)) ++ asks) answers
       (subst (λ (l : List (List ℕ)). Untroubled old (map packet_out l ++ asks) answers new) (packets_of-more size rest some more) run) in
       took rest came answers old awaits f (λ fewer more awaits. all_taken n (drop size rest) _ f.later f.mid
       (omega arith) more awaits f.run)
+  all_taken n rest came answers old few more awaits run = absurd (omega (arith, few, more))
 
 -- ---- one transfer
 
@@ -327,7 +309,7 @@ module _ (size : ℕ) (some : 0 < size) (t : Transfer) (old new : UnitState) (as
       let last = sends_all (packets_of size t.sent) asks only f.later f.mid end (rw begins.1 sends.0) f.run refl in
       (last.1 ∙ begins.0, rw (f.told, ack) (heard_so f.later [] status [] (sends.1 f.later (rw (← begins.1) last.0)) refl))
   outcome after_data is begins =
-      by_data t.sent refl (record { halted = grind arith; packets = grind arith; left = grind arith }) begins.0
+      by_data t.sent refl (grind arith) begins.0
 
 -- ---- transfers at two sizes
 
@@ -365,6 +347,4 @@ sizes_alike size other some more (t ∷ ts) old new last (heard ∷ rest) (again
     let one = one_transfer size other some more t old a.0 b.0 heard again a.1 b.1 in
     let left = sizes_alike size other some more ts a.0 new last rest others a.2 (rw one.0 b.2) in
     grind arith
-sizes_alike size other some more [] old new last [] (again ∷ others) a b = absurd b
-sizes_alike size other some more (t ∷ ts) old new last (heard ∷ rest) [] a b = absurd b
-sizes_alike size other some more transfers old new last heard again a b = absurd a
+sizes_alike size other some more transfers old new last heard again a b = grind arith

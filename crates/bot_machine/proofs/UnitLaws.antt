@@ -52,14 +52,6 @@ proceeding before after old new Moves write book later moves fits same cuts = re
   at_exit = λ ours. between_calls after new later fits (same ∙ ours);
 }
 
--- a unit that does nothing stays with its book
-pub staying : {M : Type 0} (m : State) (unit : UnitValue M) (Moves : UnitState → UnitState → Type 0)
-    (book : Book) → IsSound m → FitsUnit m unit book → Moves (state_of unit book) (state_of unit book)
-    → Proceeds m m unit unit Moves None book
-staying m unit Moves book sound fits moves =
-    proceeding m m unit unit Moves None book book moves fits refl
-    (λ ours. started (MayFind m.size book) m sound (between_calls m unit book fits ours))
-
 -- where a unit proceeds in one way it proceeds in each that this one is
 pub proceeding_so : {M : Type 0} (before after : State) (old new : UnitValue M)
     (Moves Others : UnitState → UnitState → Type 0) (write other : Option Write) (book : Book)
@@ -75,10 +67,10 @@ proceeding_so before after old new Moves Others write other book p same so = rec
   at_exit = p.at_exit;
 }
 
--- a unit that does nothing, where the write in progress is none
+-- a unit that does nothing stays with its book, where the write in progress is none
 pub staying_so : {M : Type 0} (m : State) (unit : UnitValue M) (Moves : UnitState → UnitState → Type 0)
     (write : Option Write) (book : Book) → IsSound m → FitsUnit m unit book → None ≡ write
     → Moves (state_of unit book) (state_of unit book) → Proceeds m m unit unit Moves write book
 staying_so m unit Moves write book sound fits none moves =
-    proceeding_so m m unit unit Moves Moves None write book (staying m unit Moves book sound fits moves) none
-    (λ later so. so)
+    rw (← none) (proceeding m m unit unit Moves None book book moves fits refl
+    (λ ours. started (MayFind m.size book) m sound (between_calls m unit book fits ours)))

@@ -51,6 +51,22 @@ pub at_once-writes_none : (unit : UnitState) (block taken : List ℕ) (case : Ca
 at_once-writes_none unit block taken case host intended intends is moment = keeps_intentions.unwritten unit block taken
     (λ n out. at_once-takes_none case host intended is moment n (intends ∙ ap way_of out))
 
+-- and the packet that spells it has it carried out, over no bytes
+pub carries_at_once : (packet : List ℕ) (unit : UnitState) (command : Cbw) (intended : Way) (case : Case)
+    → SpellsCommand packet command → Intends unit command.block.items intended → IsCase case command.host intended
+    → moment_of case ≡ at_once → CarriesOutAtOnce packet unit command.block.items []
+carries_at_once packet unit command intended case spelled intends is_case moment = record {
+  command = command;
+  intended = intended;
+  case = case;
+  spelled = spelled;
+  intends = intends;
+  is_case = is_case;
+  is_at_once = moment;
+  block_is = refl;
+  none_taken = refl;
+}
+
 -- a command that is carried out after its data does not intend to send any
 pub after_data-sends_none : (case : Case) (host intended : Way) → IsCase case host intended → moment_of case ≡ after_data
     → (n : ℕ) → intended ≢ In n
@@ -183,17 +199,8 @@ module _ {M : Type 0} (unit : UnitValue M) (book : Book) (size : IsOfSize unit b
   -- and it is carried out in the event of its wrapper
   pub carries_out : at_once ≡ moment_of exchange.case
       → CarriesOutAtOnce packet (state_of unit book) exchange.command.block.items []
-  carries_out moment = record {
-    command = exchange.command;
-    intended = exchange.intended;
-    case = exchange.case;
-    spelled = begun.spelled;
-    intends = intends;
-    is_case = begun.is_case;
-    is_at_once = sym moment;
-    block_is = refl;
-    none_taken = refl;
-  }
+  carries_out moment = carries_at_once packet (state_of unit book) exchange.command exchange.intended exchange.case begun.spelled intends
+      begun.is_case (sym moment)
 
   -- a command that the packet has carried out at once is that of the exchange, over no bytes
   pub carried_at_once : (block taken : List ℕ) → CarriesOutAtOnce packet (state_of unit book) block taken

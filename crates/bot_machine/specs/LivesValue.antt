@@ -49,6 +49,10 @@ abbrev pub HasPackets : ℕ → DiskState → Type 0
 HasPackets size (Stopped medium) = ⊤
 HasPackets size (Running disk) = disk.line.packet_size ≡ size
 
+-- a disk that runs still has packets of the size that it had
+abbrev pub KeepsPackets : DiskState → DiskState → Type 0
+KeepsPackets old new = (size : ℕ) → HasPackets size old → HasPackets size new
+
 -- a disk was started, and the event's packet is no longer than those of the disk
 pub record AwaitsEvent (lives : LivesValue) (event : Event) : Type 0 where
   pub started : HasStarted lives.state

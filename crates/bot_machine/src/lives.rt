@@ -131,8 +131,9 @@ impl Lives {
         ensures goes_on { LivesGoOn self.old (arms writes ∷ []) [] self.new }
         ensures fused { IsFused writes (medium_in self.old.state) (medium_in self.new.state) }
     {
-        if let Some(state) = &mut self.state {
-            disk_state::fuse(state, writes);
+        match &mut self.state {
+            Some(state) => disk_state::fuse(state, writes),
+            None => unreachable!(),
         }
     }
 
@@ -143,8 +144,9 @@ impl Lives {
         ensures goes_on { LivesGoOn self.old (fails call ∷ []) [] self.new }
         ensures failing { IsFailing call (medium_in self.old.state) (medium_in self.new.state) }
     {
-        if let Some(state) = &mut self.state {
-            disk_state::fail(state, call);
+        match &mut self.state {
+            Some(state) => disk_state::fail(state, call),
+            None => unreachable!(),
         }
     }
 

@@ -6,6 +6,7 @@ ghost use Rattle.bot_machine.specs.Device.{Device, device_by};
 ghost use Rattle.spec.specs.Lives.{starts, plays, cuts, arms, fails};
 ghost use Rattle.bot_machine.specs.LivesValue.{medium_in, HasStarted, TakesEvent, HasBegun};
 ghost use Rattle.bot_machine.specs.LivesValue.{LivesGoOn, LivesRefuseStart, DiskAnswers};
+ghost use Rattle.bot_machine.specs.LivesValue.{KeepsPackets};
 ghost use Rattle.bot_machine.specs.declared.lives.disk_state.DiskState.TheVariants.{Stopped};
 ghost use Rattle.bot_machine.specs.declared.lives.disk_state.DiskState.TheVariants.{Running};
 
@@ -46,12 +47,13 @@ pub(crate) fn into_medium(state: DiskState) -> SimMedium
 }
 
 /// Arms a fuse.
-#[tactic(auto, using(crate::proofs::ArmedFaults::arming))]
+#[tactic(auto, using(crate::proofs::LifeActions::arming))]
 pub(crate) fn fuse(state: &mut DiskState, writes: u64)
     ensures goes_on { (device : Device) → LivesGoOn
         (record { device = device; state = state.old }) (arms writes ∷ []) []
         (record { device = device; state = state.new }) }
     ensures fused { IsFused writes (medium_in state.old) (medium_in state.new) }
+    ensures packets { KeepsPackets state.old state.new }
 {
     match state {
         DiskState::Stopped(medium) => medium.fuse(writes),
@@ -60,13 +62,14 @@ pub(crate) fn fuse(state: &mut DiskState, writes: u64)
 }
 
 /// Arms a failure of one call.
-#[tactic(auto, using(crate::proofs::ArmedFaults::arming))]
+#[tactic(auto, using(crate::proofs::LifeActions::arming))]
 pub(crate) fn fail(state: &mut DiskState, call: u64)
     requires { 0 < call }
     ensures goes_on { (device : Device) → LivesGoOn
         (record { device = device; state = state.old }) (fails call ∷ []) []
         (record { device = device; state = state.new }) }
     ensures failing { IsFailing call (medium_in state.old) (medium_in state.new) }
+    ensures packets { KeepsPackets state.old state.new }
 {
     match state {
         DiskState::Stopped(medium) => medium.fail(call),
@@ -118,6 +121,7 @@ pub(crate) fn play(state: &mut DiskState, event: &Event) -> Answer
         (record { device = device; state = state.old }) (plays event.now ∷ []) (result ∷ [])
         (record { device = device; state = state.new }) }
     ensures plays { DiskAnswers state.old result state.new }
+    ensures packets { KeepsPackets state.old state.new }
 {
     match state {
         DiskState::Stopped(_) => Answer::Off,
@@ -133,6 +137,7 @@ fn play_on(disk: &mut Disk<SimMedium>, event: &Event) -> Answer
         (record { device = device; state = Running disk.new }) }
     ensures off { (result ≡ Answer.Off) ↔ (disk.new.unit.store.medium.power.off ≡ true) }
     ensures follows { ComesAfter disk.old.unit.store.medium disk.new.unit.store.medium }
+    ensures packets { disk.new.line.packet_size ≡ disk.old.line.packet_size }
 {
     if disk.medium().is_off() {
         return Answer::Off;

@@ -22,12 +22,8 @@ loop-life-init c =
 
 pub live-requires-clause-within : goal.live-requires-clause-within
 live-requires-clause-within c =
-    let most : ℕ = bytes_of c.args.size in
-    let life = c.life-item.result in
-    let each : AreWithin most life.events.items =
-    subst (λ (x : Life). AreWithin most x.events.items) (sym c.life-item.is)
-    (c.requires.within c.loop-life.life-index life c.loop-life-test.true) in
-    subst (λ (x : Device). AreWithin x.packet_size life.events.items) (sym c.loop-life.invariant.run.goes_on.device_stays) each
+    rw (c.loop-life.invariant.run.goes_on.device_stays, c.life-item.is)
+    (c.requires.within c.loop-life.life-index c.life-item.result c.loop-life-test.true)
 
 pub live-requires-clause-room : goal.live-requires-clause-room
 live-requires-clause-room c =
@@ -41,7 +37,6 @@ live-requires-clause-room c =
 
 pub returns-in-Err-clause-moves_until : goal.returns-in-Err-clause-moves_until
 returns-in-Err-clause-moves_until c =
-    let first : LivesValue = record { device = device_by c.args.identity c.args.size c.args.retiring; state = Stopped c.args.medium } in
     let lives = c.args.lives.now in
     let i = c.loop-life.life-index in
     let life = c.life-item.result in
@@ -73,7 +68,6 @@ loop-life-preserved c =
 
 pub returns-clause-moves : goal.returns-clause-moves
 returns-clause-moves c =
-    let first : LivesValue = record { device = device_by c.args.identity c.args.size c.args.retiring; state = Stopped c.args.medium } in
     let lives = c.args.lives.now in
     let i = c.loop-life.life-index in
     let all : take i lives ≡ lives = take_all i lives c.loop-life-test.false in
