@@ -166,13 +166,16 @@ module _ (device : Device) where
         let none = ap faults_in cut.power_on in
         goes_quietly (cuts keep) [] state (Stopped new) (λ here. record here { place = after_cut here.place; armed = false }) (refl, cut)
         same (omega (arith, room, none)) size
-        (λ here fits. ((refl, refl), record {
-          is_at = cut_place here.place fits.is_at;
-          limit_at = cut_limit_at here.place here.limit fits.is_at fits.limit_at;
-          limited = λ ours. left_before (λ n. HasLimit n here.limit) (fits.limited (sym (book_after_cut here.place) ∙ ours));
-          found = cut_found here.place fits.found;
-          unfused = λ unarmed. ap (λ (p : Power). p.fuse) cut.power_on;
-        }))
+        (λ here fits. (
+          (refl, refl),
+          record {
+            is_at = cut_place here.place fits.is_at;
+            limit_at = cut_limit_at here.place here.limit fits.is_at fits.limit_at;
+            limited = λ ours. left_before (λ n. HasLimit n here.limit) (fits.limited (sym (book_after_cut here.place) ∙ ours));
+            found = cut_found here.place fits.found;
+            unfused = λ unarmed. ap (λ (p : Power). p.fuse) cut.power_on;
+          },
+        ))
         (λ here. (book_after_cut here.place, refl))
 
   -- ---- an event
@@ -330,13 +333,16 @@ module _ (device : Device) where
     arms_so action set caused does step unfused =
         goes_quietly action [] state new (λ here. record here { armed = set here.armed }) does (ap (λ (m : State). m.failures) same)
         caused (ap (λ (m : State). m.size) same)
-        (λ here fits. (step here, record {
-          is_at = at here.place fits.is_at;
-          limit_at = limit_still here.place here.limit fits.limit_at;
-          limited = λ ours. subst (λ (m : State). EachCut (HasLimit m.size here.limit) m) (sym same) (fits.limited ours);
-          found = λ ours. subst (λ (m : State). EachCut (FoundAt m.size here.place) m) (sym same) (fits.found ours);
-          unfused = unfused here.armed fits.unfused;
-        }))
+        (λ here fits. (
+          step here,
+          record {
+            is_at = at here.place fits.is_at;
+            limit_at = limit_still here.place here.limit fits.limit_at;
+            limited = λ ours. subst (λ (m : State). EachCut (HasLimit m.size here.limit) m) (sym same) (fits.limited ours);
+            found = λ ours. subst (λ (m : State). EachCut (FoundAt m.size here.place) m) (sym same) (fits.found ours);
+            unfused = unfused here.armed fits.unfused;
+          },
+        ))
         (λ here. (refl, refl))
 
     arms_fuse : (writes : ℕ) → AreCaused (medium_in state) (arms writes ∷ []) (false ∷ []) (medium_in new)

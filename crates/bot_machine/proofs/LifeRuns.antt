@@ -14,8 +14,8 @@ use Rattle.bot_machine.specs.declared.lives.disk_state.DiskState.TheVariants.{St
 use Rattle.bot_machine.specs.Moving.{MovesBy}
 use Rattle.bot_machine.specs.Lifetimes.{StandsFirst, AppendsFor, actions_of, actions_of_all, armed_by, events_in, AreLived, AreLivedUpTo}
 use Rattle.bot_machine.specs.Lifetimes.{KeepsPromiseUpTo, IsRefusedFor}
-use Rattle.bot_machine.specs.LivesValue.{LivesValue, medium_in, state_in, AreCaused, LeavesLimit, FitsLives, LivesGoTo, LivesGoOn}
-use Rattle.bot_machine.specs.LivesValue.{MayRefuse, LivesStopAt, LivesStop, IsAtRest, OpensOn, HasLimit, FoundAt, RestsAlone}
+use Rattle.bot_machine.specs.LivesValue.{LivesValue, medium_in, state_in, AreCaused, FitsLives, LivesGoTo, LivesGoOn}
+use Rattle.bot_machine.specs.LivesValue.{MayRefuse, LivesStopAt, LivesStop, IsAtRest, OpensOn, HasLimit, RestsAlone}
 use Rattle.bot_machine.proofs.Runs.{refused_events-append, counted}
 use Rattle.bot_machine.proofs.Moved.{MovesBy-append, caused_through, few_causes}
 use Rattle.std.proofs.lemmas.List.Sums.{sum_by-append, sum_by-take-le}
@@ -25,7 +25,7 @@ use Rattle.medium.specs.Sim.{Sim, state_of, IsFused}
 use Rattle.bot_machine.specs.declared.lives.life.Life.{Life}
 use Rattle.bot_machine.specs.Opening.{IsNotOpened}
 use Rattle.spec.specs.Promise.{first_standing, AreKept, AreKeptUpTo}
-use Rattle.scsi_unit.specs.Books.{StandsAs, MayFind}
+use Rattle.scsi_unit.specs.Books.{StandsAs}
 use Rattle.scsi_unit.specs.Starting.{StandsForSome}
 use Rattle.bot_machine.proofs.LifeStarts.{first_found, first_limited}
 

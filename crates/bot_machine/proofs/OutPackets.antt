@@ -1,5 +1,5 @@
 -- What a packet to Bulk-Out does, by whether it is halted and by what is left of the exchange.
-use Rattle.std.proofs.Common.{◌≡◌, ap, ℕ, List, [], ◌∷◌, refl, subst, sym, ◌⊎◌, ◌<◌, Bool, true, false, inl, slice_range, ◌∙◌, arith}
+use Rattle.std.proofs.Common.{◌≡◌, ap, ℕ, List, [], ◌∷◌, refl, subst, sym, ◌⊎◌, ◌<◌, true, false, inl, slice_range, ◌∙◌, arith}
 use Rattle.bot_machine.specs.declared.bulk_state.Taking.{Taking}
 use Rattle.bot_machine.specs.declared.bulk_state.Phase.{Phase}
 use Rattle.bot_machine.specs.declared.bulk_state.Phase.TheVariants.{Command, DataOut, DataIn, Status}
@@ -8,8 +8,8 @@ use Rattle.spec.specs.declared.case.Endpoint.{Endpoint}
 use Rattle.spec.specs.declared.case.Endpoint.TheVariants as endpoint
 use Rattle.spec.specs.StatusWrapper.{status_wrapper}
 use Rattle.spec.specs.Sense.{Sense}
-use Rattle.spec.specs.Exchange.{Line, sending, laid_out, Script, finished, in_answer, after_in}
-use Rattle.bot_machine.specs.Disk.{status_of_answer, Tells, DiskValue, over, TicksIn, FitsDisk, Proceeds, IsStepBy, IsStep, Elapses}
+use Rattle.spec.specs.Exchange.{Line, sending, laid_out, in_answer, after_in}
+use Rattle.bot_machine.specs.Disk.{status_of_answer, Tells, DiskValue, over, TicksIn, Proceeds, IsStepBy, IsStep, Elapses}
 use Rattle.bot_machine.specs.Disk.{TakesFew}
 use Rattle.medium.specs.Medium.{State, IsSound}
 use Rattle.medium.proofs.SectorsRead.{no_looks, looks_wider}
@@ -29,7 +29,7 @@ use Rattle.spec.specs.UnitConversation.{Intends, UnitStep, write_of_packet, writ
 use Rattle.bot_machine.specs.Acts.{CarriesOutNone, PacketCarriesOut, EventCarriesOut}
 use Rattle.spec.specs.declared.intent.Intent.TheVariants as intent
 use Rattle.bot_machine.specs.Promising.{SendsBy}
-use Rattle.bot_machine.specs.Refinement.{taking_of, left_of, halt_of, IsInPhase}
+use Rattle.bot_machine.specs.Refinement.{left_of, halt_of, IsInPhase}
 use Rattle.spec.specs.Packets.{packets_of}
 use Rattle.bot_machine.specs.Reading.{LooksBesides, LooksIn, ReadsAt}
 use Rattle.bot_machine.specs.Serving.{ServesPacket, HandsOn}

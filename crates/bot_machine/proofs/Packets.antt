@@ -1,12 +1,11 @@
 -- Data in packets: cut off its front, sent one after another, taken into the front of a buffer.
-use Rattle.std.proofs.Common.{◌<◌, ◌≤◌, arith, ◌≡◌, ℕ, suc, ◌+◌, ◌-◌, ◌/◌, inl, inr, min, List, [], ◌∷◌, length, take, drop, slice_range}
+use Rattle.std.proofs.Common.{◌<◌, ◌≤◌, arith, ◌≡◌, ℕ, suc, ◌+◌, ◌-◌, ◌/◌, min, List, [], ◌∷◌, length, take, drop, slice_range}
 use Rattle.std.proofs.Common.{sym, ap, ◌∙◌, length-drop, length-take, Bool, false, refl, nat_le, ◌++◌}
 use Rattle.spec.specs.declared.packet_size.PacketSize.{PacketSize}
 use Rattle.spec.specs.declared.packet_size.PacketSize.TheVariants.{Full64, High512}
 use Rattle.spec.specs.Packets.{bytes_of, packets_of, cut_into}
 use Rattle.std.proofs.Math.Nat.{add-div_right, div-eq_of_lt}
 use Rattle.std.proofs.lemmas.List.{take-take, drop-take, drop-drop, drop_all, take_all, take-append-le}
-use Rattle.std.proofs.lemmas.Bool.{cases_lt}
 use Rattle.std.specs.Prelude.{None, Option, if◌then◌else◌, ◌==◌, ◌&&◌}
 use Rattle.spec.specs.declared.case.Case.{Case}
 use Rattle.spec.specs.declared.case.Endpoint.{Endpoint}

@@ -15,7 +15,7 @@ use Rattle.spec.specs.declared.event.Answer.{Answer}
 use Rattle.spec.specs.Requests.{Request, setup_packet}
 use Rattle.spec.specs.Exchange.{Line, Script, finished, taking, sending, Moment, at_once, moment_of, at_rest}
 use Rattle.spec.specs.Conversation.{Conversation, IsCarriedOut, Begins, OpensExchange, Takes, OutStep, SetupStep}
-use Rattle.spec.specs.UnitConversation.{Intends, way_of, write_of_packet, UnitStep, UnitRun, on_line}
+use Rattle.spec.specs.UnitConversation.{Intends, write_of_packet, UnitStep, UnitRun, on_line}
 use Rattle.bot_machine.specs.Striking.{HasStamps, without_ticks, answers_without_ticks, IsUntroubled}
 use Rattle.bot_machine.proofs.UnitLaws.{is_function, ticks_only, knows_images}
 use Rattle.medium.specs.Medium.{State}

@@ -13,7 +13,6 @@ use Rattle.spec.specs.declared.status.Status.TheVariants.{Passed, Failed, PhaseE
 use Rattle.spec.specs.Sense.{Sense}
 use Rattle.spec.specs.Rules.{UnitState, CarriesOut, Ticks, intention, write_in_progress, with_progress}
 use Rattle.spec.specs.declared.event.Event.{Event}
-use Rattle.spec.specs.declared.event.Event.TheVariants as event
 use Rattle.spec.specs.declared.event.Answer.{Answer}
 use Rattle.spec.specs.declared.event.Answer.TheVariants.{Stall, Ack}
 use Rattle.spec.specs.Packets.{packets_of}

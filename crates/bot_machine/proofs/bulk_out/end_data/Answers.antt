@@ -15,12 +15,15 @@ returns-then-packet-size_of_next-clause-serves g c =
     let most : ℕ = bytes_of c.args.bulk.now.size in
     let other : length c.args.packet.now ≡ d.due → most < d.due = λ whole. omega arith in
     rw (← c.in-DataOut.ensures.value) (idle _ unit _ _ _ (g.met.M.Medium.sound unit.store.medium)
-    (λ book size. (refl, inr (inr (record {
-      size = let s : length c.args.packet.now ≢ min most d.due = omega arith in s;
-      unit = refl;
-      after = rw (packets_of-none most (some_bytes c.args.bulk.now.size))
-          at (c.conclude_wrong_size.ensures.line c.args.transfer.now (taking_of d c.args.transfer.now) (omega arith));
-    }))))
+    (λ book size. (
+      refl,
+      inr (inr (record {
+        size = let s : length c.args.packet.now ≢ min most d.due = omega arith in s;
+        unit = refl;
+        after = rw (packets_of-none most (some_bytes c.args.bulk.now.size))
+            at (c.conclude_wrong_size.ensures.line c.args.transfer.now (taking_of d c.args.transfer.now) (omega arith));
+      })),
+    ))
     (λ book. other_packet most (length c.args.packet.now) d.due _ _ other)
     (λ book size block taken carries. let last = carries.last in let more = other carries.size in absurd (omega (arith, more, last))))
 

@@ -44,8 +44,11 @@ returns-in-AfterData-clause-serves g c =
     let e = c.in-Some.exchange in
     let unit = c.args.unit.now in
     rw c.requires.expected (idle _ unit _ _ _ (g.met.M.Medium.sound unit.store.medium)
-    (λ book size. (refl, inl (opens _ book size _ e c.in-Some.ensures _ _ _ (rw (← c.in-AfterData.ensures, ← c.size-due.ensures)
-    (refl, refl)))))
+    (λ book size. (
+      refl,
+      inl (opens _ book size _ e c.in-Some.ensures _ _ _ (rw (← c.in-AfterData.ensures, ← c.size-due.ensures)
+          (refl, refl))),
+    ))
     (λ book. refl)
     (λ book size block taken carries. let same : after_data ≡ at_once
     = c.in-AfterData.ensures ∙ (carried_at_once _ book size _ e c.in-Some.ensures block taken carries).0 in cc))
@@ -55,10 +58,13 @@ returns-in-Never-clause-serves g c =
     let e = c.in-Some.exchange in
     let unit = c.args.unit.now in
     rw c.requires.expected (idle _ unit _ _ _ (g.met.M.Medium.sound unit.store.medium)
-    (λ book size. (refl, inl (opens _ book size _ e c.in-Some.ensures _ _ _ (rw (← c.in-Never.ensures) (
+    (λ book size. (
       refl,
-      rw (packets_of-none _ (some_bytes c.args.bulk.now.size)) at (c.conclude.ensures.line c.args.transfer.now finished (omega arith)),
-    )))))
+      inl (opens _ book size _ e c.in-Some.ensures _ _ _ (rw (← c.in-Never.ensures) (
+        refl,
+        rw (packets_of-none _ (some_bytes c.args.bulk.now.size)) at (c.conclude.ensures.line c.args.transfer.now finished (omega arith)),
+      ))),
+    ))
     (λ book. refl)
     (λ book size block taken carries. let same : never ≡ at_once
     = c.in-Never.ensures ∙ (carried_at_once _ book size _ e c.in-Some.ensures block taken carries).0 in cc))

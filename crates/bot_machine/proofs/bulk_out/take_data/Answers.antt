@@ -24,12 +24,15 @@ returns-then-packet-most-clause-serves g c =
     (take (size_of_way d.exchange.intended) (take d.filled c.args.transfer.now ++ c.args.packet.now)) (d.due - most) =
     rw (c.take_more.ensures.exchange, c.take_more.ensures.bytes, c.take_more.ensures.due, c.bytes-most.ensures) refl in
     rw c.in-DataOut.is (idle _ unit _ _ _ (g.met.M.Medium.sound unit.store.medium)
-    (λ book size. (refl, inl (record {
-      size = let s : length c.args.packet.now ≡ most = omega (arith, c.if-packet-most.true, c.bytes-most.ensures) in s;
-      more = more;
-      unit = refl;
-      after = ap (λ left. line_with bulk left) after;
-    })))
+    (λ book size. (
+      refl,
+      inl (record {
+        size = let s : length c.args.packet.now ≡ most = omega (arith, c.if-packet-most.true, c.bytes-most.ensures) in s;
+        more = more;
+        unit = refl;
+        after = ap (λ left. line_with bulk left) after;
+      }),
+    ))
     (λ book. other_packet most (length c.args.packet.now) d.due _ _ (λ whole. more))
     (λ book size block taken carries. let last = carries.last in absurd (omega (arith, more, last))))
 
