@@ -1,6 +1,6 @@
 -- What happens in a life: an event comes, the power is cut, a fuse or a failure is armed.
-use Rattle.std.specs.Prelude.{if◌then◌else◌}
-use Rattle.std.proofs.Common.{◌≡◌, ℕ, Bool, true, false, nat_lt, List, [], ◌∷◌, None, Some, Option, refl, sym, subst, ◌∙◌, ap, arith, inl, inr}
+use Rattle.std.proofs.Common.{if◌then◌else◌, arith, inl, inr}
+use Rattle.std.proofs.Common.{◌≡◌, ℕ, Bool, true, false, nat_lt, List, [], ◌∷◌, None, Some, Option, refl, sym, subst, ◌∙◌, ap}
 use Rattle.std.proofs.lemmas.Bool.{false≢true}
 use Rattle.std.proofs.lemmas.List.{append-nil}
 use Rattle.medium.specs.Medium.{State, Image, CutLeaves}
@@ -29,7 +29,8 @@ use Rattle.spec.specs.Rules.{UnitState}
 use Rattle.scsi_unit.specs.UnitValue.{unit_limit}
 use Rattle.bot_machine.proofs.UnitLaws.{limit_between_calls}
 use Rattle.bot_machine.proofs.Runs.{one_counted}
-use Rattle.spec.specs.Lives.{Action, plays, cuts, arms, fails, Remains, Place, before_first, runs, off, Standing, after_cut, LivesStep, LivesRun}
+use Rattle.spec.specs.Lives.{Action, plays, cuts, arms, fails, Remains, Place, before_first, runs, off, Standing, after_cut, LivesStep}
+use Rattle.spec.specs.Lives.{LivesRun}
 use Rattle.spec.specs.Blocks.{Array}
 use Rattle.bot_machine.specs.Moving.{Does, EventMovesIn, EventMoves}
 use Rattle.bot_machine.proofs.Moved.{one_move, none_refused, some_refused, caused_once, one_fuse_more}

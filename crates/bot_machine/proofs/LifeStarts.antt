@@ -180,7 +180,8 @@ module _ (m : Sim) (on : m.power.off ≡ false) where
 limited_start : (before after : Sim) (leaves : StartLeaves (state_of before) (state_of after)) (limit : ℕ) (book : Book)
     → OpensOn (state_of before) book → book.ours ≡ true → LeavesLimit limit (Stopped before) → LeavesLimit limit (Stopped after)
 limited_start before after leaves limit book on ours has =
-    rw leaves.bounded.moments.size_stays (at_exit (HasLimit (state_of before).size limit) (state_of before) (state_of after) (is_sound after)
+    rw leaves.bounded.moments.size_stays
+    (at_exit (HasLimit (state_of before).size limit) (state_of before) (state_of after) (is_sound after)
     (start_keeps_limit (state_of before) (state_of after) limit leaves
     (λ image cut. with_shape (state_of before).size image (on.ours ours image cut)) has))
 

@@ -8,7 +8,7 @@ use Rattle.spec.specs.declared.case.Endpoint.{Endpoint}
 use Rattle.spec.specs.declared.case.Endpoint.TheVariants as endpoint
 use Rattle.spec.specs.StatusWrapper.{status_wrapper}
 use Rattle.spec.specs.Sense.{Sense}
-use Rattle.spec.specs.Exchange.{Line, sending, laid_out, in_answer, after_in}
+use Rattle.spec.specs.Exchange.{Line, Script, sending, laid_out, in_answer, after_in}
 use Rattle.bot_machine.specs.Disk.{status_of_answer, Tells, DiskValue, over, TicksIn, Proceeds, IsStepBy, IsStep, Elapses}
 use Rattle.bot_machine.specs.Disk.{TakesFew}
 use Rattle.medium.specs.Medium.{State, IsSound}
@@ -94,15 +94,16 @@ none_named m disk happens = no_looks (λ s. (s < first_home_of disk.unit) ⊎ Re
 
 -- what was done with a packet to Bulk-Out is a step of the disk
 pub served : {M : Type 0} (state : M → State) (Follows : M → M → Type 0) (At : ℕ → Type 0) (old new : DiskValue M) (from to : BulkState)
-    (packet : List ℕ) → old.line.out_halted ≡ false
-    → ServesPacket (state old.unit.store.medium) (state new.unit.store.medium) old.unit new.unit old.line new.line false packet
+    (left : Script) (packet : List ℕ) → old.line.out_halted ≡ false → left ≡ old.line.left
+    → ServesPacket (state old.unit.store.medium) (state new.unit.store.medium) old.unit new.unit old.line new.line false left packet
     → HandsOn state Follows At old.unit new.unit from to
     → ((s : ℕ) → At s → ReadsAt old (event.Out (record { items = packet })) s) → new.line.packet_size ≡ old.line.packet_size
     → IsStep (state old.unit.store.medium) (state new.unit.store.medium) old (event.Out (record { items = packet })) answer.Ack new
-served state Follows At old new from to packet halted serves passes reads size =
+served state Follows At old new from to left packet halted same serves passes reads size =
     let before = state old.unit.store.medium in
     let after = state new.unit.store.medium in
-    let s = subst (λ h. ServesPacket before after old.unit new.unit old.line new.line h packet) (sym halted) serves in
+    let s = subst (λ h. ServesPacket before after old.unit new.unit old.line new.line h old.line.left packet) (sym halted)
+    (subst (λ l. ServesPacket before after old.unit new.unit old.line new.line false l packet) same serves) in
     record {
       proceeds = s.proceeds;
       rests = λ book fits none. s.rests book fits (λ block taken carries. none (block, taken, carries));
@@ -118,14 +119,14 @@ served state Follows At old new from to packet halted serves passes reads size =
     }
 
 -- a packet that has no command carried out, where the unit stays as it is
-pub idle : {M : Type 0} (m : State) (unit : UnitValue M) (from to : Line) (packet : List ℕ) → IsSound m
-    → ((book : Book) → IsOfSize unit book → OutStep Intends CarriesOut Ticks (has_refused m m) false from.left packet
+pub idle : {M : Type 0} (m : State) (unit : UnitValue M) (from to : Line) (left : Script) (packet : List ℕ) → IsSound m
+    → ((book : Book) → IsOfSize unit book → OutStep Intends CarriesOut Ticks (has_refused m m) false left packet
     (on_line from (state_of unit book)) answer.Ack (on_line to (state_of unit book)))
-    → ((book : Book) → None ≡ write_of_packet from.packet_size false from.left packet (state_of unit book))
+    → ((book : Book) → None ≡ write_of_packet from.packet_size false left packet (state_of unit book))
     → ((book : Book) → IsOfSize unit book
-    → CarriesOutNone (PacketCarriesOut from.packet_size false from.left packet (state_of unit book)))
-    → ServesPacket m m unit unit from to false packet
-idle m unit from to packet sound step none never = record {
+    → CarriesOutNone (PacketCarriesOut from.packet_size false left packet (state_of unit book)))
+    → ServesPacket m m unit unit from to false left packet
+idle m unit from to left packet sound step none never = record {
   proceeds = λ book fits. staying_so m unit _ _ book sound fits (none book) (step book (fits_size m unit book fits));
   rests = λ book fits still. refl;
   spares = λ book fits block taken carries. absurd (never book (fits_size m unit book fits) block taken carries);
@@ -133,18 +134,19 @@ idle m unit from to packet sound step none never = record {
 }
 
 -- a packet that has this command carried out, over these bytes, and no other
-pub carried : {M : Type 0} (before after : State) (old new : UnitValue M) (from to : Line) (packet block bytes : List ℕ)
+pub carried : {M : Type 0} (before after : State) (old new : UnitValue M) (from to : Line) (left : Script)
+    (packet block bytes : List ℕ)
     → ((book : Book) → FitsUnit before old book → Proceeds before after old new
-    (λ unit later. OutStep Intends CarriesOut Ticks (has_refused before after) false from.left packet (on_line from unit) answer.Ack
-    (on_line to later)) (write_of_packet from.packet_size false from.left packet (state_of old book)) book)
+    (λ unit later. OutStep Intends CarriesOut Ticks (has_refused before after) false left packet (on_line from unit) answer.Ack
+    (on_line to later)) (write_of_packet from.packet_size false left packet (state_of old book)) book)
     → ((book : Book) → IsOfSize old book
-    → PacketCarriesOut from.packet_size false from.left packet (state_of old book) block bytes
-    × ((other taken : List ℕ) → PacketCarriesOut from.packet_size false from.left packet (state_of old book) other taken
+    → PacketCarriesOut from.packet_size false left packet (state_of old book) block bytes
+    × ((other taken : List ℕ) → PacketCarriesOut from.packet_size false left packet (state_of old book) other taken
     → (other ≡ block) × (taken ≡ bytes)))
     → (told : Result (List ℕ) Sense) × IsSparing before after block bytes old told new × IsBounded before after block bytes old
     × Tells told to
-    → ServesPacket before after old new from to false packet
-carried before after old new from to packet block bytes proceeds one spared = record {
+    → ServesPacket before after old new from to false left packet
+carried before after old new from to left packet block bytes proceeds one spared = record {
   proceeds = proceeds;
   rests = λ book fits none. absurd (none block bytes (one book (fits_size before old book fits)).0);
   spares = λ book fits other taken carries.

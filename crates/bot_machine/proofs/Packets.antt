@@ -146,7 +146,8 @@ same_front packet room more e = grind (arith, take_all {A = ℕ})
 
 pub front_filled : (front packet rest : List ℕ) (filled size more : ℕ) → length front ≡ filled → filled ≤ size
     → more ≡ min (length packet) (size - filled) → take (filled + more) (front ++ (take more packet ++ rest)) ≡ take size (front ++ packet)
-front_filled front packet rest filled size more l h e = grind (arith, length-take {A = ℕ}, take-append-add {A = ℕ}, take-append-le {A = ℕ}, take_all {A = ℕ})
+front_filled front packet rest filled size more l h e =
+    grind (arith, length-take {A = ℕ}, take-append-add {A = ℕ}, take-append-le {A = ℕ}, take_all {A = ℕ})
 
 module _ {A : Type 0} (most size due : ℕ) (a b : A) where
   -- the last packet of the data

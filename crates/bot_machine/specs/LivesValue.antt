@@ -53,6 +53,11 @@ HasPackets size (Running disk) = disk.line.packet_size ≡ size
 abbrev pub KeepsPackets : DiskState → DiskState → Type 0
 KeepsPackets old new = (size : ℕ) → HasPackets size old → HasPackets size new
 
+-- the medium is armed so, and a disk that runs over it has packets of the same size
+pub record ArmsState (Arms : Sim → Sim → Type 0) (old new : DiskState) : Type 0 where
+  pub armed : Arms (medium_in old) (medium_in new)
+  pub packets : KeepsPackets old new
+
 -- a disk was started, and the event's packet is no longer than those of the disk
 pub record AwaitsEvent (lives : LivesValue) (event : Event) : Type 0 where
   pub started : HasStarted lives.state
@@ -244,6 +249,7 @@ pub record LifeBegins (before : LivesValue) (result : Result (Unit {0}) StartFau
 pub record DiskAnswers (before : DiskState) (answer : Answer) (after : DiskState) : Type 0 where
   pub started : HasStarted after
   pub off : (answer ≡ Off) ↔ ((medium_in after).power.off ≡ true)
+  pub packets : KeepsPackets before after
   pub follows : ComesAfter (medium_in before) (medium_in after)
 
 -- a medium that holds nothing, where none is kept; that is so within a call alone

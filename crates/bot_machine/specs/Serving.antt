@@ -1,5 +1,5 @@
 -- What the parts of an event do to the unit and to the line.
-use Rattle.std.specs.Prelude.{◌≡◌, ◌<◌, ◌≤◌, ◌*◌, ℕ, Bool, List, length, Result}
+use Rattle.std.specs.Prelude.{◌≡◌, ◌<◌, ◌≤◌, ◌*◌, ℕ, Bool, false, List, length, Result}
 use Rattle.spec.specs.declared.wrapper.Cbw.{Cbw}
 use Rattle.spec.specs.declared.case.Case.{Case}
 use Rattle.spec.specs.declared.way.Way.TheVariants as ways
@@ -20,12 +20,12 @@ use Rattle.bot_machine.specs.declared.bulk_state.Phase.TheVariants.{Command, Dat
 use Rattle.bot_machine.specs.declared.bulk_state.BulkState.{BulkState}
 use Rattle.spec.specs.Packets.{bytes_of}
 use Rattle.spec.specs.declared.event.Answer.TheVariants.{Ack}
-use Rattle.spec.specs.Exchange.{Line, moment_of, at_once}
+use Rattle.spec.specs.Exchange.{Line, Script, moment_of, at_once}
 use Rattle.spec.specs.Conversation.{IsCarriedOut, OutStep}
 use Rattle.spec.specs.UnitConversation.{way_of, Intends, write_of_packet, on_line}
 use Rattle.bot_machine.specs.Acts.{CarriesOutNone, PacketCarriesOut}
 use Rattle.bot_machine.specs.Promising.{SendsBy}
-use Rattle.bot_machine.specs.Refinement.{IsTaking, IsInPhase}
+use Rattle.bot_machine.specs.Refinement.{line_of, IsTaking, IsInPhase}
 use Rattle.bot_machine.specs.Disk.{Proceeds, Elapses, TakesFew, Tells}
 use Rattle.bot_machine.specs.Reading.{LooksBesides}
 
@@ -57,25 +57,26 @@ CarriesOutOn before after old new from to exchange bytes = (book : Book) → Fit
     exchange.case exchange.command exchange.intended bytes (on_line from unit) (on_line to later))
     (write_in_progress (state_of old book) exchange.command.block.items bytes) book
 
--- A packet comes to Bulk-Out, which is halted or not: it is taken by the rules.
+-- A packet comes to Bulk-Out, which is halted or not, where this is left of the exchange: it is taken
+-- by the rules.
 pub record ServesPacket {M : Type 0} (before after : State) (old new : UnitValue M)
-    (from to : Line) (halted : Bool) (packet : List ℕ) : Type 0 where
+    (from to : Line) (halted : Bool) (left : Script) (packet : List ℕ) : Type 0 where
   pub proceeds : (book : Book) → FitsUnit before old book → Proceeds before after old new
-      (λ unit later. OutStep Intends CarriesOut Ticks (has_refused before after) halted from.left
+      (λ unit later. OutStep Intends CarriesOut Ticks (has_refused before after) halted left
       packet (on_line from unit) Ack (on_line to later))
-      (write_of_packet from.packet_size halted from.left packet (state_of old book)) book
+      (write_of_packet from.packet_size halted left packet (state_of old book)) book
   -- where it has no command carried out, the unit stays as it is
   pub rests : (book : Book) → FitsUnit before old book → CarriesOutNone
-      (PacketCarriesOut from.packet_size halted from.left packet (state_of old book)) → new ≡ old
+      (PacketCarriesOut from.packet_size halted left packet (state_of old book)) → new ≡ old
   -- where it has one, the unit makes no call of the medium that it does not need, no more than its
   -- calls of the store add up to, and the line is to tell its answer
   pub spares : (book : Book) → FitsUnit before old book → (block taken : List ℕ)
-      → PacketCarriesOut from.packet_size halted from.left packet (state_of old book) block taken
+      → PacketCarriesOut from.packet_size halted left packet (state_of old book) block taken
       → (answer : Result (List ℕ) Sense) × IsSparing before after block taken old answer new
       × IsBounded before after block taken old × Tells answer to
   -- it has as few calls made that write as its command promises
   pub sends : (book : Book) → IsOfSize old book → SendsBy before after old (state_of old book)
-      (PacketCarriesOut from.packet_size halted from.left packet (state_of old book))
+      (PacketCarriesOut from.packet_size halted left packet (state_of old book))
 
 -- A part of an event passes these on: a phase that the unit allows, its limit and the size of a
 -- packet as they were, and the medium, which comes after what it was by few calls, and of which no
@@ -89,6 +90,13 @@ pub record HandsOn {M : Type 0} (state : M → State) (Follows : M → M → Typ
   pub looks : LooksBesides At (state old.store.medium) (state new.store.medium) old
   pub elapses : Elapses (state old.store.medium) (state new.store.medium)
   pub follows : Follows old.store.medium new.store.medium
+
+-- what a part of an event that takes the last data, or data of a wrong size, does and passes on
+pub record EndsData {M : Type 0} (state : M → State) (Follows : M → M → Type 0)
+    (old new : UnitValue M) (from to : BulkState) (before after packet : List ℕ) : Type 0 where
+  pub serves : ServesPacket (state old.store.medium) (state new.store.medium) old new
+      (line_of from before) (line_of to after) false (line_of from before).left packet
+  pub passes : HandsOn state Follows (λ _. ⊥) old new from to
 
 -- ---- what these parts ask for
 

@@ -10,10 +10,10 @@ ghost use Rattle.scsi_unit.specs.Calls.{IsBounded};
 ghost use Rattle.scsi_unit.specs.Serving.{IsSparing};
 ghost use Rattle.scsi_unit.specs.UnitValue.{unit_limit};
 ghost use Rattle.bot_machine.specs.Disk.{Tells};
-ghost use Rattle.spec.specs.Exchange.{Script};
+ghost use Rattle.spec.specs.Exchange.{Script, finished};
 ghost use Rattle.bot_machine.specs.Refinement.{line_of, line_with, LaysOut};
 ghost use Rattle.bot_machine.specs.Serving.{IsBegun, CarriesOutOn, ServesPacket, HandsOn};
-ghost use Rattle.bot_machine.specs.Serving.{CanCarryOut, LiesIn};
+ghost use Rattle.bot_machine.specs.Serving.{EndsData, CanCarryOut, LiesIn};
 ghost use Rattle.bot_machine.specs.Serving.{AwaitsWrapper, AwaitsData, AwaitsEnd, HasMoreDue};
 ghost use Rattle.scsi_unit.specs.Reading.{IsOneOf};
 ghost use Rattle.bot_machine.specs.Reading.{sectors_for, WrapperReadsAt};
@@ -88,7 +88,8 @@ pub(crate) fn open<M: Medium>(
     requires { AwaitsWrapper (unit_limit unit.old) bulk.old transfer.old }
     ensures serves { ServesPacket
         (M.state unit.old.store.medium) (M.state unit.new.store.medium) unit.old unit.new
-        (line_of bulk.old transfer.old) (line_of bulk.new transfer.new) false packet.now }
+        (line_of bulk.old transfer.old) (line_of bulk.new transfer.new) false
+        finished packet.now }
     ensures passes { HandsOn M.state M.follows (WrapperReadsAt unit.old packet.now)
         unit.old unit.new bulk.old bulk.new }
 {
@@ -123,7 +124,8 @@ pub(crate) fn take_data<M: Medium>(
     requires { AwaitsData unit.old bulk.old transfer.old }
     ensures serves { ServesPacket
         (M.state unit.old.store.medium) (M.state unit.new.store.medium) unit.old unit.new
-        (line_of bulk.old transfer.old) (line_of bulk.new transfer.new) false packet.now }
+        (line_of bulk.old transfer.old) (line_of bulk.new transfer.new) false
+        (line_of bulk.old transfer.old).left packet.now }
     ensures passes { HandsOn M.state M.follows (λ _. ⊥) unit.old unit.new bulk.old bulk.new }
 {
     let Phase::DataOut(pending) = &mut bulk.phase else {
@@ -158,10 +160,8 @@ fn take_more(pending: &mut Taking, taken: &mut [u8], packet: &[u8], most: u32)
 #[inline(never)]
 fn end_data<M: Medium>(unit: &mut Unit<M>, bulk: &mut BulkState, transfer: &mut [u8], packet: &[u8])
     requires { AwaitsEnd unit.old bulk.old transfer.old packet.now }
-    ensures serves { ServesPacket
-        (M.state unit.old.store.medium) (M.state unit.new.store.medium) unit.old unit.new
-        (line_of bulk.old transfer.old) (line_of bulk.new transfer.new) false packet.now }
-    ensures passes { HandsOn M.state M.follows (λ _. ⊥) unit.old unit.new bulk.old bulk.new }
+    ensures { EndsData M.state M.follows unit.old unit.new bulk.old bulk.new transfer.old
+        transfer.new packet.now }
 {
     let Phase::DataOut(pending) = mem::replace(&mut bulk.phase, Phase::Command) else {
         unreachable!()

@@ -5,8 +5,7 @@ ghost use Rattle.medium.specs.Writes.{keeps};
 ghost use Rattle.bot_machine.specs.Device.{Device, device_by};
 ghost use Rattle.spec.specs.Lives.{starts, plays, cuts, arms, fails};
 ghost use Rattle.bot_machine.specs.LivesValue.{medium_in, HasStarted, TakesEvent, HasBegun};
-ghost use Rattle.bot_machine.specs.LivesValue.{LivesGoOn, LivesRefuseStart, DiskAnswers};
-ghost use Rattle.bot_machine.specs.LivesValue.{KeepsPackets};
+ghost use Rattle.bot_machine.specs.LivesValue.{LivesGoOn, LivesRefuseStart, DiskAnswers, ArmsState};
 ghost use Rattle.bot_machine.specs.declared.lives.disk_state.DiskState.TheVariants.{Stopped};
 ghost use Rattle.bot_machine.specs.declared.lives.disk_state.DiskState.TheVariants.{Running};
 
@@ -52,8 +51,7 @@ pub(crate) fn fuse(state: &mut DiskState, writes: u64)
     ensures goes_on { (device : Device) → LivesGoOn
         (record { device = device; state = state.old }) (arms writes ∷ []) []
         (record { device = device; state = state.new }) }
-    ensures fused { IsFused writes (medium_in state.old) (medium_in state.new) }
-    ensures packets { KeepsPackets state.old state.new }
+    ensures armed { ArmsState (IsFused writes) state.old state.new }
 {
     match state {
         DiskState::Stopped(medium) => medium.fuse(writes),
@@ -68,8 +66,7 @@ pub(crate) fn fail(state: &mut DiskState, call: u64)
     ensures goes_on { (device : Device) → LivesGoOn
         (record { device = device; state = state.old }) (fails call ∷ []) []
         (record { device = device; state = state.new }) }
-    ensures failing { IsFailing call (medium_in state.old) (medium_in state.new) }
-    ensures packets { KeepsPackets state.old state.new }
+    ensures armed { ArmsState (IsFailing call) state.old state.new }
 {
     match state {
         DiskState::Stopped(medium) => medium.fail(call),
@@ -121,7 +118,6 @@ pub(crate) fn play(state: &mut DiskState, event: &Event) -> Answer
         (record { device = device; state = state.old }) (plays event.now ∷ []) (result ∷ [])
         (record { device = device; state = state.new }) }
     ensures plays { DiskAnswers state.old result state.new }
-    ensures packets { KeepsPackets state.old state.new }
 {
     match state {
         DiskState::Stopped(_) => Answer::Off,

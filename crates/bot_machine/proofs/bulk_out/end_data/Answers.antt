@@ -8,29 +8,31 @@ use Rattle.bot_machine.proofs.UnitLaws.{proceeding_so}
 use Rattle.bot_machine.proofs.OutPackets.{unit_stays, idle, carried, one_taking}
 use Rattle.bot_machine.proofs.bulk_out.end_data.Goals as goal
 
-pub returns-then-packet-size_of_next-clause-serves : goal.returns-then-packet-size_of_next-clause-serves
-returns-then-packet-size_of_next-clause-serves g c =
+pub returns-then-packet-size_of_next : goal.returns-then-packet-size_of_next
+returns-then-packet-size_of_next g c =
     let d = c.in-DataOut.pending in
     let unit = c.args.unit.now in
     let most : ℕ = bytes_of c.args.bulk.now.size in
     let other : length c.args.packet.now ≡ d.due → most < d.due = λ whole. omega arith in
-    rw (← c.in-DataOut.ensures.value) (idle _ unit _ _ _ (g.met.M.Medium.sound unit.store.medium)
-    (λ book size. (
-      refl,
-      inr (inr (record {
-        size = let s : length c.args.packet.now ≢ min most d.due = omega arith in s;
-        unit = refl;
-        after = rw (packets_of-none most (some_bytes c.args.bulk.now.size))
-            at (c.conclude_wrong_size.ensures.line c.args.transfer.now (taking_of d c.args.transfer.now) (omega arith));
-      })),
-    ))
-    (λ book. other_packet most (length c.args.packet.now) d.due _ _ other)
-    (λ book size block taken carries. let last = carries.last in let more = other carries.size in absurd (omega (arith, more, last))))
-
-pub returns-then-packet-size_of_next-clause-passes : goal.returns-then-packet-size_of_next-clause-passes
-returns-then-packet-size_of_next-clause-passes g c =
-    unit_stays _ _ _ c.args.unit.now c.args.bulk.now c.conclude_wrong_size.new.bulk g.met.M.Medium.follows_itself
-    (c.conclude_wrong_size.ensures.phase _ _ (omega arith)) c.conclude_wrong_size.ensures.size
+    record {
+      serves = rw (← c.in-DataOut.ensures.value) (idle _ unit _ _ _ _ (g.met.M.Medium.sound unit.store.medium)
+          (λ book size. (
+            refl,
+            inr (inr (record {
+              size = let s : length c.args.packet.now ≢ min most d.due = omega arith in s;
+              unit = refl;
+              after = rw (packets_of-none most (some_bytes c.args.bulk.now.size))
+                  at (c.conclude_wrong_size.ensures.line c.args.transfer.now (taking_of d c.args.transfer.now) (omega arith));
+            })),
+          ))
+          (λ book. other_packet most (length c.args.packet.now) d.due _ _ other)
+          (λ book size block taken carries.
+          let last = carries.last in
+          let more = other carries.size in absurd (omega (arith, more, last))));
+      passes =
+          unit_stays _ _ _ unit c.args.bulk.now c.conclude_wrong_size.new.bulk g.met.M.Medium.follows_itself
+          (c.conclude_wrong_size.ensures.phase _ _ (omega arith)) c.conclude_wrong_size.ensures.size;
+    }
 
 pub returns : goal.returns
 returns g c =
@@ -50,7 +52,7 @@ returns g c =
     let lies = lies_after c.fill.new.buffer d.exchange.case _ held.moment in
     let spared = rw bytes at c.carry_out.ensures.spares in
     record {
-      serves = rw (← c.in-DataOut.ensures.value) (carried _ _ unit _ _ _ _ d.exchange.command.block.items _
+      serves = rw (← c.in-DataOut.ensures.value) (carried _ _ unit _ _ _ _ _ d.exchange.command.block.items _
           (λ book fits. proceeding_so _ _ _ _ _ _ _ _ book
           (rw bytes at (c.carry_out.ensures.carried_out c.fill.new.buffer (taking_of d c.args.transfer.now) lies book fits))
           (last_packet most (length c.args.packet.now) d.due _ _ whole last)

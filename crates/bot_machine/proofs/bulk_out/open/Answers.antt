@@ -2,17 +2,19 @@ use Rattle.std.proofs.Common.{◌≡◌, ◌∙◌, inl, inr, [], refl, sym, ari
 use Rattle.scsi_unit.specs.Reading.{IsOneOf}
 use Rattle.bot_machine.specs.Reading.{sectors_for, WrapperReadsAt}
 use Rattle.bot_machine.proofs.Wrappers.{besides, at_home, opens, no_write, carries_out, carried_at_once}
+use Rattle.spec.specs.Packets.{bytes_of}
+use Rattle.bot_machine.specs.Refinement.{left_of}
 use Rattle.bot_machine.proofs.Packets.{packets_of-none, some_bytes}
 use Rattle.bot_machine.proofs.UnitLaws.{proceeding_so, fits_size}
 use Rattle.bot_machine.proofs.OutPackets.{unit_stays, idle, carried}
-use Rattle.spec.specs.Exchange.{finished, at_once, after_data, never}
+use Rattle.spec.specs.Exchange.{at_once, after_data, never}
 use Rattle.bot_machine.proofs.bulk_out.open.Goals as goal
 
 pub returns-in_default-clause-serves : goal.returns-in_default-clause-serves
 returns-in_default-clause-serves g c =
     let unit = c.args.unit.now in
-    rw (c.lock.ensures, c.requires.expected)
-    (idle _ unit _ _ _ (g.met.M.Medium.sound unit.store.medium)
+    rw c.lock.ensures
+    (idle _ unit _ _ _ _ (g.met.M.Medium.sound unit.store.medium)
     (λ book size. (refl, inr (record { unknown = c.in_default.ensures; unit = refl; after = refl }))) (λ book. refl)
     (λ book size block taken carries. c.in_default.ensures carries.command carries.spelled))
 
@@ -26,24 +28,26 @@ returns-in-AtOnce-clause-serves g c =
     let e = c.in-Some.exchange in
     let begun = c.in-Some.ensures in
     let unit = c.args.unit.now in
+    let bulk = c.args.bulk.now in
+    let left = left_of (bytes_of bulk.size) bulk.phase c.args.transfer.now bulk.status in
     let spared = c.carry_out.ensures.spares in
-    rw c.requires.expected (carried _ _ unit _ _ _ _ e.command.block.items []
+    carried _ _ unit _ _ _ _ _ e.command.block.items []
     (λ book fits.
     let size = fits_size _ unit book fits in
-    proceeding_so _ _ _ _ _ _ _ _ book (c.carry_out.ensures.carried_out _ finished (λ once. refl) book fits)
+    proceeding_so _ _ _ _ _ _ _ _ book (c.carry_out.ensures.carried_out _ left (λ once. refl) book fits)
     (no_write _ book size _ e begun [] c.in-AtOnce.ensures)
     (λ later moves. (refl, inl (opens _ book size _ e begun _ _ _ (rw (← c.in-AtOnce.ensures) moves)))))
     (λ book size. (
       carries_out _ book size _ e begun c.in-AtOnce.ensures,
       (λ block taken carries. let same = carried_at_once _ book size _ e begun block taken carries in (same.1, same.2)),
     ))
-    (spared.0, spared.1, spared.2, spared.3 _ (λ once. refl)))
+    (spared.0, spared.1, spared.2, spared.3 _ (λ once. refl))
 
 pub returns-in-AfterData-clause-serves : goal.returns-in-AfterData-clause-serves
 returns-in-AfterData-clause-serves g c =
     let e = c.in-Some.exchange in
     let unit = c.args.unit.now in
-    rw c.requires.expected (idle _ unit _ _ _ (g.met.M.Medium.sound unit.store.medium)
+    idle _ unit _ _ _ _ (g.met.M.Medium.sound unit.store.medium)
     (λ book size. (
       refl,
       inl (opens _ book size _ e c.in-Some.ensures _ _ _ (rw (← c.in-AfterData.ensures, ← c.size-due.ensures)
@@ -51,23 +55,25 @@ returns-in-AfterData-clause-serves g c =
     ))
     (λ book. refl)
     (λ book size block taken carries. let same : after_data ≡ at_once
-    = c.in-AfterData.ensures ∙ (carried_at_once _ book size _ e c.in-Some.ensures block taken carries).0 in cc))
+    = c.in-AfterData.ensures ∙ (carried_at_once _ book size _ e c.in-Some.ensures block taken carries).0 in cc)
 
 pub returns-in-Never-clause-serves : goal.returns-in-Never-clause-serves
 returns-in-Never-clause-serves g c =
     let e = c.in-Some.exchange in
     let unit = c.args.unit.now in
-    rw c.requires.expected (idle _ unit _ _ _ (g.met.M.Medium.sound unit.store.medium)
+    let bulk = c.args.bulk.now in
+    let left = left_of (bytes_of bulk.size) bulk.phase c.args.transfer.now bulk.status in
+    idle _ unit _ _ _ _ (g.met.M.Medium.sound unit.store.medium)
     (λ book size. (
       refl,
       inl (opens _ book size _ e c.in-Some.ensures _ _ _ (rw (← c.in-Never.ensures) (
         refl,
-        rw (packets_of-none _ (some_bytes c.args.bulk.now.size)) at (c.conclude.ensures.line c.args.transfer.now finished (omega arith)),
+        rw (packets_of-none _ (some_bytes bulk.size)) at (c.conclude.ensures.line c.args.transfer.now left (omega arith)),
       ))),
     ))
     (λ book. refl)
     (λ book size block taken carries. let same : never ≡ at_once
-    = c.in-Never.ensures ∙ (carried_at_once _ book size _ e c.in-Some.ensures block taken carries).0 in cc))
+    = c.in-Never.ensures ∙ (carried_at_once _ book size _ e c.in-Some.ensures block taken carries).0 in cc)
 
 pub returns-in-Never-clause-passes : goal.returns-in-Never-clause-passes
 returns-in-Never-clause-passes g c =

@@ -23,7 +23,7 @@ returns-then-packet-most-clause-serves g c =
     ≡ taking d.exchange.case d.exchange.command d.exchange.intended
     (take (size_of_way d.exchange.intended) (take d.filled c.args.transfer.now ++ c.args.packet.now)) (d.due - most) =
     rw (c.take_more.ensures.exchange, c.take_more.ensures.bytes, c.take_more.ensures.due, c.bytes-most.ensures) refl in
-    rw c.in-DataOut.is (idle _ unit _ _ _ (g.met.M.Medium.sound unit.store.medium)
+    rw c.in-DataOut.is (idle _ unit _ _ _ _ (g.met.M.Medium.sound unit.store.medium)
     (λ book size. (
       refl,
       inl (record {

@@ -1,4 +1,4 @@
-use Rattle.std.proofs.Common.{rules, sym, ap}
+use Rattle.std.proofs.Common.{rules, refl, sym, ap}
 use Rattle.std.proofs.lemmas.List.{with_items_is, places}
 use Rattle.spec.specs.Packets.{bytes_of}
 use Rattle.bot_machine.specs.Refinement.{left_of}
@@ -15,7 +15,7 @@ returns-in-Command-clause-step g c =
     let passes = c.open.ensures.passes in
     let expected = ap (λ p. left_of (bytes_of d.bulk.size) p d.transfer.items d.bulk.status) c.in-Command.is in
     rw (← c.self.view_is, with_items_is d.transfer c.open.new.transfer (search (rules, places)))
-    (served _ _ _ _ _ _ _ c.args.packet.now c.if-self.false (rw c.deref_mut.ensures.value at c.open.ensures.serves) passes
+    (served _ _ _ _ _ _ _ _ c.args.packet.now c.if-self.false (sym expected) (rw c.deref_mut.ensures.value at c.open.ensures.serves) passes
     (λ s at. (at.0, record { unhalted = c.if-self.false; expected = expected; wrapper = at.1 }, at.2)) (ap bytes_of passes.size))
 
 pub returns-in-DataOut-clause-step : goal.returns-in-DataOut-clause-step
@@ -23,7 +23,7 @@ returns-in-DataOut-clause-step g c =
     let d = c.self.inside in
     let passes = c.take_data.ensures.passes in
     rw (← c.self.view_is, with_items_is d.transfer c.take_data.new.transfer (search (rules, places)))
-    (served _ _ _ _ _ _ _ c.args.packet.now c.if-self.false (rw c.deref_mut-in-DataOut.ensures.value at c.take_data.ensures.serves) passes
+    (served _ _ _ _ _ _ _ _ c.args.packet.now c.if-self.false refl (rw c.deref_mut-in-DataOut.ensures.value at c.take_data.ensures.serves) passes
     (λ s at. absurd at) (ap bytes_of passes.size))
 
 pub returns-in_default-clause-step : goal.returns-in_default-clause-step
