@@ -52,19 +52,17 @@ module _ (P : Option Write → Type 0) (refused : Bool) (old new : Conversation 
       → OfCarried (PacketCarriesOut old.line.packet_size halted left packet old.unit)
       → OutStep Intends CarriesOut Ticks refused halted left packet old answer new
       → P (write_of_packet old.line.packet_size halted left packet old.unit)
-  out true left packet answer carried step = grind arith
   out false finished packet answer carried step = grind (arith, opened packet carried)
   out false (taking case command intended bytes due) packet answer carried step =
       taken case command intended bytes due packet carried step.1
-  out false (sending packets halt status) packet answer carried step = grind arith
+  out halted left packet answer carried step = grind arith
 
   -- it holds with the write of the event
   pub by_event : (event : Event) (answer : Answer) → OfCarried (EventCarriesOut old event) → UnitStep refused old event answer new
       → P (write_of_event old event)
   by_event (event.Out packet) answer carried step = out old.line.out_halted old.line.left packet.items answer carried step
-  by_event event.In answer carried step = grind arith
-  by_event (event.Setup packet) answer carried step = grind arith
   by_event event.Tick answer carried step = idle step.1
+  by_event event answer carried step = grind arith
 
 -- a step in the background leaves the book
 same_book : (refused : Bool) (old new : UnitState) → Ticks refused old new → new.book ≡ old.book

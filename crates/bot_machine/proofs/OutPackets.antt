@@ -281,5 +281,19 @@ unit_stays state Follows At unit from to itself phase size = record {
   follows = itself unit.store.medium;
 }
 
+-- what is passed on where this holds of a home sector that was read, too
+pub passes_wider : {M : Type 0} (state : M → State) (Follows : M → M → Type 0) (At Other : ℕ → Type 0) (old new : UnitValue M)
+    (from as_large to : BulkState) → from.size ≡ as_large.size → ((s : ℕ) → At s → Other s) → HandsOn state Follows At old new from to
+    → HandsOn state Follows Other old new as_large to
+passes_wider state Follows At Other old new from as_large to same wider p = record {
+  phase = p.phase;
+  limit = p.limit;
+  size = p.size ∙ same;
+  few = p.few;
+  looks = besides (state old.store.medium) (state new.store.medium) old At Other wider p.looks;
+  elapses = p.elapses;
+  follows = p.follows;
+}
+
 -- a command that waits for its data sends none, and no read was made
 pub ruleset nothing_read = (waits_to_send_none, none_besides)

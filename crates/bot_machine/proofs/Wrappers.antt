@@ -77,8 +77,10 @@ pub none_for : {M : Type 0} (unit : UnitValue M) (block : List ℕ) → ((n : �
     → sectors_for unit block ≡ None
 none_for unit block silent = ap (λ read. home_sectors_of (first_home_of unit) read) (sends_none-reads_none unit block silent)
 
-nothing_named : (wanted : Option HomeSectors) (sector : ℕ) → wanted ≡ None → IsOneOf wanted sector → ⊥
-nothing_named wanted sector none at = subst (λ w. IsOneOf w sector) none at
+-- none of its home sectors is read then
+pub nothing_read_for : {M : Type 0} (unit : UnitValue M) (block : List ℕ) → ((n : ℕ) → intention_of unit block ≢ intent.In n)
+    → (sector : ℕ) → IsOneOf (sectors_for unit block) sector → ⊥
+nothing_read_for unit block silent sector at = subst (λ w. IsOneOf w sector) (none_for unit block silent) at
 
 -- these are the ones that are read in the case
 these : (case : Case) (wanted : Option HomeSectors) (sector : ℕ) → sectors_in case wanted ≡ wanted → IsOneOf wanted sector
@@ -161,13 +163,6 @@ pub besides : {M : Type 0} (before after : State) (unit : UnitValue M) (At Other
 besides before after unit At Other wider looks =
     looks_wider (λ s. (s < first_home_of unit) ⊎ At s) (λ s. (s < first_home_of unit) ⊎ Other s) before after
     (λ s named. ⊎_elim inl (λ at. inr (wider s at)) named) looks
-
--- or the log alone, where the command is not about to send anything
-pub log_alone : {M : Type 0} (before after : State) (unit : UnitValue M) (block : List ℕ)
-    → ((n : ℕ) → intention_of unit block ≢ intent.In n) → LooksBesides (IsOneOf (sectors_for unit block)) before after unit
-    → LooksBesides (λ _. ⊥) before after unit
-log_alone before after unit block silent looks = besides before after unit (IsOneOf (sectors_for unit block)) (λ _. ⊥)
-    (λ s at. nothing_named (sectors_for unit block) s (none_for unit block silent) at) looks
 
 -- a unit and a book of its size, and the exchange that a packet begins
 module _ {M : Type 0} (unit : UnitValue M) (book : Book) (size : IsOfSize unit book)

@@ -57,8 +57,8 @@ CarriesOutOn before after old new from to exchange bytes = (book : Book) → Fit
     exchange.case exchange.command exchange.intended bytes (on_line from unit) (on_line to later))
     (write_in_progress (state_of old book) exchange.command.block.items bytes) book
 
--- A packet comes to Bulk-Out, which is halted or not, where this is left of the exchange: it is taken
--- by the rules.
+-- A packet comes to Bulk-Out, which is halted or not, where this is left of the exchange. It is
+-- taken by the rules.
 pub record ServesPacket {M : Type 0} (before after : State) (old new : UnitValue M)
     (from to : Line) (halted : Bool) (left : Script) (packet : List ℕ) : Type 0 where
   pub proceeds : (book : Book) → FitsUnit before old book → Proceeds before after old new

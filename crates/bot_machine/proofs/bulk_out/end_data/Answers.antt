@@ -1,11 +1,11 @@
 use Rattle.std.proofs.Common.{ℕ, ◌≡◌, ◌≢◌, ◌<◌, ◌≤◌, inl, inr, length, min, refl, sym, arith, ◌∙◌}
-use Rattle.bot_machine.proofs.Wrappers.{log_alone}
+use Rattle.bot_machine.proofs.Wrappers.{nothing_read_for}
 use Rattle.std.proofs.lemmas.Bool.{cases_lt}
 use Rattle.spec.specs.Packets.{bytes_of}
 use Rattle.bot_machine.specs.Refinement.{taking_of}
 use Rattle.bot_machine.proofs.Packets.{last_packet, other_packet, packets_of-none, some_bytes, lies_after}
 use Rattle.bot_machine.proofs.UnitLaws.{proceeding_so}
-use Rattle.bot_machine.proofs.OutPackets.{unit_stays, idle, carried, one_taking}
+use Rattle.bot_machine.proofs.OutPackets.{unit_stays, idle, carried, one_taking, passes_wider}
 use Rattle.bot_machine.proofs.bulk_out.end_data.Goals as goal
 
 pub returns-then-packet-size_of_next : goal.returns-then-packet-size_of_next
@@ -62,15 +62,6 @@ returns g c =
             (λ block taken carries. (carries.block_is, carries.taken_is)),
           ))
           (spared.0, spared.1, spared.2, spared.3 c.fill.new.buffer lies));
-      passes =
-          let p = c.carry_out.ensures.passes in
-          record {
-            phase = p.phase;
-            limit = p.limit;
-            size = p.size;
-            few = p.few;
-            looks = log_alone _ _ unit d.exchange.command.block.items held.sends_none p.looks;
-            elapses = p.elapses;
-            follows = p.follows;
-          };
+      passes = passes_wider _ _ _ _ _ _ _ _ _ refl (nothing_read_for unit d.exchange.command.block.items held.sends_none)
+          c.carry_out.ensures.passes;
     }

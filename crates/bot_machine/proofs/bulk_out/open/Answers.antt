@@ -1,12 +1,10 @@
 use Rattle.std.proofs.Common.{◌≡◌, ◌∙◌, inl, inr, [], refl, sym, arith}
-use Rattle.scsi_unit.specs.Reading.{IsOneOf}
-use Rattle.bot_machine.specs.Reading.{sectors_for, WrapperReadsAt}
-use Rattle.bot_machine.proofs.Wrappers.{besides, at_home, opens, no_write, carries_out, carried_at_once}
+use Rattle.bot_machine.proofs.Wrappers.{at_home, opens, no_write, carries_out, carried_at_once}
 use Rattle.spec.specs.Packets.{bytes_of}
 use Rattle.bot_machine.specs.Refinement.{left_of}
 use Rattle.bot_machine.proofs.Packets.{packets_of-none, some_bytes}
 use Rattle.bot_machine.proofs.UnitLaws.{proceeding_so, fits_size}
-use Rattle.bot_machine.proofs.OutPackets.{unit_stays, idle, carried}
+use Rattle.bot_machine.proofs.OutPackets.{unit_stays, idle, carried, passes_wider}
 use Rattle.spec.specs.Exchange.{at_once, after_data, never}
 use Rattle.bot_machine.proofs.bulk_out.open.Goals as goal
 
@@ -82,16 +80,5 @@ returns-in-Never-clause-passes g c =
 
 pub returns-in-AtOnce-clause-passes : goal.returns-in-AtOnce-clause-passes
 returns-in-AtOnce-clause-passes g c =
-    let p = c.carry_out.ensures.passes in
-    let e = c.in-Some.exchange in
-    let unit = c.args.unit.now in
-    record {
-      phase = p.phase;
-      limit = p.limit;
-      size = p.size;
-      few = p.few;
-      looks = besides _ _ unit (IsOneOf (sectors_for unit e.command.block.items)) (WrapperReadsAt unit c.args.packet.now)
-          (at_home unit c.args.packet.now e c.in-Some.ensures (sym c.in-AtOnce.ensures)) p.looks;
-      elapses = p.elapses;
-      follows = p.follows;
-    }
+    passes_wider _ _ _ _ _ _ _ _ _ refl (at_home c.args.unit.now c.args.packet.now c.in-Some.exchange c.in-Some.ensures
+    (sym c.in-AtOnce.ensures)) c.carry_out.ensures.passes

@@ -1,8 +1,9 @@
-use Rattle.std.proofs.Common.{◌≤◌, ◌<◌, ◌-◌, inl, inr, length, drop, slice_range, sym, ap, refl, arith, length-take}
+use Rattle.std.proofs.Common.{◌≡◌, ◌≤◌, ◌<◌, ◌-◌, inl, inr, length, drop, slice_range, sym, ap, refl, arith, length-take}
 use Rattle.std.proofs.lemmas.Bool.{cases_lt}
-use Rattle.spec.specs.Exchange.{Line}
+use Rattle.spec.specs.Exchange.{Line, after_in}
 use Rattle.bot_machine.specs.Disk.{DiskValue}
 use Rattle.spec.specs.Packets.{bytes_of}
+use Rattle.bot_machine.specs.Refinement.{line_of}
 use Rattle.bot_machine.proofs.Packets.{some_bytes, few_bytes, sent_more, sent_last, answer_sent}
 use Rattle.bot_machine.proofs.disk.Disk.bulk_in.Goals as goal
 
@@ -20,27 +21,16 @@ returns-in-DataIn g c =
     d.transfer.items i.from i.to e i.halt some there moves.ends in
     let fits : length (slice_range d.transfer.items i.from e) ≤ bytes_of d.bulk.size =
     omega (arith, moves.ends, length-take (e - i.from) (drop i.from d.transfer.items)) in
-    elim (cases_lt c.move_on-end.result i.to) [
+    let after = elim (cases_lt e i.to) as (λ _. put (line_of c.move_on-end.new.self d.transfer.items) ≡ put
+    (after_in (line_of d.bulk d.transfer.items))) [
       | inl more ↦
-          rw (← c.self.view_is, c.in-DataIn.is, c.deref.ensures.value, moves.more more, c.if-self.false) (
-            (
-              refl,
-              (λ _. tt),
-              ap put
-                  (sym (sent_more (bytes_of d.bulk.size) (some_bytes d.bulk.size) d.bulk.locked d.bulk.out_halted d.bulk.status
-                  d.transfer.items i.from i.to e i.halt some there moves.ends more)),
-            ),
-            record { after = tt; answer = answer; fits = fits; most = (few_bytes d.bulk.size).1 },
-          )
+          rw (moves.more more, c.in-DataIn.is, c.if-self.false) (ap put
+              (sym (sent_more (bytes_of d.bulk.size) (some_bytes d.bulk.size) d.bulk.locked d.bulk.out_halted d.bulk.status
+              d.transfer.items i.from i.to e i.halt some there moves.ends more)))
       | inr last ↦
-          rw (← c.self.view_is, c.in-DataIn.is, c.deref.ensures.value, moves.last last, c.if-self.false) (
-            (
-              refl,
-              (λ _. tt),
-              ap put
-                  (sym (sent_last (bytes_of d.bulk.size) (some_bytes d.bulk.size) d.bulk.locked d.bulk.out_halted d.bulk.status
-                  d.transfer.items i.from i.to e i.halt some there moves.ends last)),
-            ),
-            record { after = tt; answer = answer; fits = fits; most = (few_bytes d.bulk.size).1 },
-          )
-    ]
+          rw (moves.last last, c.in-DataIn.is, c.if-self.false) (ap put
+              (sym (sent_last (bytes_of d.bulk.size) (some_bytes d.bulk.size) d.bulk.locked d.bulk.out_halted d.bulk.status
+              d.transfer.items i.from i.to e i.halt some there moves.ends last)))
+    ] in
+    rw (← c.self.view_is, c.in-DataIn.is, c.deref.ensures.value, c.if-self.false)
+    ((refl, (λ _. tt), rw (c.in-DataIn.is, c.if-self.false) at after), record { after = tt; answer = answer; fits = fits; most = (few_bytes d.bulk.size).1 })

@@ -23,8 +23,8 @@ returns-in-DataOut-clause-step g c =
     let d = c.self.inside in
     let passes = c.take_data.ensures.passes in
     rw (← c.self.view_is, with_items_is d.transfer c.take_data.new.transfer (search (rules, places)))
-    (served _ _ _ _ _ _ _ _ c.args.packet.now c.if-self.false refl (rw c.deref_mut-in-DataOut.ensures.value at c.take_data.ensures.serves) passes
-    (λ s at. absurd at) (ap bytes_of passes.size))
+    (served _ _ _ _ _ _ _ _ c.args.packet.now c.if-self.false refl
+    (rw c.deref_mut-in-DataOut.ensures.value at c.take_data.ensures.serves) passes (λ s at. absurd at) (ap bytes_of passes.size))
 
 pub returns-in_default-clause-step : goal.returns-in_default-clause-step
 returns-in_default-clause-step g c =
