@@ -64,22 +64,12 @@ rests lives = record {
 }
 
 module _ (a b c : LivesValue) (xs ys : List Action) (told more : List Answer) (first : LivesGoOn a xs told b) where
-  -- the first part, by the device at the end
-  pub first_run : c.device ≡ b.device → (here : Standing) (fits : FitsLives a here)
-      → LivesRun (presented c.device) here xs told first.refusals (first.goes here fits).there
-  first_run same here fits = rw (← same) at (first.goes here fits).run
-
-  -- the second part, by the device at the beginning
-  pub next_moves : (others : List Bool) (state : DiskState) → MovesBy b.device b.state ys more others state
-      → MovesBy a.device b.state ys more others state
-  next_moves others state moves = rw first.device_stays at moves
-
   -- lives go on, and go on
   pub lives_go_on : LivesGoOn b ys more c → LivesGoOn a (xs ++ ys) (told ++ more) c
   lives_go_on next = record {
     refusals = first.refusals ++ next.refusals;
     moves = MovesBy-append a.device xs ys told more first.refusals next.refusals a.state b.state c.state first.moves
-        (next_moves next.refusals c.state next.moves);
+        (rw first.device_stays at next.moves);
     refused = counted first.refusals next.refusals (state_in a.state).failures (state_in b.state).failures (state_in c.state).failures
         first.refused next.refused;
     caused = caused_through (medium_in a.state) (medium_in b.state) (medium_in c.state) xs ys first.refusals next.refusals first.caused
@@ -96,7 +86,7 @@ module _ (a b c : LivesValue) (xs ys : List Action) (told more : List Answer) (f
           record {
             there = last.there;
             run = LivesRun-append c.device xs ys told more first.refusals next.refusals here mid.there last.there
-                (first_run next.device_stays here fits) last.run;
+                (rw (← next.device_stays) at (first.goes here fits).run) last.run;
             fits = last.fits;
             ours = last.ours ∙ mid.ours;
             limit_stays = λ ours. last.limit_stays (mid.ours ∙ ours) ∙ mid.limit_stays ours;
@@ -109,15 +99,13 @@ module _ (a b c : LivesValue) (xs ys : List Action) (told more : List Answer) (f
     refusals = first.refusals ++ next.refusals;
     at = next.at;
     moves = rw (← all) (MovesBy-append a.device xs ys told more first.refusals next.refusals a.state b.state (Stopped next.at) first.moves
-        (next_moves next.refusals (Stopped next.at) next.moves));
+        (rw first.device_stays at next.moves));
     start = next.start;
     in_start = next.in_start;
     counted = next.counted;
-    refused = subst (λ (l : List Bool). refused_events l + (state_in a.state).failures ≤ (state_in c.state).failures) (sym joined)
-        (counted first.refusals (next.refusals ++ next.in_start ∷ []) (state_in a.state).failures (state_in b.state).failures
-        (state_in c.state).failures first.refused next.refused);
-    caused = subst (λ (l : List Bool). AreCaused (medium_in a.state) (xs ++ ys) l (medium_in c.state)) (sym joined)
-        (caused_through (medium_in a.state) (medium_in b.state) (medium_in c.state) xs ys first.refusals
+    refused = rw joined (counted first.refusals (next.refusals ++ next.in_start ∷ []) (state_in a.state).failures
+        (state_in b.state).failures (state_in c.state).failures first.refused next.refused);
+    caused = rw joined (caused_through (medium_in a.state) (medium_in b.state) (medium_in c.state) xs ys first.refusals
         (next.refusals ++ next.in_start ∷ []) first.caused next.caused);
     goes = goes;
     rests = next.rests;
@@ -141,7 +129,7 @@ module _ (a b c : LivesValue) (xs ys : List Action) (told more : List Answer) (f
           record {
             there = last.there;
             run = rw (← all) (LivesRun-append c.device xs ys told more first.refusals next.refusals here mid.there last.there
-                (first_run next.device_stays here fits) last.run);
+                (rw (← next.device_stays) at (first.goes here fits).run) last.run);
             book = last.book;
             opens = last.opens;
             ours = last.ours ∙ mid.ours;
@@ -173,7 +161,7 @@ whole_life a b c d e first last armed events n cut h_arm h_start h_events h_cut 
   told = h_events.told;
   appends = h_events.appends;
   one_each = h_events.one_each;
-  goes_on = subst (λ (l : List Answer). LivesGoOn a (armed ++ starts ∷ events ++ cut ∷ []) l e) (append-nil h_events.told)
+  goes_on = rw (append-nil h_events.told) at
       (lives_go_on a d e (armed ++ starts ∷ events) (cut ∷ []) h_events.told []
       (lives_go_on a b d armed (starts ∷ events) [] h_events.told h_arm
       (lives_go_on b c d (starts ∷ []) events [] h_events.told h_start h_events.goes_on)) h_cut);
@@ -183,7 +171,7 @@ whole_life a b c d e first last armed events n cut h_arm h_start h_events h_cut 
 pub no_life : (a b c : LivesValue) (armed : List Action) (fault : StartFault) → LivesGoOn a armed [] b → LivesStop b [] [] fault c
     → LivesStop a armed [] fault c
 no_life a b c armed fault h_arm h_stop =
-    subst (λ (l : List Action). LivesStop a l [] fault c) (append-nil armed) (lives_stop a b c armed [] [] [] h_arm fault [] refl h_stop)
+    rw (append-nil armed) at (lives_stop a b c armed [] [] [] h_arm fault [] refl h_stop)
 
 -- no life yet
 pub none_yet : (lives : LivesValue) (answers : Room) → AppendsFor lives lives answers answers [] 0
@@ -228,8 +216,8 @@ module _ (lives : List Life) (i : ℕ) (life : Life) (below : i < length lives) 
 pub not_for_a_fuse : (fuse : Option ℕ) (old armed : LivesValue) (after : State) (fault : StartFault)
     → MatchOption fuse (armed ≡ old) (λ writes. IsFused writes (medium_in old.state) (medium_in armed.state))
     → IsNotOpened (state_in armed.state) after fault → IsNotOpened (state_in old.state) after fault
-not_for_a_fuse None old armed after fault same h = subst (λ (x : LivesValue). IsNotOpened (state_in x.state) after fault) same h
-not_for_a_fuse (Some writes) old armed after fault fused h = subst (λ (m : Sim). IsNotOpened (state_of m) after fault) fused h
+not_for_a_fuse None old armed after fault same h = rw same at h
+not_for_a_fuse (Some writes) old armed after fault fused h = rw fused at h
 
 -- the first lives, over a medium that opens with a book
 pub first_fits : (m : Sim) (device : Device) → StandsFirst m (record { device = device; state = Stopped m })

@@ -38,15 +38,8 @@ use Rattle.bot_machine.proofs.UnitLaws.{quiet_by_book}
 use Rattle.bot_machine.proofs.Wrappers.{besides, waits_to_send_none}
 use Rattle.bot_machine.specs.declared.bulk_state.BulkState.{BulkState}
 
--- what is being taken in a phase, or else this
-abbrev taken_in : Taking → Phase → Taking
-taken_in other Command = other
-taken_in other (DataOut taking) = taking
-taken_in other (DataIn from to halt) = other
-taken_in other Status = other
-
 pub one_taking : (taking other : Taking) → DataOut taking ≡ DataOut other → taking ≡ other
-one_taking taking other same = ap (taken_in taking) same
+one_taking taking other same = cc
 
 -- what is laid out ends in its status wrapper
 laid : (packets : List (List ℕ)) (halt : Option Endpoint) (status : List ℕ) (s : Line)

@@ -16,7 +16,7 @@ use Rattle.spec.specs.Requests.{Request, setup_packet}
 use Rattle.spec.specs.Exchange.{Line, Script, finished, taking, sending, Moment, at_once, moment_of, at_rest}
 use Rattle.spec.specs.Conversation.{Conversation, IsCarriedOut, Begins, OpensExchange, Takes, OutStep, SetupStep}
 use Rattle.spec.specs.UnitConversation.{Intends, write_of_packet, UnitStep, UnitRun, on_line}
-use Rattle.bot_machine.specs.Striking.{HasStamps, without_ticks, answers_without_ticks, IsUntroubled}
+use Rattle.bot_machine.specs.Striking.{TicksAreStruck, HasStamps, without_ticks, answers_without_ticks, IsUntroubled}
 use Rattle.bot_machine.proofs.UnitLaws.{is_function, ticks_only, knows_images}
 use Rattle.medium.specs.Medium.{State}
 use Rattle.scsi_unit.specs.UnitValue.{unit_limit, state_of as unit_state}
@@ -159,11 +159,7 @@ runs_once (e ∷ es) (a ∷ as_) (b ∷ bs) old new other (mid, step, stamps, re
     grind arith
 runs_once events answers told old new other run again = grind arith
 
-pub ticks_struck : (old new other : Conversation UnitState) (events fewer : List Event) (answers told : List Answer)
-    (refusals refused : List Bool) (run : UnitRun old events answers refusals new)
-    (again : UnitRun old fewer told refused other) → without_ticks events ≡ without_ticks fewer
-    → IsUntroubled old events answers refusals new run → IsUntroubled old fewer told refused other again
-    → (answers_without_ticks events answers ≡ answers_without_ticks fewer told) × (new ≡ other)
+pub ticks_struck : TicksAreStruck
 ticks_struck old new other events fewer answers told refusals refused run again e u v =
     runs_once (without_ticks fewer) _ _ old new other
     (rw e at (struck events answers old new (untroubled old events answers refusals new run u)))

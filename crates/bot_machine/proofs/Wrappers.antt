@@ -132,15 +132,10 @@ module _ {M : Type 0} (unit : UnitValue M) (packet : List ℕ) (exchange : Excha
       after_data-sends_none exchange.case exchange.command.host exchange.intended begun.is_case moment n
       (begun.intended ∙ ap way_of sends)
 
-  told : (result : Option HomeSectors) → result ≡ sectors_in exchange.case (sectors_for unit exchange.command.block.items)
+  pub exchange_reads : (result : Option HomeSectors) → result ≡ sectors_in exchange.case (sectors_for unit exchange.command.block.items)
       → MatchOption result (WrapperReadsNone unit packet) (WrapperReads unit packet)
-  told None is = λ wanted reads. grind (arith, is, read_by wanted reads)
-  told (Some wanted) is = found wanted (sym is)
-
-pub exchange_reads : {M : Type 0} (unit : UnitValue M) (packet : List ℕ) (exchange : Exchange) (result : Option HomeSectors)
-    → IsBegun unit packet exchange → result ≡ sectors_in exchange.case (sectors_for unit exchange.command.block.items)
-    → MatchOption result (WrapperReadsNone unit packet) (WrapperReads unit packet)
-exchange_reads unit packet exchange result begun is = told unit packet exchange begun result is
+  exchange_reads None is = λ wanted reads. grind (arith, is, read_by wanted reads)
+  exchange_reads (Some wanted) is = found wanted (sym is)
 
 -- a packet that spells no wrapper reads none
 pub nothing_spelled : {M : Type 0} (unit : UnitValue M) (packet : List ℕ) → SpellsNone packet → WrapperReadsNone unit packet

@@ -1,4 +1,4 @@
-use Rattle.std.proofs.Common.{◌≡◌, inl, inr, [], ap, sym, ◌∙◌}
+use Rattle.std.proofs.Common.{◌≡◌, [], arith, ◌∙◌}
 use Rattle.spec.specs.Exchange.{at_once, after_data, never}
 use Rattle.bot_machine.specs.Refinement.{moment_meant}
 use Rattle.bot_machine.proofs.Wrappers.{carries_out, carried_at_once}
@@ -22,7 +22,5 @@ pub returns-in-AfterData : goal.returns-in-AfterData
 returns-in-AfterData g c = λ book size block taken carries.
     let same = carried_at_once _ book size _ c.in-Some.exchange c.in-Some.ensures block taken carries in
     let once : moment_meant c.when_carried_out.result ≡ at_once = c.when_carried_out.ensures ∙ same.0 in
-    elim c.in-AfterData.is [
-      | inl late ↦ let e : after_data ≡ at_once = sym (ap moment_meant late) ∙ once in cc
-      | inr not ↦ let e : never ≡ at_once = sym (ap moment_meant not) ∙ once in cc
-    ]
+    let is = c.in-AfterData.is in
+    grind (arith, once)
