@@ -12,7 +12,7 @@ use Rattle.spec.specs.declared.event.Event.{Event}
 use Rattle.spec.specs.declared.event.Event.TheVariants as event
 use Rattle.spec.specs.declared.event.Answer.{Answer}
 use Rattle.spec.specs.Rules.{UnitState, CarriesOut, Ticks, write_in_progress, checked}
-use Rattle.spec.specs.Exchange.{Script, finished, taking, sending}
+use Rattle.spec.specs.Exchange.{Script, finished, taking}
 use Rattle.spec.specs.Conversation.{Conversation, OpensExchange, Takes, OutStep}
 use Rattle.spec.specs.UnitConversation.{Intends, UnitStep, write_of_packet, write_of_event}
 use Rattle.bot_machine.specs.Acts.{CarriesOutAtOnce, CarriesOutLast, PacketCarriesOut, EventCarriesOut}

@@ -9,12 +9,11 @@ use Rattle.spec.specs.declared.event.Answer.{Answer}
 use Rattle.bot_machine.specs.Answers.{Room}
 use Rattle.spec.specs.Conversation.{refused_events}
 use Rattle.spec.specs.Lives.{Action, starts, Standing, LivesRun}
-use Rattle.bot_machine.specs.declared.lives.disk_state.DiskState.{DiskState}
 use Rattle.bot_machine.specs.declared.lives.disk_state.DiskState.TheVariants.{Stopped}
 use Rattle.bot_machine.specs.Moving.{MovesBy}
 use Rattle.bot_machine.specs.Lifetimes.{StandsFirst, AppendsFor, actions_of, actions_of_all, armed_by, events_in, AreLived, AreLivedUpTo}
 use Rattle.bot_machine.specs.Lifetimes.{KeepsPromiseUpTo, IsRefusedFor}
-use Rattle.bot_machine.specs.LivesValue.{LivesValue, medium_in, state_in, AreCaused, FitsLives, LivesGoTo, LivesGoOn}
+use Rattle.bot_machine.specs.LivesValue.{LivesValue, medium_in, state_in, FitsLives, LivesGoTo, LivesGoOn}
 use Rattle.bot_machine.specs.LivesValue.{MayRefuse, LivesStopAt, LivesStop, IsAtRest, OpensOn, HasLimit, RestsAlone}
 use Rattle.bot_machine.proofs.Runs.{refused_events-append, counted}
 use Rattle.bot_machine.proofs.Moved.{MovesBy-append, caused_through, few_causes}

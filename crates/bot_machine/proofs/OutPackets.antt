@@ -9,8 +9,7 @@ use Rattle.spec.specs.declared.case.Endpoint.TheVariants as endpoint
 use Rattle.spec.specs.StatusWrapper.{status_wrapper}
 use Rattle.spec.specs.Sense.{Sense}
 use Rattle.spec.specs.Exchange.{Line, Script, sending, laid_out, in_answer, after_in}
-use Rattle.bot_machine.specs.Disk.{status_of_answer, Tells, DiskValue, over, TicksIn, Proceeds, IsStepBy, IsStep, Elapses}
-use Rattle.bot_machine.specs.Disk.{TakesFew}
+use Rattle.bot_machine.specs.Disk.{status_of_answer, Tells, DiskValue, over, TicksIn, Proceeds, IsStepBy, IsStep, Elapses, TakesFew}
 use Rattle.medium.specs.Medium.{State, IsSound}
 use Rattle.medium.proofs.SectorsRead.{no_looks, looks_wider}
 use Rattle.scsi_unit.specs.Background.{Work, Settle, is_dead}
@@ -33,8 +32,7 @@ use Rattle.bot_machine.specs.Refinement.{left_of, halt_of, IsInPhase}
 use Rattle.spec.specs.Packets.{packets_of}
 use Rattle.bot_machine.specs.Reading.{LooksBesides, LooksIn, ReadsAt}
 use Rattle.bot_machine.specs.Serving.{ServesPacket, HandsOn}
-use Rattle.bot_machine.proofs.UnitLaws.{few_ticks, none_made, step_made, staying_so, proceeding, fits_size, promises_by_book}
-use Rattle.bot_machine.proofs.UnitLaws.{quiet_by_book}
+use Rattle.bot_machine.proofs.UnitLaws.{few_ticks, none_made, step_made, staying_so, proceeding, fits_size, promises_by_book, quiet_by_book}
 use Rattle.bot_machine.proofs.Wrappers.{besides, waits_to_send_none}
 use Rattle.bot_machine.specs.declared.bulk_state.BulkState.{BulkState}
 

@@ -1,6 +1,6 @@
 -- What a host hears of an exchange does not depend on the size of a packet.
 use Rattle.std.proofs.Common.{◌≡◌, ◌<◌, ◌≤◌, ℕ, zero, suc, Bool, false, List, [], ◌∷◌, ◌++◌, length, take, drop, map, refl, ap, subst, ◌∙◌}
-use Rattle.std.proofs.Common.{if◌then◌else◌, arith, length-drop, ◌-◌, inl, inr, ⊎_elim, sym, append_assoc, length-take}
+use Rattle.std.proofs.Common.{arith, length-drop, ◌-◌, inl, inr, ⊎_elim, sym, append_assoc, length-take}
 use Rattle.std.specs.Prelude.{Option, Result, Ok, Err, All, None}
 use Rattle.std.proofs.lemmas.List.{take-append-drop, take_all, drop_all}
 use Rattle.std.proofs.lemmas.List.Elements.{All-head, All-tail}
@@ -14,12 +14,11 @@ use Rattle.spec.specs.Sense.{Sense}
 use Rattle.spec.specs.Rules.{UnitState, CarriesOut, Ticks, intention, write_in_progress, with_progress}
 use Rattle.spec.specs.declared.event.Event.{Event}
 use Rattle.spec.specs.declared.event.Answer.{Answer}
-use Rattle.spec.specs.declared.event.Answer.TheVariants.{Stall, Ack}
+use Rattle.spec.specs.declared.event.Answer.TheVariants.{Ack}
 use Rattle.spec.specs.Packets.{packets_of}
-use Rattle.spec.specs.Requests.{setup_packet, clear_halt}
-use Rattle.spec.specs.Exchange.{Script, finished, taking, sending, Line, laid_out, next_packet, after_packet, sent_in, status_for, told}
+use Rattle.spec.specs.Exchange.{Script, finished, taking, sending, Line, laid_out, sent_in, status_for, told}
 use Rattle.spec.specs.Exchange.{case_if_failed, at_rest, Moment, at_once, after_data, never, moment_of, outcome_for}
-use Rattle.spec.specs.Conversation.{Conversation, OutStep, SetupStep, IsCarriedOut, Begins, OpensExchange, Takes}
+use Rattle.spec.specs.Conversation.{Conversation, OutStep, IsCarriedOut, Begins, OpensExchange, Takes}
 use Rattle.spec.specs.UnitConversation.{Intends, UnitStep, way_of, on_line}
 use Rattle.bot_machine.specs.Transfers.{packet_out, Asks, packets_in, status_in, data_in, heard_in, Transfer, events_of, Heard}
 use Rattle.bot_machine.specs.Transfers.{IsTransferred, SizesAreAlike}
@@ -69,18 +68,6 @@ Ends finished answers = packets_in answers ≡ []
 Ends (taking case command intended bytes due) answers = ⊥
 Ends (sending packets halt status) answers = packets_in answers ≡ packets ++ status ∷ []
 
--- a token to Bulk-In
-token : (halted : Bool) (left : Script) (line : Line) (answers : List Answer) → line.left ≡ left
-    → Ends (if halted then line else after_packet left line).left answers
-    → Ends left ((if halted then Stall else next_packet left) ∷ answers)
-token halted left line answers is ends = grind arith
-
--- the end of a halt
-cleared : (packet : List ℕ) (end : Endpoint) (old new : Line) (answer : Answer) → packet ≡ setup_packet (clear_halt end)
-    → SetupStep packet old answer new → (new.left ≡ old.left)
-    × ((answers : List Answer) → packets_in (answer ∷ answers) ≡ packets_in answers)
-cleared packet end old new answer asks step = grind (arith, one_request)
-
 quiet : (left : Script) (answer : Answer) (answers : List Answer) → packets_in (answer ∷ answers) ≡ packets_in answers
     → Ends left answers → Ends left (answer ∷ answers)
 quiet left answer answers same ends = grind arith
@@ -88,7 +75,7 @@ quiet left answer answers same ends = grind arith
 -- one event by which the host asks
 asked : (happens : Event) (old mid : Conversation UnitState) (answer : Answer) (answers : List Answer) → Asks happens
     → UnitStep false old happens answer mid → Ends mid.line.left answers → Ends old.line.left (answer ∷ answers) × (mid.unit ≡ old.unit)
-asked happens old mid answer answers asks step ends = grind (arith, token, cleared, quiet)
+asked happens old mid answer answers asks step ends = grind (arith, one_request)
 
 pub asks_end : (asks : List Event) → All Asks asks → (answers : List Answer) (old new : Conversation UnitState)
     → Untroubled old asks answers new → new.line.left ≡ finished → Ends old.line.left answers × (new.unit ≡ old.unit)

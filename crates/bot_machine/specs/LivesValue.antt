@@ -29,9 +29,8 @@ use Rattle.bot_machine.specs.Device.{presented, Device}
 use Rattle.bot_machine.specs.Fitting.{IsWithin}
 use Rattle.bot_machine.specs.Disk.{DiskValue, over, FitsDisk}
 use Rattle.bot_machine.specs.Opening.{IsNotOpened}
-use Rattle.spec.specs.Lives.{Action, Place, before_first, between, runs, off, Standing, Opens}
-use Rattle.spec.specs.Lives.{arms, fails, starts}
-use Rattle.spec.specs.Lives.{LivesRun}
+use Rattle.spec.specs.Lives.{Action, Place, before_first, between, runs, off, Standing, Opens, arms}
+use Rattle.spec.specs.Lives.{fails, starts, LivesRun}
 use Rattle.spec.specs.Promise as promise
 
 -- what is seen of lives: what disk it is, and its medium, with the disk where one runs

@@ -1,5 +1,5 @@
 use Rattle.std.proofs.Common.{◌≡◌, [], arith, ◌∙◌}
-use Rattle.spec.specs.Exchange.{at_once, after_data, never}
+use Rattle.spec.specs.Exchange.{at_once}
 use Rattle.bot_machine.specs.Refinement.{moment_meant}
 use Rattle.bot_machine.proofs.Wrappers.{carries_out, carried_at_once}
 use Rattle.bot_machine.proofs.promising.block_at_once.Goals as goal

@@ -25,12 +25,14 @@ returns-in-DataIn g c =
     (after_in (line_of d.bulk d.transfer.items))) [
       | inl more ↦
           rw (moves.more more, c.in-DataIn.is, c.if-self.false) (ap put
-              (sym (sent_more (bytes_of d.bulk.size) (some_bytes d.bulk.size) d.bulk.locked d.bulk.out_halted d.bulk.status
-              d.transfer.items i.from i.to e i.halt some there moves.ends more)))
+          (sym (sent_more (bytes_of d.bulk.size) (some_bytes d.bulk.size) d.bulk.locked d.bulk.out_halted d.bulk.status
+          d.transfer.items i.from i.to e i.halt some there moves.ends more)))
       | inr last ↦
           rw (moves.last last, c.in-DataIn.is, c.if-self.false) (ap put
-              (sym (sent_last (bytes_of d.bulk.size) (some_bytes d.bulk.size) d.bulk.locked d.bulk.out_halted d.bulk.status
-              d.transfer.items i.from i.to e i.halt some there moves.ends last)))
+          (sym (sent_last (bytes_of d.bulk.size) (some_bytes d.bulk.size) d.bulk.locked d.bulk.out_halted d.bulk.status
+          d.transfer.items i.from i.to e i.halt some there moves.ends last)))
     ] in
-    rw (← c.self.view_is, c.in-DataIn.is, c.deref.ensures.value, c.if-self.false)
-    ((refl, (λ _. tt), rw (c.in-DataIn.is, c.if-self.false) at after), record { after = tt; answer = answer; fits = fits; most = (few_bytes d.bulk.size).1 })
+    rw (← c.self.view_is, c.in-DataIn.is, c.deref.ensures.value, c.if-self.false) (
+      (refl, (λ _. tt), rw (c.in-DataIn.is, c.if-self.false) at after),
+      record { after = tt; answer = answer; fits = fits; most = (few_bytes d.bulk.size).1 },
+    )
