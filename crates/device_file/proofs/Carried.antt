@@ -1,5 +1,5 @@
 -- The calls of the file behind, part by part.
-use Rattle.std.proofs.Common.{◌≡◌, ℕ, List, [], ◌∷◌, ◌++◌, refl, sym, ◌∙◌, ap, subst, inl, inr, Bool, Result, Ok, Err}
+use Rattle.std.proofs.Common.{◌≡◌, ℕ, List, [], ◌∷◌, ◌++◌, refl, sym, ◌∙◌, ap, subst, inl, inr, Bool, true, false, Result, Ok, Err}
 use Rattle.std.proofs.lemmas.List.{append_assoc, append-nil}
 use Rattle.std.proofs.lemmas.List.Elements.{All-nil, All-cons, All-append}
 use Rattle.medium.specs.FileStory as file
@@ -8,7 +8,7 @@ use Rattle.medium.specs.declared.file_call.FileCall.{FileCall}
 use Rattle.medium.specs.declared.file_call.FileCall.TheVariants.{Sync}
 use Rattle.window.specs.declared.call.DeviceCall.{DeviceCall}
 use Rattle.window.specs.declared.call.DeviceCall.TheVariants.{Flush}
-use Rattle.device_file.specs.Asked.{Opening, Told, begun, writes_of}
+use Rattle.device_file.specs.Asked.{Opening, Told, answered, begun, writes_of}
 use Rattle.device_file.specs.Carried.{AsksPart, IsCarried, IsOpening, IsPart, Part, asked_in, calls_in}
 use Rattle.device_file.specs.FileValue.{PutsRun}
 use Rattle.device_file.specs.declared.fault.FileFault.{FileFault}
@@ -24,6 +24,14 @@ calls_more [] part = append-nil part.calls
 calls_more (p ∷ parts) part =
     ap (λ (l : List FileCall). p.calls ++ l) (calls_more parts part) ∙ sym (append_assoc p.calls (calls_in parts) part.calls)
 
+asked_is : (good : Bool) (calls : List DeviceCall) (t : Told) → (answered good calls t).asked ≡ t.asked ++ calls
+asked_is true calls t = refl
+asked_is false calls t = refl
+
+opening_stays : (good : Bool) (calls : List DeviceCall) (t : Told) → (answered good calls t).opening ≡ t.opening
+opening_stays true calls t = refl
+opening_stays false calls t = refl
+
 -- a file that was just opened
 pub carried_none : (path : List ℕ) (access : Access) (f : file.Told) → IsOpening access f.asked
     → IsCarried (begun path access) f
@@ -34,19 +42,6 @@ carried_none path access f opens = record {
   each = All-nil IsPart;
   asked = refl;
   calls = sym (append-nil f.asked);
-}
-
--- a part more
-carried_on : (t u : Told) (f g : file.Told) (part : Part) → IsPart part → IsCarried t f → u.opening ≡ t.opening
-    → u.asked ≡ t.asked ++ part.asked → g.asked ≡ f.asked ++ part.calls → IsCarried u g
-carried_on t u f g part is c same asked calls = record {
-  opened = c.opened;
-  opens = subst (λ (o : Opening). IsOpening o.access c.opened) (sym same) c.opens;
-  parts = c.parts ++ part ∷ [];
-  each = All-append IsPart c.parts (part ∷ []) c.each (All-cons IsPart part [] is (All-nil IsPart));
-  asked = asked ∙ ap (λ (l : List DeviceCall). l ++ part.asked) c.asked ∙ sym (asked_more c.parts part);
-  calls = calls ∙ ap (λ (l : List FileCall). l ++ part.calls) c.calls ∙ append_assoc c.opened (calls_in c.parts) part.calls
-      ∙ ap (λ (l : List FileCall). c.opened ++ l) (sym (calls_more c.parts part));
 }
 
 -- neighbouring sectors were to be written
@@ -78,16 +73,17 @@ sync_part good f g is = record {
   calls_are = ap (λ (s : file.Told). s.asked) is;
 }
 
-part_carried : (calls : List DeviceCall) (t u : Told) (f g : file.Told) → AsksPart calls f g → IsCarried t f
-    → u.opening ≡ t.opening → u.asked ≡ t.asked ++ calls → IsCarried u g
-part_carried calls t u f g p c same asked =
-    carried_on t u f g p.part p.is c same (asked ∙ ap (λ (l : List DeviceCall). t.asked ++ l) (sym p.asked_is)) p.calls_are
-
-pub write_carried : (run : Run) (t u : Told) (f g : file.Told) (result : Result (Unit {0}) FileFault) → PutsRun run f g result
-    → IsCarried t f → u.opening ≡ t.opening → u.asked ≡ t.asked ++ writes_of run.first run.blocks.items → IsCarried u g
-write_carried run t u f g result puts =
-    part_carried (writes_of run.first run.blocks.items) t u f g (write_part run f g result puts)
-
-pub sync_carried : (good : Bool) (t u : Told) (f g : file.Told) → g ≡ file.answered good Sync f
-    → IsCarried t f → u.opening ≡ t.opening → u.asked ≡ t.asked ++ Flush ∷ [] → IsCarried u g
-sync_carried good t u f g is = part_carried (Flush ∷ []) t u f g (sync_part good f g is)
+-- a part more
+pub part_carried : (good : Bool) (calls : List DeviceCall) (t : Told) (f g : file.Told) → AsksPart calls f g → IsCarried t f
+    → IsCarried (answered good calls t) g
+part_carried good calls t f g p c = record {
+  opened = c.opened;
+  opens = subst (λ (o : Opening). IsOpening o.access c.opened) (sym (opening_stays good calls t)) c.opens;
+  parts = c.parts ++ p.part ∷ [];
+  each = All-append IsPart c.parts (p.part ∷ []) c.each (All-cons IsPart p.part [] p.is (All-nil IsPart));
+  asked = asked_is good calls t ∙ ap (λ (l : List DeviceCall). t.asked ++ l) (sym p.asked_is)
+      ∙ ap (λ (l : List DeviceCall). l ++ p.part.asked) c.asked ∙ sym (asked_more c.parts p.part);
+  calls = p.calls_are ∙ ap (λ (l : List FileCall). l ++ p.part.calls) c.calls
+      ∙ append_assoc c.opened (calls_in c.parts) p.part.calls
+      ∙ ap (λ (l : List FileCall). c.opened ++ l) (sym (calls_more c.parts p.part));
+}

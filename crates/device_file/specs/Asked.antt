@@ -53,9 +53,3 @@ writes_of first (block ∷ blocks) =
 abbrev pub GoesOn : ℕ → List (List ℕ) → ℕ → ℕ → Type 0
 GoesOn first blocks sector begins = ((blocks ≡ []) × (begins ≡ sector))
     ⊎ ((begins ≡ first) × (sector ≡ first + length blocks))
-
-abbrev pub wrote : Told → ℕ → List (List ℕ) → Told
-wrote t first blocks = asked_for (writes_of first blocks) t
-
-abbrev pub called : Told → DeviceCall → Told
-called t call = asked_for (call ∷ []) t

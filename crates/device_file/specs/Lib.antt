@@ -7,3 +7,4 @@ pub mod First
 pub mod Reads
 pub mod Copied
 pub mod Carried
+pub mod Events

@@ -1,18 +1,11 @@
 //! What a file was asked, for proofs alone. It takes no memory.
 ghost use Rattle.std.specs.Prelude.{◌≡◌};
 ghost use Rattle.std.specs.Borrow.{ftrue};
-ghost use Rattle.device_file.specs.Asked.{Told, begun, wrote, called, refused};
+ghost use Rattle.device_file.specs.Asked.{Told};
 
 use crate::run::Run;
 use medium::Access;
 use std::marker::Model;
-use window::DeviceCall;
-
-/// What a file was opened for.
-#[derive(Clone, Copy, Drop)]
-pub(crate) struct Use {
-    pub access: Access,
-}
 
 #[derive(Drop)]
 pub(crate) struct Story {
@@ -23,31 +16,23 @@ impl Model for Story {
     ghost also_owns = { λ _. ftrue };
 }
 
+/// What happened, behind which story.
+#[derive(Drop)]
+pub(crate) enum Event<'a> {
+    /// It begins with a file that was opened at this path, for this.
+    Opened(&'a [u8], Access),
+    /// Neighbouring sectors that were to be written, and whether they were.
+    Wrote(&'a Story, &'a Run, bool),
+    /// A flush, and whether it was carried out.
+    Synced(&'a Story, bool),
+}
+
 impl Story {
-    /// It begins with nothing, of a file at this path.
-    pub(crate) fn new(_how: &Use, _path: &[u8]) -> Story
-        ensures { result.told ≡ begun _path.now _how.now.access }
-    {
-        Story {}
-    }
+    ghost use Rattle.device_file.specs.Events.{told_by};
 
-    /// Neighbouring sectors that were to be written.
-    pub(crate) fn wrote(&self, _run: &Run) -> Story
-        ensures { result.told ≡ wrote self.now.told _run.now.first _run.now.blocks.items }
-    {
-        Story {}
-    }
-
-    /// One call.
-    pub(crate) fn asked(&self, _call: &DeviceCall) -> Story
-        ensures { result.told ≡ called self.now.told _call.now }
-    {
-        Story {}
-    }
-
-    /// What was asked last was refused.
-    pub(crate) fn refused(&self) -> Story
-        ensures { result.told ≡ refused self.now.told }
+    /// The story with this event.
+    pub(crate) fn of(_event: &Event) -> Story
+        ensures { result.told ≡ told_by _event.now }
     {
         Story {}
     }

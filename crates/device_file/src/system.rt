@@ -11,12 +11,11 @@ use crate::existing::Existing;
 use crate::fault::{FileCall, FileFault};
 use crate::file::DeviceFile;
 use crate::run::Run;
-use crate::story::{Story, Use};
+use crate::story::{Event, Story};
 use medium::{Access, OpenedFile, SectorFile, ToldFile, look_whole, put};
 use std::fs::Files;
 use std::io::ErrorKind;
 use std::marker::Model;
-use window::DeviceCall;
 
 const SECTOR: u64 = 512;
 
@@ -123,7 +122,7 @@ impl<S: ToldFile> SystemFile<S> {
         SystemFile {
             file,
             sectors,
-            story: Story::new(&Use { access }, path.as_bytes()),
+            story: Story::of(&Event::Opened(path.as_bytes(), access)),
         }
     }
 
@@ -227,11 +226,8 @@ impl<S: ToldFile> DeviceFile for SystemFile<S> {
             (S.told self.old.file) (S.told self.new.file) }
         ensures puts { PutsRun run.now (S.told self.old.file) (S.told self.new.file) result }
     {
-        self.story = self.story.wrote(run);
         let written = write_run(&mut self.file, run);
-        if written.is_err() {
-            self.story = self.story.refused();
-        }
+        self.story = Story::of(&Event::Wrote(&self.story, run, written.is_ok()));
         written
     }
 
@@ -242,11 +238,8 @@ impl<S: ToldFile> DeviceFile for SystemFile<S> {
         ensures syncs { S.told self.new.file
             ≡ answered (is_ok result) Sync (S.told self.old.file) }
     {
-        self.story = self.story.asked(&DeviceCall::Flush);
         let synced = sync_all(&mut self.file);
-        if synced.is_err() {
-            self.story = self.story.refused();
-        }
+        self.story = Story::of(&Event::Synced(&self.story, synced.is_ok()));
         synced
     }
 }

@@ -6,4 +6,4 @@ use Rattle.device_file.proofs.system.SystemFile.over.Goals as goal
 pub invariant_of-result : goal.invariant_of-result
 invariant_of-result g c =
     let f = g.S.ToldFile.told c.args.file in
-    subst (λ t. IsCarried t f) (sym c.new.ensures) (carried_none c.as_bytes.result.now c.args.access f c.requires)
+    subst (λ t. IsCarried t f) (sym c.of.ensures) (carried_none c.as_bytes.result.now c.args.access f c.requires)
