@@ -13,7 +13,7 @@ use Rattle.device_file.proofs.Puts.{first_is}
 use Rattle.window.specs.Window.{Window, without_first}
 use Rattle.device_file.specs.InRuns.{IsLongest, IsLongestRun, IsNext, IsNoMore}
 
-count_of : (first : ℕ) (blocks : List (List ℕ)) → length (writes_of first blocks) ≡ length blocks
+pub count_of : (first : ℕ) (blocks : List (List ℕ)) → length (writes_of first blocks) ≡ length blocks
 count_of first [] = refl
 count_of first (block ∷ blocks) = omega (arith, count_of (first + 1) blocks)
 

@@ -1,28 +1,27 @@
 -- Calls that a file is asked in runs, and then others.
 use Rattle.std.proofs.Common.{◌≡◌, ◌<◌, ◌≤◌, ◌+◌, ℕ, zero, suc, List, [], ◌∷◌, ◌++◌, length, refl, sym, ◌∙◌, ap, subst, inl, inr}
-use Rattle.std.proofs.Common.{append_assoc, ⊎_elim, Result, Ok, Err, true, false, Bool, arith}
+use Rattle.std.proofs.Common.{append_assoc, ⊎_elim, Result, Ok, Err, true, false, Bool, arith, length-append}
+use Rattle.std.specs.Prelude.{OnErr, is_ok}
 use Rattle.std.proofs.lemmas.List.{append-nil, append_cancel_right}
 use Rattle.window.specs.declared.call.DeviceCall.{DeviceCall}
 use Rattle.window.specs.declared.call.DeviceCall.TheVariants.{Write, Flush}
-use Rattle.device_file.specs.Asked.{Told, answered, writes_of}
+use Rattle.device_file.specs.Asked.{AsksFor, AsksInOrder, Told, answered, writes_of}
+use Rattle.device_file.specs.declared.fault.FileCall.{FileCall}
+use Rattle.device_file.specs.declared.fault.FileFault.{FileFault}
 use Rattle.window.specs.declared.call.SectorWrite.{SectorWrite}
 use Rattle.std.specs.Bool.{OnTrue}
 use Rattle.device_file.specs.declared.run.Run.{Run}
 use Rattle.device_file.specs.Copied.{moved_call, moved_calls, some_write, some_writes, waiting_in}
 use Rattle.device_file.specs.Reads.{sectors_in}
 use Rattle.medium.specs.Writes.{sector_of}
-use Rattle.device_file.specs.InRuns.{AsksInRuns, AsksRun, AsksRuns, IsAskedInRuns, IsLongest, IsNext, IsNoMore, TakesInRuns}
-use Rattle.std.specs.Prelude.{OnOk}
-use Rattle.device_file.proofs.Puts.{moved_calls-append, parts_through, sectors_first, sectors_more}
+use Rattle.device_file.specs.InRuns.{AsksInRuns, AsksRun, AsksRuns, IsAskedInRuns, IsLongest, IsNext, IsNoMore, Takes}
+use Rattle.device_file.proofs.InRuns.{count_of}
+use Rattle.device_file.proofs.Puts.{answered_twice, asked_at, asked_none, moved_calls-append, moved_one, parts_through}
+use Rattle.device_file.proofs.Puts.{sectors_first, sectors_more}
 
-on_ok : {E : Type 0} (result : Result (Unit {0}) E) (P : Type 0) → P → OnOk result P
-on_ok (Ok u) P holds = holds
-on_ok (Err why) P holds = tt
-
--- what a file was asked, good or refused
-pub asked_at : (good : Bool) (calls : List DeviceCall) (old new : Told) → new ≡ answered good calls old → new.asked ≡ old.asked ++ calls
-asked_at true calls old new is = ap (λ (t : Told). t.asked) is
-asked_at false calls old new is = ap (λ (t : Told). t.asked) is
+pub on_err : {E P : Type 0} (result : Result (Unit {0}) E) → P → OnErr result P
+on_err (Ok done) holds = tt
+on_err (Err why) holds = holds
 
 -- what comes behind a call that is not the next
 not_next : (sector : ℕ) (calls left : List DeviceCall) → ¬ IsNext sector (calls ++ left) → ¬ IsNext sector calls
@@ -119,162 +118,186 @@ module _ {D : Type 0} (at_once : D → List DeviceCall → D → Type 0) where
       let same = append_cancel_right so.0 part left (sym so.1 ∙ parts) in
       (runs.0, subst (λ (l : List DeviceCall). AsksRuns at_once runs.0 a b l []) same so.2)
 
-  module _ {E : Type 0} (told : D → Told) where
-    -- nothing was to be taken
-    pub takes_none : (a : D) (waits : List DeviceCall) (result : Result (Unit {0}) E) → TakesInRuns told at_once [] a a waits waits result
-    takes_none a waits result = record {
-      part = [];
-      left = waits;
-      parts = append-nil waits;
-      asked = sym (append-nil (told a).asked);
-      runs = λ behind. subst (λ (l : List DeviceCall). AsksInRuns at_once a a (l ++ behind) (waits ++ behind)) (sym (append-nil waits))
-          (none_asked a (waits ++ behind));
-      all = on_ok result (waits ≡ waits) refl;
-    }
+module _ {D : Type 0} {told : D → Told} {at_once : D → List DeviceCall → D → Type 0} {sectors : D → ℕ} where
+  -- nothing was to be taken
+  pub takes_none : (a : D) (waits : List DeviceCall) → Takes told at_once sectors [] a a waits waits true
+  takes_none a waits = record {
+    part = [];
+    left = waits;
+    parts = append-nil waits;
+    told_is = asked_none (told a);
+    all = λ good. refl;
+    some = λ bad. absurd (cc);
+    runs = λ behind. subst (λ (l : List DeviceCall). AsksInRuns at_once a a (l ++ behind) (waits ++ behind)) (sym (append-nil waits))
+        (none_asked at_once a (waits ++ behind));
+    size = refl;
+  }
 
-    -- some were, and then others
-    pub takes_through : (c d : List DeviceCall) (a b e : D) (u v w : List DeviceCall) (good result : Result (Unit {0}) E) → good ≡ Ok tt
-        → TakesInRuns told at_once c a b u v good → TakesInRuns told at_once d b e v w result
-        → TakesInRuns told at_once (c ++ d) a e u w result
-    takes_through c d a b e u v w (Err why) result is f g = absurd (cc)
-    takes_through c d a b e u v w (Ok done) result is f g = record {
-      part = f.part ++ g.part;
-      left = g.left;
-      parts = parts_through c d f.part g.part u v g.left (f.parts ∙ ap (λ (l : List DeviceCall). f.part ++ l) f.all) g.parts;
-      asked = g.asked ∙ ap (λ (l : List DeviceCall). l ++ g.part) f.asked ∙ append_assoc (told a).asked f.part g.part;
-      runs = λ behind.
-          let begin : (u ++ c) ++ (d ++ behind) ≡ (u ++ (c ++ d)) ++ behind =
-          sym (append_assoc (u ++ c) d behind) ∙ ap (λ (l : List DeviceCall). l ++ behind) (append_assoc u c d) in
-          let middle : f.left ++ (d ++ behind) ≡ (v ++ d) ++ behind =
-          ap (λ (l : List DeviceCall). l ++ (d ++ behind)) f.all ∙ sym (append_assoc v d behind) in
-          runs_through a b e ((u ++ (c ++ d)) ++ behind) ((v ++ d) ++ behind) (g.left ++ behind)
-          (subst (λ (l : List DeviceCall). AsksInRuns at_once a b l ((v ++ d) ++ behind)) begin
-          (subst (λ (l : List DeviceCall). AsksInRuns at_once a b ((u ++ c) ++ (d ++ behind)) l) middle (f.runs (d ++ behind))))
-          (g.runs behind);
-      all = g.all;
-    }
+  -- some were, and then others
+  pub takes_through : {c d u v w : List DeviceCall} {a b e : D} {good : Bool} → Takes told at_once sectors c a b u v true
+      → Takes told at_once sectors d b e v w good → Takes told at_once sectors (c ++ d) a e u w good
+  takes_through {c = c} {d = d} {u = u} {v = v} {a = a} {b = b} {e = e} {good = good} f g = record {
+    part = f.part ++ g.part;
+    left = g.left;
+    parts = parts_through c d f.part g.part u v g.left (f.parts ∙ ap (λ (l : List DeviceCall). f.part ++ l) (f.all refl)) g.parts;
+    told_is = g.told_is ∙ ap (λ (t : Told). answered good g.part t) f.told_is ∙ answered_twice good f.part g.part (told a);
+    all = g.all;
+    some = λ bad. omega (arith, g.some bad, length-append f.part g.part);
+    runs = λ behind.
+        let begin : (u ++ c) ++ (d ++ behind) ≡ (u ++ (c ++ d)) ++ behind = simp append_assoc in
+        let middle : f.left ++ (d ++ behind) ≡ (v ++ d) ++ behind =
+        ap (λ (l : List DeviceCall). l ++ (d ++ behind)) (f.all refl) ∙ sym (append_assoc v d behind) in
+        runs_through at_once a b e ((u ++ (c ++ d)) ++ behind) ((v ++ d) ++ behind) (g.left ++ behind)
+        (subst (λ (l : List DeviceCall). AsksInRuns at_once a b l ((v ++ d) ++ behind)) begin
+        (subst (λ (l : List DeviceCall). AsksInRuns at_once a b ((u ++ c) ++ (d ++ behind)) l) middle (f.runs (d ++ behind))))
+        (g.runs behind);
+    size = g.size ∙ f.size;
+  }
 
-    -- they were the first of more
-    pub takes_before : (c d : List DeviceCall) (a e : D) (u v w : List DeviceCall) (why : E) → TakesInRuns told at_once c a e u v (Err why)
-        → TakesInRuns told at_once (c ++ d) a e u w (Err why)
-    takes_before c d a e u v w why f = record {
-      part = f.part;
-      left = f.left ++ d;
-      parts = sym (append_assoc u c d) ∙ ap (λ (l : List DeviceCall). l ++ d) f.parts ∙ append_assoc f.part f.left d;
-      asked = f.asked;
-      runs = λ behind.
-          let begin : (u ++ c) ++ (d ++ behind) ≡ (u ++ (c ++ d)) ++ behind =
-          sym (append_assoc (u ++ c) d behind) ∙ ap (λ (l : List DeviceCall). l ++ behind) (append_assoc u c d) in
-          subst (λ (l : List DeviceCall). AsksInRuns at_once a e l ((f.left ++ d) ++ behind)) begin
-          (subst (λ (l : List DeviceCall). AsksInRuns at_once a e ((u ++ c) ++ (d ++ behind)) l) (sym (append_assoc f.left d behind))
-          (f.runs (d ++ behind)));
-      all = tt;
-    }
+  -- where it refused, whatever waits
+  pub takes_leaves : {c u v w : List DeviceCall} {a e : D} → Takes told at_once sectors c a e u v false
+      → Takes told at_once sectors c a e u w false
+  takes_leaves f = record {
+    part = f.part;
+    left = f.left;
+    parts = f.parts;
+    told_is = f.told_is;
+    all = λ good. absurd (cc);
+    some = f.some;
+    runs = f.runs;
+    size = f.size;
+  }
 
-    -- what waits in a run is written, and one call more waits
-    pub takes_next : (a b : D) (first : ℕ) (blocks : List (List ℕ)) (call : DeviceCall) (waits : List DeviceCall)
-        (result : Result (Unit {0}) E) → 0 < length blocks → ((behind : List DeviceCall) → IsLongest first blocks (call ∷ behind))
-        → at_once a (writes_of first blocks) b → (told b).asked ≡ (told a).asked ++ writes_of first blocks
-        → OnOk result (call ∷ [] ≡ waits)
-        → TakesInRuns told at_once (call ∷ []) a b (writes_of first blocks) waits result
-    takes_next a b first blocks call waits result some longest once asked all = record {
-      part = writes_of first blocks;
-      left = call ∷ [];
-      parts = refl;
-      asked = asked;
-      runs = λ behind. subst (λ (l : List DeviceCall). AsksInRuns at_once a b l (call ∷ behind))
-          (sym (append_assoc (writes_of first blocks) (call ∷ []) behind))
-          (one_run a b first blocks (call ∷ behind) some (longest behind) once);
-      all = all;
-    }
+  -- they were the first of more
+  takes_before : {c u v w : List DeviceCall} {a e : D} (d : List DeviceCall) → Takes told at_once sectors c a e u v false
+      → Takes told at_once sectors (c ++ d) a e u w false
+  takes_before {c = c} {u = u} {a = a} {e = e} d f = record {
+    part = f.part;
+    left = f.left ++ d;
+    parts = sym (append_assoc u c d) ∙ ap (λ (l : List DeviceCall). l ++ d) f.parts ∙ append_assoc f.part f.left d;
+    told_is = f.told_is;
+    all = λ good. absurd (cc);
+    some = f.some;
+    runs = λ behind.
+        let begin : (u ++ c) ++ (d ++ behind) ≡ (u ++ (c ++ d)) ++ behind = simp append_assoc in
+        subst (λ (l : List DeviceCall). AsksInRuns at_once a e l ((f.left ++ d) ++ behind)) begin
+        (subst (λ (l : List DeviceCall). AsksInRuns at_once a e ((u ++ c) ++ (d ++ behind)) l) (sym (append_assoc f.left d behind))
+        (f.runs (d ++ behind)));
+    size = f.size;
+  }
 
-    -- one call more waits
-    pub takes_waiting : (a : D) (call : DeviceCall) (waited waits : List DeviceCall) (result : Result (Unit {0}) E)
-        → waits ≡ waited ++ call ∷ [] → TakesInRuns told at_once (call ∷ []) a a waited waits result
-    takes_waiting a call waited waits result is = record {
-      part = [];
-      left = waited ++ call ∷ [];
-      parts = refl;
-      asked = sym (append-nil (told a).asked);
-      runs = λ behind. none_asked a ((waited ++ call ∷ []) ++ behind);
-      all = on_ok result (waited ++ call ∷ [] ≡ waits) (sym is);
-    }
+  -- what waits in a run is written, and one call more waits
+  pub takes_next : (a b : D) (first : ℕ) (blocks : List (List ℕ)) (call : DeviceCall) (good : Bool) → 0 < length blocks
+      → ((behind : List DeviceCall) → IsLongest first blocks (call ∷ behind)) → at_once a (writes_of first blocks) b
+      → told b ≡ answered good (writes_of first blocks) (told a) → sectors b ≡ sectors a
+      → Takes told at_once sectors (call ∷ []) a b (writes_of first blocks) (call ∷ []) good
+  takes_next a b first blocks call good some longest once is size = record {
+    part = writes_of first blocks;
+    left = call ∷ [];
+    parts = refl;
+    told_is = is;
+    all = λ good. refl;
+    some = λ bad. omega (arith, some, count_of first blocks);
+    runs = λ behind. subst (λ (l : List DeviceCall). AsksInRuns at_once a b l (call ∷ behind))
+        (sym (append_assoc (writes_of first blocks) (call ∷ []) behind))
+        (one_run at_once a b first blocks (call ∷ behind) some (longest behind) once);
+    size = size;
+  }
 
-    -- where nothing waited, and then what waits was asked for
-    pub all_asked : (c : List DeviceCall) (a b e : D) (v : List DeviceCall) → TakesInRuns {E = E} told at_once c a b [] v (Ok tt)
-        → (told e).asked ≡ (told b).asked ++ v → AsksInRuns at_once b e v [] → IsAskedInRuns told at_once a e
-    all_asked c a b e v f asked next = record {
-      calls = c;
-      asked = asked ∙ ap (λ (l : List DeviceCall). l ++ v) f.asked ∙ append_assoc (told a).asked f.part v
-          ∙ ap (λ (l : List DeviceCall). (told a).asked ++ l) (sym (f.parts ∙ ap (λ (l : List DeviceCall). f.part ++ l) f.all));
-      runs = runs_through a b e c v []
-          (subst (λ (l : List DeviceCall). AsksInRuns at_once a b l v) (append-nil c)
-          (subst (λ (l : List DeviceCall). AsksInRuns at_once a b (c ++ []) l) (append-nil f.left ∙ f.all) (f.runs []))) next;
-    }
+  -- one call more waits
+  pub takes_waiting : (a : D) (call : DeviceCall) (waited waits : List DeviceCall) → waits ≡ waited ++ call ∷ []
+      → Takes told at_once sectors (call ∷ []) a a waited waits true
+  takes_waiting a call waited waits is = record {
+    part = [];
+    left = waited ++ call ∷ [];
+    parts = refl;
+    told_is = asked_none (told a);
+    all = λ good. sym is;
+    some = λ bad. absurd (cc);
+    runs = λ behind. none_asked at_once a ((waited ++ call ∷ []) ++ behind);
+    size = refl;
+  }
 
-    -- or it refused a run before
-    pub part_asked : (c : List DeviceCall) (a e : D) (v : List DeviceCall) (why : E) → TakesInRuns told at_once c a e [] v (Err why)
-        → IsAskedInRuns told at_once a e
-    part_asked c a e v why f = record {
-      calls = f.part;
-      asked = f.asked;
-      runs = runs_alone a e c f.part f.left f.parts
-          (subst (λ (l : List DeviceCall). AsksInRuns at_once a e l f.left) (append-nil c)
-          (subst (λ (l : List DeviceCall). AsksInRuns at_once a e (c ++ []) l) (append-nil f.left) (f.runs [])));
-    }
+  -- where nothing waited, it was asked in order
+  pub part_in_order : {c v : List DeviceCall} {a e : D} → Takes told at_once sectors c a e [] v false
+      → AsksInOrder c false (told a) (told e)
+  part_in_order f =
+      record { part = f.part; rest = f.left; parts = f.parts; told_is = f.told_is; all = λ good. absurd (cc); some = f.some }
 
-    -- the same end, told of another fault
-    pub takes_as : {F : Type 0} (c : List DeviceCall) (a e : D) (u v w : List DeviceCall) (why : E) (other : F)
-        → TakesInRuns told at_once c a e u v (Err why) → TakesInRuns {E = F} told at_once c a e u w (Err other)
-    takes_as c a e u v w why other f =
-        record { part = f.part; left = f.left; parts = f.parts; asked = f.asked; runs = f.runs; all = tt }
+  -- and then for what waits
+  pub all_in_order : {c v : List DeviceCall} {a b e : D} {kind : FileCall} {result : Result (Unit {0}) FileFault}
+      → Takes told at_once sectors c a b [] v true → AsksFor told sectors v kind b e result → OnErr result (0 < length v)
+      → AsksInOrder c (is_ok result) (told a) (told e)
+  all_in_order {c = c} {v = v} {a = a} {result = result} f g some = record {
+    part = c;
+    rest = [];
+    parts = sym (append-nil c);
+    told_is = g.asked ∙ ap (λ (t : Told). answered (is_ok result) v t) f.told_is ∙ answered_twice (is_ok result) f.part v (told a)
+        ∙ ap (λ (l : List DeviceCall). answered (is_ok result) l (told a)) (sym is);
+    all = λ good. refl;
+    some = λ bad. omega (arith, refused result some bad, ap length is, length-append f.part v);
+  }
+    where
+      is : c ≡ f.part ++ v
+      is = f.parts ∙ ap (λ (l : List DeviceCall). f.part ++ l) (f.all refl)
 
-    pub takes_well : {F : Type 0} (c : List DeviceCall) (a e : D) (u v : List DeviceCall)
-        → TakesInRuns {E = E} told at_once c a e u v (Ok tt) → TakesInRuns {E = F} told at_once c a e u v (Ok tt)
-    takes_well c a e u v f =
-        record { part = f.part; left = f.left; parts = f.parts; asked = f.asked; runs = f.runs; all = f.all }
+      refused : (r : Result (Unit {0}) FileFault) → OnErr r (0 < length v) → is_ok r ≡ false → 0 < length v
+      refused (Ok done) some bad = absurd (cc)
+      refused (Err why) some bad = some
 
-    -- a sector more
-    pub sector_takes : (first i : ℕ) (bytes : List ℕ) (a b e : D) (u v w : List DeviceCall) (good result : Result (Unit {0}) E)
-        → good ≡ Ok tt → TakesInRuns told at_once (some_writes first (sectors_in i bytes)) a b u v good
-        → TakesInRuns told at_once (some_write (first + i) (sector_of bytes i)) b e v w result
-        → TakesInRuns told at_once (some_writes first (sectors_in (i + 1) bytes)) a e u w result
-    sector_takes first i bytes a b e u v w good result is f g =
-        subst (λ (l : List DeviceCall). TakesInRuns told at_once l a e u w result) (sym (sectors_more first i bytes))
-        (takes_through (some_writes first (sectors_in i bytes)) (some_write (first + i) (sector_of bytes i)) a b e u v w good result is f g)
+  -- by some runs
+  pub part_asked : {c v : List DeviceCall} {a e : D} {good : Bool} → Takes told at_once sectors c a e [] v good
+      → IsAskedInRuns told at_once a e
+  part_asked {c = c} {a = a} {e = e} {good = good} f = record {
+    calls = f.part;
+    asked = ap (λ (t : Told). t.asked) f.told_is ∙ asked_at good f.part (told a);
+    runs = runs_alone at_once a e c f.part f.left f.parts
+        (subst (λ (l : List DeviceCall). AsksInRuns at_once a e l f.left) (append-nil c)
+        (subst (λ (l : List DeviceCall). AsksInRuns at_once a e (c ++ []) l) (append-nil f.left) (f.runs [])));
+  }
 
-    -- and not all of it
-    pub sector_refused : (first i n : ℕ) (bytes : List ℕ) (a b e : D) (u v w : List DeviceCall) (good : Result (Unit {0}) E) (why : E)
-        → good ≡ Ok tt → i < n → TakesInRuns told at_once (some_writes first (sectors_in i bytes)) a b u v good
-        → TakesInRuns told at_once (some_write (first + i) (sector_of bytes i)) b e v w (Err why)
-        → TakesInRuns told at_once (some_writes first (sectors_in n bytes)) a e u w (Err why)
-    sector_refused first i n bytes a b e u v w good why is below f g =
-        let (more, whole) = sectors_first first (i + 1) n bytes (omega (arith, below)) in
-        subst (λ (l : List DeviceCall). TakesInRuns told at_once l a e u w (Err why)) (sym whole)
-        (takes_before (some_writes first (sectors_in (i + 1) bytes)) more a e u w w why
-        (sector_takes first i bytes a b e u v w good (Err why) is f g))
+  pub all_asked : {c v : List DeviceCall} {a b e : D} {kind : FileCall} {result : Result (Unit {0}) FileFault}
+      → Takes told at_once sectors c a b [] v true → AsksFor told sectors v kind b e result → AsksInRuns at_once b e v []
+      → IsAskedInRuns told at_once a e
+  all_asked {c = c} {v = v} {a = a} {b = b} {e = e} {result = result} f g next = record {
+    calls = f.part ++ v;
+    asked = ap (λ (t : Told). t.asked) g.asked ∙ asked_at (is_ok result) v (told b)
+        ∙ ap (λ (t : Told). t.asked ++ v) f.told_is ∙ append_assoc (told a).asked f.part v;
+    runs = runs_through at_once a b e (f.part ++ v) v []
+        (subst (λ (l : List DeviceCall). AsksInRuns at_once a b l v)
+        (append-nil c ∙ f.parts ∙ ap (λ (l : List DeviceCall). f.part ++ l) (f.all refl))
+        (subst (λ (l : List DeviceCall). AsksInRuns at_once a b (c ++ []) l) (append-nil f.left ∙ f.all refl) (f.runs []))) next;
+  }
 
-    -- a call more was moved
-    pub moved_takes : (first count : ℕ) (gone : List DeviceCall) (call : DeviceCall) (a b e : D) (u v w : List DeviceCall)
-        (good result : Result (Unit {0}) E) → good ≡ Ok tt → TakesInRuns told at_once (moved_calls first count gone) a b u v good
-        → TakesInRuns told at_once (moved_call first count call) b e v w result
-        → TakesInRuns told at_once (moved_calls first count (gone ++ call ∷ [])) a e u w result
-    moved_takes first count gone call a b e u v w good result is f g =
-        let more : moved_calls first count (gone ++ call ∷ []) ≡ moved_calls first count gone ++ moved_call first count call =
-        moved_calls-append first count gone (call ∷ [])
-        ∙ ap (λ (l : List DeviceCall). moved_calls first count gone ++ l) (append-nil (moved_call first count call)) in
-        subst (λ (l : List DeviceCall). TakesInRuns told at_once l a e u w result) (sym more)
-        (takes_through (moved_calls first count gone) (moved_call first count call) a b e u v w good result is f g)
+  -- a sector more
+  pub sector_takes : {a b e : D} {u v w : List DeviceCall} {good : Bool} (first i : ℕ) (bytes block : List ℕ)
+      → block ≡ sector_of bytes i → Takes told at_once sectors (some_writes first (sectors_in i bytes)) a b u v true
+      → Takes told at_once sectors (some_write (first + i) block) b e v w good
+      → Takes told at_once sectors (some_writes first (sectors_in (i + 1) bytes)) a e u w good
+  sector_takes first i bytes block same f g = rw (sectors_more first i bytes, ← same) (takes_through f g)
 
-    pub moved_refused : (first count : ℕ) (all gone rest : List DeviceCall) (call : DeviceCall) (a b e : D) (u v w : List DeviceCall)
-        (good : Result (Unit {0}) E) (why : E) → good ≡ Ok tt → all ≡ gone ++ call ∷ rest
-        → TakesInRuns told at_once (moved_calls first count gone) a b u v good
-        → TakesInRuns told at_once (moved_call first count call) b e v w (Err why)
-        → TakesInRuns told at_once (moved_calls first count all) a e u w (Err why)
-    moved_refused first count all gone rest call a b e u v w good why is split f g =
-        let whole : all ≡ (gone ++ call ∷ []) ++ rest = split ∙ sym (append_assoc gone (call ∷ []) rest) in
-        let parts : moved_calls first count all ≡ moved_calls first count (gone ++ call ∷ []) ++ moved_calls first count rest =
-        ap (λ (l : List DeviceCall). moved_calls first count l) whole ∙ moved_calls-append first count (gone ++ call ∷ []) rest in
-        subst (λ (l : List DeviceCall). TakesInRuns told at_once l a e u w (Err why)) (sym parts)
-        (takes_before (moved_calls first count (gone ++ call ∷ [])) (moved_calls first count rest) a e u w w why
-        (moved_takes first count gone call a b e u v w good (Err why) is f g))
+  -- and not all of it
+  pub sector_refused : {a b e : D} {u v w : List DeviceCall} (first i n : ℕ) (bytes block : List ℕ) → i < n
+      → block ≡ sector_of bytes i → Takes told at_once sectors (some_writes first (sectors_in i bytes)) a b u v true
+      → Takes told at_once sectors (some_write (first + i) block) b e v w false
+      → Takes told at_once sectors (some_writes first (sectors_in n bytes)) a e u w false
+  sector_refused first i n bytes block below same f g =
+      let (more, whole) = sectors_first first (i + 1) n bytes (omega (arith, below)) in
+      rw whole (takes_before more (sector_takes first i bytes block same f g))
+
+  -- a call more was moved
+  pub moved_takes : {a b e : D} {u v w : List DeviceCall} {good : Bool} (first count : ℕ) (gone : List DeviceCall) (call : DeviceCall)
+      → Takes told at_once sectors (moved_calls first count gone) a b u v true
+      → Takes told at_once sectors (moved_call first count call) b e v w good
+      → Takes told at_once sectors (moved_calls first count (gone ++ call ∷ [])) a e u w good
+  moved_takes first count gone call f g = rw (moved_one first count gone call) (takes_through f g)
+
+  pub moved_refused : {a b e : D} {u v w : List DeviceCall} (first count : ℕ) (all gone rest : List DeviceCall) (call : DeviceCall)
+      → all ≡ gone ++ call ∷ rest → Takes told at_once sectors (moved_calls first count gone) a b u v true
+      → Takes told at_once sectors (moved_call first count call) b e v w false
+      → Takes told at_once sectors (moved_calls first count all) a e u w false
+  moved_refused first count all gone rest call split f g =
+      let parts : moved_calls first count all ≡ moved_calls first count (gone ++ call ∷ []) ++ moved_calls first count rest =
+      ap (λ (l : List DeviceCall). moved_calls first count l) (split ∙ sym (append_assoc gone (call ∷ []) rest))
+      ∙ moved_calls-append first count (gone ++ call ∷ []) rest in
+      rw parts (takes_before (moved_calls first count rest) (moved_takes first count gone call f g))

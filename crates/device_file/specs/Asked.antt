@@ -1,6 +1,6 @@
 -- What a file was asked to carry out.
 use Rattle.std.specs.Prelude.{◌≡◌, ◌⊎◌, ℕ, ◌+◌, Bool, List, [], ◌∷◌, ◌++◌, length, if◌then◌else◌}
-use Rattle.std.specs.Prelude.{Result, IfErr, is_ok}
+use Rattle.std.specs.Prelude.{◌<◌, true, false, Result, IfErr, is_ok}
 use Rattle.medium.specs.declared.file_call.Access.{Access}
 use Rattle.window.specs.declared.call.DeviceCall.{DeviceCall}
 use Rattle.window.specs.declared.call.DeviceCall.TheVariants.{Write}
@@ -42,6 +42,16 @@ pub record AsksFor {D : Type 0} (told : D → Told) (sectors : D → ℕ) (calls
   pub asked : told new ≡ answered (is_ok result) calls (told old)
   pub size : sectors new ≡ sectors old
   pub named : IfErr result (λ fault. fault.call ≡ kind)
+
+-- All of these calls were asked for, in order, and carried out; or a first part, of which the last
+-- was refused.
+pub record AsksInOrder (calls : List DeviceCall) (good : Bool) (old new : Told) : Type 0 where
+  pub part : List DeviceCall
+  pub rest : List DeviceCall
+  pub parts : calls ≡ part ++ rest
+  pub told_is : new ≡ answered good part old
+  pub all : good ≡ true → rest ≡ []
+  pub some : good ≡ false → 0 < length part
 
 -- the writes of these blocks to neighbouring sectors, from this one on
 abbrev pub writes_of : ℕ → List (List ℕ) → List DeviceCall

@@ -1,11 +1,12 @@
 -- Blocks that were read of one file, and that another was asked to write.
-use Rattle.std.specs.Prelude.{◌≡◌, ◌≤◌, ◌<◌, ℕ, ◌+◌, ◌-◌, ◌^◌, Bool, List, [], ◌∷◌, ◌++◌, length}
-use Rattle.std.specs.Prelude.{if◌then◌else◌, ◌==◌, Result, OnOk, OnErr, IfErr}
+use Rattle.std.specs.Prelude.{◌≡◌, ◌≤◌, ℕ, ◌+◌, ◌-◌, Bool, true, false, List, [], ◌∷◌, ◌++◌, length}
+use Rattle.std.specs.Prelude.{if◌then◌else◌, ◌==◌, Result, Err, OnOk, IfErr, is_ok}
 use Rattle.std.specs.List.{list_all}
 use Rattle.window.specs.declared.call.DeviceCall.{DeviceCall}
 use Rattle.window.specs.declared.call.DeviceCall.TheVariants.{Write, Flush}
 use Rattle.window.specs.Seen.{lies_in}
-use Rattle.device_file.specs.Asked.{Told, asked_for, refused, writes_of}
+use Rattle.device_file.specs.Asked.{AsksInOrder, Told, asked_for, refused, writes_of}
+use Rattle.device_file.specs.InRuns.{Takes}
 use Rattle.device_file.specs.Reads.{AreReadFrom}
 use Rattle.device_file.specs.declared.copying.CopyFault.{CopyFault}
 use Rattle.device_file.specs.declared.copying.CopyFault.TheVariants as fault
@@ -45,32 +46,10 @@ moved_calls first count (call ∷ calls) =
 abbrev pub waiting_in : Run → List DeviceCall
 waiting_in run = writes_of run.first run.blocks.items
 
--- Of what waited and these calls a file was asked for a first part, and the others wait.
-pub record Puts (calls : List DeviceCall) (old new : Told) (waited waits : List DeviceCall)
-    : Type 0 where
-  pub part : List DeviceCall
-  pub parts : waited ++ calls ≡ part ++ waits
-  pub told_is : new ≡ asked_for part old
-
--- of what waited and these calls it was asked for a first part, and refused the last of that part
-pub record PutsSome (calls : List DeviceCall) (old new : Told) (waited : List DeviceCall)
-    : Type 0 where
-  pub part : List DeviceCall
-  pub rest : List DeviceCall
-  pub parts : waited ++ calls ≡ part ++ rest
-  pub told_is : new ≡ refused (asked_for part old)
-
--- a first part of these calls was asked for; the last of it was refused
-abbrev pub IsAskedInPart : List DeviceCall → Told → Told → Type 0
-IsAskedInPart calls old new = PutsSome calls old new []
-
--- A file was to take these calls behind those that waited: it was asked for a first part, and the
--- others wait; or it refused a write, the last of such a part. It is as large as before.
+-- A file was asked for these calls so; a refusal names a write. It is as large as before.
 pub record TakesCalls {D : Type 0} (told : D → Told) (sectors : D → ℕ) (calls : List DeviceCall)
-    (old new : D) (waited waits : List DeviceCall) (result : Result (Unit {0}) FileFault)
-    : Type 0 where
-  pub ok : OnOk result (Puts calls (told old) (told new) waited waits)
-  pub err : OnErr result (PutsSome calls (told old) (told new) waited)
+    (old new : D) (result : Result (Unit {0}) FileFault) : Type 0 where
+  pub in_order : AsksInOrder calls (is_ok result) (told old) (told new)
   pub size : sectors new ≡ sectors old
   pub named : IfErr result (λ fault. fault.call ≡ call.Write)
 
@@ -88,15 +67,6 @@ abbrev pub asked_until : CopyFault → List DeviceCall → Told → Told
 asked_until (fault.From why) calls t = asked_for calls t
 asked_until (fault.To why) calls t = refused (asked_for calls t)
 
--- Of the file count were read, and of their writes and what waited the other was asked for a first
--- part; the others wait.
-pub record IsCopying (holds : ℕ → List ℕ → Type 0) (first count at : ℕ) (old new : Told)
-    (waited waits : List DeviceCall) : Type 0 where
-  pub blocks : List (List ℕ)
-  pub count_is : length blocks ≡ count
-  pub were_read : AreReadFrom holds first blocks
-  pub puts : Puts (some_writes at blocks) old new waited waits
-
 -- where it was the file that is read, behind `read` of count sectors it refused a read of more
 abbrev pub MissesNext : (ℕ → ℕ → Type 0) → ℕ → ℕ → ℕ → CopyFault → Type 0
 MissesNext refuses first count read (fault.From why) =
@@ -108,53 +78,36 @@ abbrev pub NamesCall : CopyFault → Type 0
 NamesCall (fault.From why) = why.call ≡ call.Read
 NamesCall (fault.To why) = why.call ≡ call.Write
 
--- At most count were read, and the other was asked for a first part of what waited and of their
--- writes; where it refused a call, that is the last of these. Else the read that comes next was
--- refused.
-pub record IsCopiedFrom (holds : ℕ → List ℕ → Type 0) (refuses : ℕ → ℕ → Type 0)
-    (first count at : ℕ) (old new : Told) (waited : List DeviceCall) (why : CopyFault)
-    : Type 0 where
+-- At most count were read, and the other was asked for a first part of their writes; where it
+-- refused a call, that is the last of these. Else the read that comes next was refused.
+pub record IsCopiedInPart (holds : ℕ → List ℕ → Type 0) (refuses : ℕ → ℕ → Type 0)
+    (first count at : ℕ) (old new : Told) (why : CopyFault) : Type 0 where
   pub blocks : List (List ℕ)
   pub count_is : length blocks ≤ count
   pub were_read : AreReadFrom holds first blocks
   pub part : List DeviceCall
   pub rest : List DeviceCall
-  pub parts : waited ++ some_writes at blocks ≡ part ++ rest
+  pub parts : some_writes at blocks ≡ part ++ rest
   pub told_is : new ≡ asked_until why part old
   pub misses : MissesNext refuses first count (length blocks) why
   pub named : NamesCall why
 
+-- whether the file that is written refused none
+abbrev pub is_written : Result (Unit {0}) CopyFault → Bool
+is_written (Err (fault.To why)) = false
+is_written _ = true
+
 -- There were count sectors to copy to a file of which writes waited: they were read, and it took
--- their writes; or a file refused a call. The file written is as large as before.
-pub record TakesCopies {D : Type 0} (told : D → Told) (sectors : D → ℕ)
-    (holds : ℕ → List ℕ → Type 0) (refuses : ℕ → ℕ → Type 0) (first count at : ℕ) (old new : D)
-    (waited waits : List DeviceCall) (result : Result (Unit {0}) CopyFault) : Type 0 where
-  pub ok : OnOk result (IsCopying holds first count at (told old) (told new) waited waits)
-  pub err : IfErr result (IsCopiedFrom holds refuses first count at (told old) (told new) waited)
-  pub size : sectors new ≡ sectors old
-
--- A refusal of the file that was written, the last call of a first part of what waited.
-abbrev pub StopsWriting : Told → Told → List DeviceCall → CopyFault → Type 0
-StopsWriting old new waited (fault.From why) = ⊥
-StopsWriting old new waited (fault.To why) =
-    PutsSome [] old new waited × (why.call ≡ call.Write)
-
--- What waited of a copy was to be written. The file written is as large as before.
-pub record EndsCopy {D : Type 0} (told : D → Told) (sectors : D → ℕ) (old new : D)
-    (waited : List DeviceCall) (result : Result (Unit {0}) CopyFault) : Type 0 where
-  pub ok : OnOk result (Puts [] (told old) (told new) waited [])
-  pub err : IfErr result (StopsWriting (told old) (told new) waited)
-  pub size : sectors new ≡ sectors old
-
--- A copy of count sectors can be made by reads of `bytes` bytes: they have numbers in both files,
--- and a read gives a sector at least.
-pub record CanCopy (first count at bytes : ℕ) : Type 0 where
-  pub reads : first + count < 2 ^ 64
-  pub writes : at + count < 2 ^ 64
-  pub room : 512 ≤ bytes
-
--- nothing waited
-abbrev pub IsCopiedInPart : (ℕ → List ℕ → Type 0) → (ℕ → ℕ → Type 0) → ℕ → ℕ → ℕ → Told → Told
-    → CopyFault → Type 0
-IsCopiedInPart holds refuses first count at old new why =
-    IsCopiedFrom holds refuses first count at old new [] why
+-- their writes; or some were, and a file refused a call.
+pub record TakesBlocks {D : Type 0} (told : D → Told) (at_once : D → List DeviceCall → D → Type 0)
+    (sectors : D → ℕ) (holds : ℕ → List ℕ → Type 0) (refuses : ℕ → ℕ → Type 0)
+    (first count at : ℕ) (was is : D) (waited waits : List DeviceCall)
+    (result : Result (Unit {0}) CopyFault) : Type 0 where
+  pub blocks : List (List ℕ)
+  pub count_is : length blocks ≤ count
+  pub all_read : OnOk result (length blocks ≡ count)
+  pub were_read : AreReadFrom holds first blocks
+  pub takes : Takes told at_once sectors (some_writes at blocks) was is waited waits
+      (is_written result)
+  pub misses : IfErr result (MissesNext refuses first count (length blocks))
+  pub named : IfErr result NamesCall

@@ -1,9 +1,11 @@
 -- Calls that a file is asked in runs: by one call of it as many neighbouring sectors as there are.
 use Rattle.std.specs.Prelude.{◌≡◌, ◌≢◌, ◌⊎◌, ◌<◌, ◌≤◌, ℕ, zero, suc, ◌+◌, List, [], ◌∷◌, ◌++◌}
-use Rattle.std.specs.Prelude.{length, Result, OnOk}
+use Rattle.std.specs.Prelude.{length, Bool, true, false, Result, IfErr, is_ok}
 use Rattle.window.specs.declared.call.DeviceCall.{DeviceCall}
 use Rattle.window.specs.declared.call.DeviceCall.TheVariants.{Write, Flush}
-use Rattle.device_file.specs.Asked.{Told, writes_of}
+use Rattle.device_file.specs.Asked.{Told, answered, writes_of}
+use Rattle.device_file.specs.declared.fault.FileCall.TheVariants as call
+use Rattle.device_file.specs.declared.fault.FileFault.{FileFault}
 
 -- a run of these blocks is full, or this sector is not the one behind them
 abbrev pub IsNoMore : ℕ → List (List ℕ) → ℕ → Type 0
@@ -51,23 +53,27 @@ abbrev pub AsksInRuns : {D : Type 0} → (D → List DeviceCall → D → Type 0
 AsksInRuns at_once was is waited waits = (count : ℕ) × AsksRuns at_once count was is waited waits
 
 -- A file was to take these calls behind those that waited. In runs, whatever comes behind them, it
--- was asked for a first part, and the others are left: they wait, where it refused none.
-pub record TakesInRuns {D E : Type 0} (told : D → Told) (at_once : D → List DeviceCall → D → Type 0)
-    (calls : List DeviceCall) (was is : D) (waited waits : List DeviceCall)
-    (result : Result (Unit {0}) E) : Type 0 where
+-- was asked for a first part, and the others are left: they wait, where it refused none. Where it
+-- did, that was the last of the part. It is as large as before.
+pub record Takes {D : Type 0} (told : D → Told) (at_once : D → List DeviceCall → D → Type 0)
+    (sectors : D → ℕ) (calls : List DeviceCall) (was is : D) (waited waits : List DeviceCall)
+    (good : Bool) : Type 0 where
   pub part : List DeviceCall
   pub left : List DeviceCall
   pub parts : waited ++ calls ≡ part ++ left
-  pub asked : (told is).asked ≡ (told was).asked ++ part
+  pub told_is : told is ≡ answered good part (told was)
+  pub all : good ≡ true → left ≡ waits
+  pub some : good ≡ false → 0 < length part
   pub runs : (behind : List DeviceCall)
       → AsksInRuns at_once was is ((waited ++ calls) ++ behind) (left ++ behind)
-  pub all : OnOk result (left ≡ waits)
+  pub size : sectors is ≡ sectors was
 
--- it was to take some calls
-abbrev pub TakesSomeInRuns : {D E : Type 0} → (D → Told) → (D → List DeviceCall → D → Type 0) → D
-    → D → List DeviceCall → List DeviceCall → Result (Unit {0}) E → Type 0
-TakesSomeInRuns told at_once was is waited waits result = (calls : List DeviceCall)
-    × TakesInRuns told at_once calls was is waited waits result
+-- so, where a refusal names a write
+pub record Puts {D : Type 0} (told : D → Told) (at_once : D → List DeviceCall → D → Type 0)
+    (sectors : D → ℕ) (calls : List DeviceCall) (was is : D) (waited waits : List DeviceCall)
+    (result : Result (Unit {0}) FileFault) : Type 0 where
+  pub takes : Takes told at_once sectors calls was is waited waits (is_ok result)
+  pub named : IfErr result (λ fault. fault.call ≡ call.Write)
 
 -- it was asked for some calls in runs, and for no others
 pub record IsAskedInRuns {D : Type 0} (told : D → Told) (at_once : D → List DeviceCall → D → Type 0)

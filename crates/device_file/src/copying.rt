@@ -1,10 +1,9 @@
 //! Sectors of one file that are copied to another.
-ghost use Rattle.std.specs.Prelude.{◌≡◌, ◌+◌, ◌/◌, ◌<◌, ◌≤◌, ◌^◌, ◌++◌, [], length};
-ghost use Rattle.std.specs.Prelude.{OnOk, IfErr};
-ghost use Rattle.device_file.specs.Copied.{CanCopy, IsCopied, IsCopiedInPart, TakesCopies};
-ghost use Rattle.device_file.specs.Copied.{EndsCopy, waiting_in};
-ghost use Rattle.device_file.specs.InRuns.{AsksInRuns, IsAskedInRuns, TakesSomeInRuns};
+ghost use Rattle.std.specs.Prelude.{◌≡◌, ◌+◌, ◌*◌, ◌<◌, ◌≤◌, ◌^◌, [], length, OnOk, IfErr};
+ghost use Rattle.device_file.specs.Copied.{IsCopied, IsCopiedInPart, TakesBlocks, waiting_in};
+ghost use Rattle.device_file.specs.InRuns.{IsAskedInRuns};
 
+use crate::buffer::CopyBuffer;
 use crate::fault::FileFault;
 use crate::file::DeviceFile;
 use crate::meter::Meter;
@@ -22,10 +21,20 @@ pub enum CopyFault {
     To(FileFault),
 }
 
-/// Copies `count` sectors of a file, from `first` on, to another file that was just made or
-/// emptied, to its sectors from `at` on. Blocks of zeros are not written, since they are there. As
-/// many sectors are read at once as the bytes have, and behind each such read the meter hears how
-/// many it were by then.
+/// Which sectors of a file are copied, and which of another they become: `count` sectors from
+/// `first` on, and those from `at` on. Both have numbers.
+#[derive(Clone, Copy)]
+pub struct CopyRange {
+    pub first: u64,
+    pub count: u64,
+    pub at: u64,
+    pub ghost reads: { first + count < 2 ^ 64 },
+    pub ghost writes: { at + count < 2 ^ 64 },
+}
+
+/// Copies sectors of a file to another file that was just made or emptied. Blocks of zeros are not
+/// written, since they are there. As many sectors are read at once as the buffer has bytes for, and
+/// behind each such read the meter hears how many it were by then.
 ///
 /// # Errors
 ///
@@ -33,90 +42,75 @@ pub enum CopyFault {
 /// was asked of either after that.
 pub fn copy_sectors<S: DeviceFile, D: DeviceFile, M: Meter>(
     from: &S,
-    first: u64,
-    count: u64,
+    range: CopyRange,
     to: &mut D,
-    at: u64,
-    run: &mut Run,
-    bytes: &mut [u8],
+    buffer: &mut CopyBuffer,
     meter: &mut M,
 ) -> Result<(), CopyFault>
-    requires { CanCopy first count at (length bytes.old) }
-    ensures ok { OnOk result (IsCopied (S.holds from.now) first count at (D.told to.old)
-        (D.told to.new)) }
-    ensures err { IfErr result (IsCopiedInPart (S.holds from.now) (S.refuses from.now) first count
-        at (D.told to.old) (D.told to.new)) }
+    ensures ok { OnOk result (IsCopied (S.holds from.now) range.first range.count range.at
+        (D.told to.old) (D.told to.new)) }
+    ensures err { IfErr result (IsCopiedInPart (S.holds from.now) (S.refuses from.now) range.first
+        range.count range.at (D.told to.old) (D.told to.new)) }
     ensures size { D.size to.new ≡ D.size to.old }
     ensures runs { IsAskedInRuns D.told D.at_once to.old to.new }
 {
-    match copy_runs(from, first, count, to, at, run, bytes, meter) {
+    match copy_runs(from, range, to, buffer, meter) {
         Err(fault) => Err(fault),
-        Ok(()) => end_copy(to, run),
-    }
-}
-
-// Has what waits of a copy written.
-fn end_copy<D: DeviceFile>(to: &mut D, run: &mut Run) -> Result<(), CopyFault>
-    ensures ends { EndsCopy D.told D.size to.old to.new (waiting_in run.old) result }
-    ensures asked { (D.told to.new).asked ≡ (D.told to.old).asked ++ waiting_in run.old }
-    ensures runs { AsksInRuns D.at_once to.old to.new (waiting_in run.old) [] }
-{
-    match put_rest(to, run) {
-        Ok(()) => Ok(()),
-        Err(fault) => Err(CopyFault::To(fault)),
+        Ok(()) => match put_rest(to, &mut buffer.run) {
+            Ok(()) => Ok(()),
+            Err(fault) => Err(CopyFault::To(fault)),
+        },
     }
 }
 
 // The same; writes may be left to be made.
 fn copy_runs<S: DeviceFile, D: DeviceFile, M: Meter>(
     from: &S,
-    first: u64,
-    count: u64,
+    range: CopyRange,
     to: &mut D,
-    at: u64,
-    run: &mut Run,
-    bytes: &mut [u8],
+    buffer: &mut CopyBuffer,
     meter: &mut M,
 ) -> Result<(), CopyFault>
-    requires { CanCopy first count at (length bytes.old) }
-    ensures takes { TakesCopies D.told D.size (S.holds from.now) (S.refuses from.now) first count at
-        to.old to.new [] (waiting_in run.new) result }
-    ensures runs { TakesSomeInRuns D.told D.at_once to.old to.new [] (waiting_in run.new) result }
+    ensures { TakesBlocks D.told D.at_once D.size (S.holds from.now) (S.refuses from.now)
+        range.first range.count range.at to.old to.new [] (waiting_in buffer.new.run) result }
 {
+    let most = buffer.sectors();
+    let (run, bytes) = (&mut buffer.run, buffer.bytes.as_mut_slice());
     run.clear();
-    let most = (bytes.len() / SECTOR) as u64;
     let mut done = 0;
-    'runs: while done < count {
-        let part = most.min(count - done);
-        let length = part as usize * SECTOR;
-        match copy_run(from, first + done, to, at + done, run, &mut bytes[..length]) {
-            Ok(()) => done += part,
+    'runs: while done < range.count {
+        let part = CopyRange {
+            first: range.first + done,
+            count: most.min(range.count - done),
+            at: range.at + done,
+        };
+        let length = part.count as usize * SECTOR;
+        match copy_run(from, part, to, run, &mut bytes[..length]) {
+            Ok(()) => done += part.count,
             Err(fault) => return Err(fault),
         }
-        meter.tell(done, count);
+        meter.tell(done, range.count);
     }
     Ok(())
 }
 
-// Copies the sectors for which there is room; writes may be left to be made.
+// Copies sectors by one read; writes may be left to be made.
 fn copy_run<S: DeviceFile, D: DeviceFile>(
     from: &S,
-    first: u64,
+    part: CopyRange,
     to: &mut D,
-    at: u64,
     run: &mut Run,
     bytes: &mut [u8],
 ) -> Result<(), CopyFault>
-    requires { (at + length bytes.old / 512 < 2 ^ 64) × (512 ≤ length bytes.old) }
-    ensures takes { TakesCopies D.told D.size (S.holds from.now) (S.refuses from.now) first
-        (length bytes.old / 512) at to.old to.new (waiting_in run.old) (waiting_in run.new) result }
-    ensures once { OnOk result (S.gave from.now first bytes.new) }
-    ensures runs { TakesSomeInRuns D.told D.at_once to.old to.new (waiting_in run.old)
-        (waiting_in run.new) result }
+    requires { (length bytes.old ≡ 512 * part.count) × (1 ≤ part.count) }
+    ensures takes { TakesBlocks D.told D.at_once D.size (S.holds from.now) (S.refuses from.now)
+        part.first part.count part.at to.old to.new (waiting_in run.old) (waiting_in run.new)
+        result }
+    ensures once { OnOk result (S.gave from.now part.first bytes.new) }
 {
-    match from.read(first, bytes) {
+    match from.read(part.first, bytes) {
         Err(fault) => Err(CopyFault::From(fault)),
-        Ok(()) => match put_sectors(to, run, at, bytes) {
+        Ok(()) => match put_sectors(to, run, part.at, bytes) {
             Ok(()) => Ok(()),
             Err(fault) => Err(CopyFault::To(fault)),
         },

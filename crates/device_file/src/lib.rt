@@ -1,6 +1,7 @@
 //! A device that is an open file: what it is asked to carry out, in order.
 #![tactic(auto)]
 
+mod buffer;
 mod carrying;
 mod copying;
 mod existing;
@@ -14,8 +15,9 @@ mod run;
 mod story;
 mod system;
 
+pub use buffer::CopyBuffer;
 pub use carrying::{carry_out, write_sector};
-pub use copying::{CopyFault, copy_sectors};
+pub use copying::{CopyFault, CopyRange, copy_sectors};
 pub use existing::Existing;
 pub use fault::{FileCall, FileFault};
 pub use file::DeviceFile;

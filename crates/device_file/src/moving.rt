@@ -2,7 +2,7 @@
 ghost use Rattle.std.specs.Prelude.{◌≡◌, ◌≤◌, [], true};
 ghost use Rattle.window.specs.Seen.{lies_in};
 ghost use Rattle.device_file.specs.Copied.{TakesCalls, moved_call, moved_calls, waiting_in};
-ghost use Rattle.device_file.specs.InRuns.{IsAskedInRuns, TakesInRuns};
+ghost use Rattle.device_file.specs.InRuns.{IsAskedInRuns, Puts};
 
 use crate::fault::FileFault;
 use crate::file::DeviceFile;
@@ -25,7 +25,7 @@ pub fn carry_moved<D: DeviceFile>(
     run: &mut Run,
 ) -> Result<(), FileFault>
     ensures takes { TakesCalls D.told D.size (moved_calls first count window.old.outbox) file.old
-        file.new [] [] result }
+        file.new result }
     ensures runs { IsAskedInRuns D.told D.at_once file.old file.new }
 {
     match move_all(window, first, count, file, run) {
@@ -45,10 +45,8 @@ fn move_all<D: DeviceFile>(
     file: &mut D,
     run: &mut Run,
 ) -> Result<(), FileFault>
-    ensures takes { TakesCalls D.told D.size (moved_calls first count window.old.outbox) file.old
-        file.new [] (waiting_in run.new) result }
-    ensures runs { TakesInRuns D.told D.at_once (moved_calls first count window.old.outbox) file.old
-        file.new [] (waiting_in run.new) result }
+    ensures { Puts D.told D.at_once D.size (moved_calls first count window.old.outbox)
+        file.old file.new [] (waiting_in run.new) result }
 {
     run.clear();
     while let Some(call) = window.first() {
@@ -70,10 +68,8 @@ fn move_call<D: DeviceFile>(
     file: &mut D,
     run: &mut Run,
 ) -> Result<(), FileFault>
-    ensures takes { TakesCalls D.told D.size (moved_call first count call.now) file.old file.new
-        (waiting_in run.old) (waiting_in run.new) result }
-    ensures runs { TakesInRuns D.told D.at_once (moved_call first count call.now) file.old file.new
-        (waiting_in run.old) (waiting_in run.new) result }
+    ensures { Puts D.told D.at_once D.size (moved_call first count call.now) file.old
+        file.new (waiting_in run.old) (waiting_in run.new) result }
 {
     let DeviceCall::Write(write) = call else {
         return Ok(());

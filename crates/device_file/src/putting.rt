@@ -1,14 +1,14 @@
 //! Blocks that a file is asked to write, neighbouring ones by one write.
-ghost use Rattle.std.specs.Prelude.{◌≡◌, ◌+◌, ◌*◌, ◌/◌, ◌<◌, ◌≤◌, ◌^◌, ◌∷◌};
-ghost use Rattle.std.specs.Prelude.{[], ◌++◌, length};
+ghost use Rattle.std.specs.Prelude.{◌≡◌, ◌+◌, ◌*◌, ◌/◌, ◌<◌, ◌≤◌, ◌^◌, ◌∷◌, [], length};
+ghost use Rattle.std.specs.Prelude.{OnErr};
 ghost use Rattle.medium.specs.Writes.{sector_of};
 ghost use Rattle.window.specs.declared.call.DeviceCall.TheVariants.{Write};
+ghost use Rattle.device_file.specs.Asked.{AsksFor};
 ghost use Rattle.device_file.specs.Reads.{sectors_in};
-ghost use Rattle.device_file.specs.Copied.{TakesCalls, is_zeros, some_write, some_writes};
-ghost use Rattle.device_file.specs.Copied.{waiting_in};
-ghost use Rattle.device_file.specs.InRuns.{AsksInRuns, TakesInRuns};
+ghost use Rattle.device_file.specs.Copied.{is_zeros, some_write, some_writes, waiting_in};
+ghost use Rattle.device_file.specs.InRuns.{AsksInRuns, Puts};
 
-use crate::fault::FileFault;
+use crate::fault::{FileCall, FileFault};
 use crate::file::DeviceFile;
 use crate::run::Run;
 use window::SectorWrite;
@@ -26,15 +26,16 @@ pub(crate) fn put_block<D: DeviceFile>(
     run: &mut Run,
     write: &SectorWrite,
 ) -> Result<(), FileFault>
-    ensures takes { TakesCalls D.told D.size (Write write.now ∷ []) file.old file.new
-        (waiting_in run.old) (waiting_in run.new) result }
-    ensures runs { TakesInRuns D.told D.at_once (Write write.now ∷ []) file.old file.new
+    ensures { Puts D.told D.at_once D.size (Write write.now ∷ []) file.old file.new
         (waiting_in run.old) (waiting_in run.new) result }
 {
     if run.take(write) {
         return Ok(());
     }
-    file.write(run)?;
+    match file.write(run) {
+        Ok(()) => {}
+        Err(fault) => return Err(fault),
+    }
     run.clear();
     let _taken = run.take(write);
     Ok(())
@@ -46,8 +47,9 @@ pub(crate) fn put_block<D: DeviceFile>(
 ///
 /// The file refused that write.
 pub(crate) fn put_rest<D: DeviceFile>(file: &mut D, run: &mut Run) -> Result<(), FileFault>
-    ensures takes { TakesCalls D.told D.size [] file.old file.new (waiting_in run.old) [] result }
-    ensures asked { (D.told file.new).asked ≡ (D.told file.old).asked ++ waiting_in run.old }
+    ensures asks { AsksFor D.told D.size (waiting_in run.old) FileCall.Write file.old file.new
+        result }
+    ensures some { OnErr result (0 < length (waiting_in run.old)) }
     ensures runs { AsksInRuns D.at_once file.old file.new (waiting_in run.old) [] }
 {
     if run.is_empty() {
@@ -68,10 +70,7 @@ pub(crate) fn put_sectors<D: DeviceFile>(
     bytes: &[u8],
 ) -> Result<(), FileFault>
     requires { first + length bytes.now / 512 < 2 ^ 64 }
-    ensures takes { TakesCalls D.told D.size
-        (some_writes first (sectors_in (length bytes.now / 512) bytes.now)) file.old file.new
-        (waiting_in run.old) (waiting_in run.new) result }
-    ensures runs { TakesInRuns D.told D.at_once
+    ensures { Puts D.told D.at_once D.size
         (some_writes first (sectors_in (length bytes.now / 512) bytes.now)) file.old file.new
         (waiting_in run.old) (waiting_in run.new) result }
 {
@@ -95,9 +94,7 @@ fn put_some<D: DeviceFile>(
     run: &mut Run,
     write: &SectorWrite,
 ) -> Result<(), FileFault>
-    ensures takes { TakesCalls D.told D.size (some_write write.now.sector write.now.block) file.old
-        file.new (waiting_in run.old) (waiting_in run.new) result }
-    ensures runs { TakesInRuns D.told D.at_once (some_write write.now.sector write.now.block)
+    ensures { Puts D.told D.at_once D.size (some_write write.now.sector write.now.block)
         file.old file.new (waiting_in run.old) (waiting_in run.new) result }
 {
     if has_zeros_alone(&write.block) {

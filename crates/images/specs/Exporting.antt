@@ -1,6 +1,5 @@
 -- The blocks of an image are copied to a plain file.
 use Rattle.std.specs.Prelude.{◌≡◌, ◌⊎◌, ◌≤◌, ℕ, List, [], ◌∷◌, ◌++◌, length, Option, Some, None}
-use Rattle.std.specs.Prelude.{Result, OnOk, OnErr}
 use Rattle.window.specs.declared.call.DeviceCall.{DeviceCall}
 use Rattle.window.specs.declared.call.DeviceCall.TheVariants.{Flush}
 use Rattle.journal.specs.declared.super_sector.Super.{Super}
@@ -12,13 +11,12 @@ use Rattle.recovery.specs.declared.recovered.Recovered.{Recovered}
 use Rattle.recovery.specs.declared.start_fault.StartFault.{StartFault}
 use Rattle.device_file.specs.Asked.{Told, asked_for}
 use Rattle.device_file.specs.Reads.{AreReadFrom}
-use Rattle.device_file.specs.Copied.{some_writes, moved_calls, asked_until, IsAskedInPart}
+use Rattle.device_file.specs.Copied.{some_writes, moved_calls, asked_until}
 use Rattle.device_file.specs.Copied.{MissesNext}
 use Rattle.device_file.specs.InRuns.{IsAskedInRuns}
 use Rattle.device_file.specs.declared.copying.CopyFault.{CopyFault}
 use Rattle.device_file.specs.declared.copying.CopyFault.TheVariants as stopped
 use Rattle.device_file.specs.declared.fault.FileCall.TheVariants as call
-use Rattle.device_file.specs.declared.fault.FileFault.{FileFault}
 use Rattle.device_file.specs.declared.opening.FirstSectors.{FirstSectors}
 use Rattle.images.specs.Opened.{IsWindowOver, HaveImage}
 use Rattle.images.specs.declared.refusal.Refusal.{Refusal}
@@ -94,14 +92,6 @@ pub record HasSomeBlocks (holds : ℕ → List ℕ → Type 0) (refuses : ℕ �
 -- what is asked behind the blocks
 abbrev pub going_home : Super → List DeviceCall → List DeviceCall
 going_home sizes waiting = moved_calls sizes.home sizes.blocks waiting ++ Flush ∷ []
-
--- It was asked for that, all or a first part of which the last call was refused. The file is as
--- large as before.
-pub record GoesHome {D : Type 0} (told : D → Told) (sectors : D → ℕ) (sizes : Super)
-    (waiting : List DeviceCall) (old new : D) (result : Result (Unit {0}) FileFault) : Type 0 where
-  pub ok : OnOk result (told new ≡ asked_for (going_home sizes waiting) (told old))
-  pub err : OnErr result (IsAskedInPart (going_home sizes waiting) (told old) (told new))
-  pub size : sectors new ≡ sectors old
 
 -- It was asked in runs, and behind them to synchronise, or for nothing.
 pub record GoesInRuns {D : Type 0} (told : D → Told) (at_once : D → List DeviceCall → D → Type 0)

@@ -1,6 +1,6 @@
 -- A new image in a file of zeros.
-use Rattle.std.specs.Prelude.{◌≡◌, ◌⊎◌, ℕ, ◌+◌, ◌≤◌, ◌<◌, Bool, true, false, List, [], ◌∷◌, ◌++◌}
-use Rattle.std.specs.Prelude.{length, take, replicate, if◌then◌else◌, Result, IfErr, is_ok}
+use Rattle.std.specs.Prelude.{◌≡◌, ◌⊎◌, ℕ, ◌≤◌, Bool, List, [], ◌∷◌}
+use Rattle.std.specs.Prelude.{take, replicate, Result, IfErr, is_ok}
 use Rattle.medium.specs.Medium.{Image, CutLeaves, Only}
 use Rattle.window.specs.Device.{Device, after}
 use Rattle.window.specs.declared.call.DeviceCall.{DeviceCall}
@@ -9,7 +9,7 @@ use Rattle.journal.specs.Places.{Shape, sectors_of}
 use Rattle.journal.specs.Sectors.{IsSuper, IsHead}
 use Rattle.journal.specs.Standing.{IsOurs}
 use Rattle.recovery.specs.Calls.{IsNoneOrNew}
-use Rattle.device_file.specs.Asked.{Told}
+use Rattle.device_file.specs.Asked.{AsksInOrder, Told}
 use Rattle.device_file.specs.declared.fault.FileCall.TheVariants as call
 use Rattle.device_file.specs.declared.fault.FileFault.{FileFault}
 
@@ -22,18 +22,6 @@ emptied = record { content = λ s. replicate 512 0; may_leave = λ s c. Unit {0}
 abbrev pub making : List ℕ → List ℕ → List DeviceCall
 making super head = Flush ∷ Write (record { sector = 1; block = head }) ∷ Flush
     ∷ Write (record { sector = 0; block = super }) ∷ Flush ∷ []
-
--- All of these calls were asked for, in order, and carried out; or a first part, of which the last
--- was refused.
-pub record AsksInOrder (calls : List DeviceCall) (good : Bool) (old new : Told) : Type 0 where
-  pub part : List DeviceCall
-  pub rest : List DeviceCall
-  pub parts : calls ≡ part ++ rest
-  pub asked : new.asked ≡ old.asked ++ part
-  pub all : good ≡ true → rest ≡ []
-  pub some : good ≡ false → 0 < length part
-  pub refusals : new.refusals ≡ (if good then old.refusals else old.refusals + 1)
-  pub opening_stays : new.opening ≡ old.opening
 
 -- A file was asked for these calls so; a refusal names a write or a synchronising. It is as large
 -- as before.

@@ -17,6 +17,7 @@ use Rattle.device_file.specs.declared.fault.FileFault.{FileFault}
 use Rattle.device_file.specs.declared.opening.FirstSectors.{FirstSectors}
 use Rattle.device_file.specs.declared.opening.OpenFault.{OpenFault}
 use Rattle.device_file.specs.declared.opening.OpenFault.TheVariants as opening
+use Rattle.images.specs.declared.image.FilePlace.{FilePlace}
 use Rattle.images.specs.declared.refusal.Refusal.{Refusal}
 use Rattle.images.specs.declared.refusal.Refusal.TheVariants as refused
 
@@ -68,6 +69,10 @@ pub record IsOpened (path : List ℕ) (access : Access) (back : Option FileValue
 -- what a file was asked that was made at this path, or emptied where it may be replaced: nothing
 abbrev pub made_at : List ℕ → Existing → Told
 made_at path existing = begun path (made_for existing)
+
+-- and of one that was made in this place
+abbrev pub made_in : {R : Type 0} → FilePlace R → Told
+made_in place = made_at place.path.now place.existing
 
 -- no file was made or opened: it refused, or a stream
 abbrev pub IsUnmade : Refusal → Type 0

@@ -1,5 +1,5 @@
 //! What a copy of blocks needs.
-ghost use Rattle.std.specs.Prelude.{◌≡◌, ◌≤◌, Some, IfOk, IfErr, length};
+ghost use Rattle.std.specs.Prelude.{◌≡◌, Some, IfOk, IfErr};
 ghost use Rattle.std.specs.Io.KnownBytes.{Appends};
 ghost use Rattle.console.specs.Streams.{AppendsSome};
 ghost use Rattle.images.specs.Texts.{blocks_text};
@@ -8,22 +8,16 @@ use crate::ended::{LockedFile, Stopped};
 use crate::refusal::Refusal;
 use crate::text::blocks_line;
 use console::write_out;
-use device_file::Run;
+use device_file::CopyBuffer;
 use std::alloc::{AllocError, Global};
 use std::io::Write;
-
-// How many bytes of a file are read at once: 256 sectors.
-const AT_ONCE: usize = 131_072;
 
 /// The memory of a copy, all of which is had before a file is made for it.
 #[derive(Drop)]
 pub(crate) struct CopyRoom {
-    pub(crate) run: Run,
-    /// What is read of a file at once.
-    pub(crate) bytes: Vec<u8>,
+    pub(crate) buffer: CopyBuffer,
     /// What is told at the end.
     pub(crate) line: Vec<u8>,
-    ghost some: { 512 ≤ length bytes.items },
 }
 
 /// The memory of a copy of `blocks` blocks, with the line that tells at the end what was done.
@@ -42,8 +36,7 @@ fn room_for(alloc: Global, done: &[u8], blocks: u64) -> Result<CopyRoom, AllocEr
     ensures { IfOk result (λ made. made.line.items ≡ blocks_text done.now blocks) }
 {
     Ok(CopyRoom {
-        run: Run::new(alloc)?,
-        bytes: vec![in alloc; 0u8; AT_ONCE]?,
+        buffer: CopyBuffer::new(alloc)?,
         line: blocks_line(alloc, done, blocks)?,
     })
 }

@@ -1,5 +1,5 @@
 //! The blocks of an image are copied to a plain file.
-ghost use Rattle.std.specs.Prelude.{◌≡◌, ◌⊎◌, ◌≤◌, [], ◌∷◌, Some, length, OnOk, IfOk, IfErr};
+ghost use Rattle.std.specs.Prelude.{◌≡◌, ◌⊎◌, [], ◌∷◌, Some, OnOk, IfOk, IfErr};
 ghost use Rattle.window.specs.declared.call.DeviceCall.TheVariants.{Flush};
 ghost use Rattle.device_file.specs.Asked.{AsksFor};
 ghost use Rattle.images.specs.Copying.{Copies};
@@ -12,26 +12,27 @@ ghost use Rattle.images.specs.Exported.{
   exported_text,
 };
 ghost use Rattle.images.specs.Exporting.{
-  GoesHome,
   GoesInRuns,
   HasBlocks,
   HasSomeBlocks,
   IsNotRecoveredIn,
   IsRecoveredIn,
+  going_home,
   recovery_room,
 };
-ghost use Rattle.images.specs.Opened.{HasNoFirst, WithFirst, made_at};
+ghost use Rattle.images.specs.NewImage.{GoesThrough};
+ghost use Rattle.images.specs.Opened.{HasNoFirst, WithFirst, made_in};
 ghost use Rattle.images.specs.Program.{IsExport, IsExportRefused};
 
 use crate::copying::{CopyRoom, copy_room, tell_of};
 use crate::ended::{LeftFiles, LockedFile, Refused, Stopped};
 use crate::gauge::Gauge;
-use crate::image::new_target;
+use crate::image::{FilePlace, new_target};
 use crate::opening::{first_of, open_file, window_over};
 use crate::refusal::Refusal;
 use device_file::{
-    CopyFault, DeviceFile, Existing, FileCall, FileFault, FirstSectors, Meter, Run, carry_moved,
-    copy_sectors,
+    CopyBuffer, CopyFault, CopyRange, DeviceFile, FileCall, FileFault, FirstSectors, Meter, Run,
+    carry_moved, copy_sectors,
 };
 use journal::Super;
 use medium::Access;
@@ -44,22 +45,20 @@ use window::{DeviceHolds, WindowMedium};
 /// Copies the blocks of an image file to a new plain file, and says how many there are.
 #[inline(never)]
 pub(crate) fn export<R: Files<File = File> + AllocGlobal, O: Write, E: Write + IsTerminal>(
-    rt: &R,
     image: &str,
-    raw: &str,
-    existing: Existing,
+    raw: FilePlace<R>,
     device: &DeviceHolds,
     out: &mut O,
     err: &mut E,
 ) -> Result<LeftFiles, Refused>
-    ensures done { IfOk result (λ left. IsExport image.now device.now.bytes
-        (made_at raw.now existing) (O.contents out.old) (O.contents out.new) left.file left.raw) }
+    ensures done { IfOk result (λ left. IsExport image.now device.now.bytes (made_in raw.entry)
+        (O.contents out.old) (O.contents out.new) left.file left.raw) }
     ensures refused { IfErr result (λ refused. IsExportRefused image.now device.now.bytes
-        (made_at raw.now existing) (O.contents out.old) (O.contents out.new) refused.files.file
+        (made_in raw.entry) (O.contents out.old) (O.contents out.new) refused.files.file
         refused.files.raw refused.refusal) }
 {
-    let file = open_file(rt, image, Access::Look)?;
-    match export_file(rt, &file, device, raw, existing, out, err) {
+    let file = open_file(raw.rt, image, Access::Look)?;
+    match export_file(raw, &file, device, out, err) {
         Ok(plain) => Ok(both(file, plain)),
         Err(stopped) => Err(Refused {
             refusal: stopped.refusal,
@@ -95,32 +94,36 @@ pub fn export_file<
     O: Write,
     E: Write + IsTerminal,
 >(
-    rt: &R,
+    raw: FilePlace<R>,
     image: &S,
     device: &DeviceHolds,
-    raw: &str,
-    existing: Existing,
     out: &mut O,
     err: &mut E,
 ) -> Result<LockedFile, Stopped>
     ensures ok { IfOk result (λ plain. IsExportedOf (S.holds image.now) (S.refuses image.now)
         (S.size image.now) device.now.bytes (O.contents out.old) (O.contents out.new)
-        (made_at raw.now existing) (Some plain)) }
+        (made_in raw.entry) (Some plain)) }
     ensures err { IfErr result (λ stopped. IsNotExportedOf (S.holds image.now)
         (S.refuses image.now) (S.size image.now) device.now.bytes (O.contents out.old)
-        (O.contents out.new) (made_at raw.now existing) stopped.file stopped.refusal) }
+        (O.contents out.new) (made_in raw.entry) stopped.file stopped.refusal) }
 {
-    match ready_to_copy(rt.alloc(), image, device) {
-        Ok(mut ready) => make_copy(rt, image, &mut ready, raw, existing, out, err),
+    match ready_to_copy(raw.rt.alloc(), image, device) {
+        Ok(mut ready) => make_copy(raw, image, &mut ready, out, err),
         Err(refusal) => Err(Stopped::from(refusal)),
     }
 }
 
-// An image that was recovered in a window, and the memory of a copy.
+/// An image that was recovered in a window over its file.
+#[derive(Drop)]
+pub struct RecoveredImage {
+    pub window: WindowMedium,
+    pub sizes: Super,
+}
+
+// Such an image, and the memory of a copy.
 #[derive(Drop)]
 struct Ready {
-    window: WindowMedium,
-    sizes: Super,
+    image: RecoveredImage,
     room: CopyRoom,
 }
 
@@ -132,9 +135,9 @@ fn ready_to_copy<S: DeviceFile>(
     device: &DeviceHolds,
 ) -> Result<Ready, Refusal>
     ensures ok { IfOk result (λ ready. WithFirst (S.holds image.now) (S.size image.now)
-        (λ first. IsRecoveredIn first device.now.bytes ready.sizes ready.window)) }
+        (λ first. IsRecoveredIn first device.now.bytes ready.image.sizes ready.image.window)) }
     ensures line { IfOk result
-        (λ ready. ready.room.line.items ≡ exported_text ready.sizes.blocks) }
+        (λ ready. ready.room.line.items ≡ exported_text ready.image.sizes.blocks) }
     ensures err { IfErr result (λ refusal. HasNoFirst (S.refuses image.now) (S.size image.now)
         refusal ⊎ WithFirst (S.holds image.now) (S.size image.now)
         (λ first. IsNotRecoveredIn first device.now.bytes refusal)) }
@@ -143,39 +146,33 @@ fn ready_to_copy<S: DeviceFile>(
         Ok(first) => first,
         Err(refusal) => return Err(refusal),
     };
-    let (window, sizes) = match recover_in_window(alloc, first, device) {
+    let image = match recover_in_window(alloc, first, device) {
         Ok(recovered) => recovered,
         Err(refusal) => return Err(refusal),
     };
-    match copy_room(alloc, b"exported ", sizes.blocks) {
-        Ok(room) => Ok(Ready {
-            window,
-            sizes,
-            room,
-        }),
+    match copy_room(alloc, b"exported ", image.sizes.blocks) {
+        Ok(room) => Ok(Ready { image, room }),
         Err(refusal) => Err(refusal),
     }
 }
 
 // Makes a plain file, once all memory is had, and copies the blocks to it.
 fn make_copy<R: Files<File = File>, S: DeviceFile, O: Write, E: Write + IsTerminal>(
-    rt: &R,
+    raw: FilePlace<R>,
     image: &S,
     ready: &mut Ready,
-    raw: &str,
-    existing: Existing,
     out: &mut O,
     err: &mut E,
 ) -> Result<LockedFile, Stopped>
-    requires { ready.old.room.line.items ≡ exported_text ready.old.sizes.blocks }
+    requires { ready.old.room.line.items ≡ exported_text ready.old.image.sizes.blocks }
     ensures ok { IfOk result (λ copied. IsPlainCopy (S.holds image.now) (S.refuses image.now)
-        ready.old.sizes ready.old.window.outbox (O.contents out.old) (O.contents out.new)
-        (made_at raw.now existing) (Some copied)) }
+        ready.old.image.sizes ready.old.image.window.outbox (O.contents out.old)
+        (O.contents out.new) (made_in raw.entry) (Some copied)) }
     ensures err { IfErr result (λ stopped. IsNoCopyMade (S.holds image.now) (S.refuses image.now)
-        ready.old.sizes ready.old.window.outbox (O.contents out.old) (O.contents out.new)
-        (made_at raw.now existing) stopped.file stopped.refusal) }
+        ready.old.image.sizes ready.old.image.window.outbox (O.contents out.old)
+        (O.contents out.new) (made_in raw.entry) stopped.file stopped.refusal) }
 {
-    let mut plain = new_target(rt, raw, ready.sizes.blocks, existing)?;
+    let mut plain = new_target(raw, ready.image.sizes.blocks)?;
     match export_watched(image, ready, &mut plain, err) {
         Ok(()) => tell_of(plain, out, &ready.room),
         Err(fault) => Err(Stopped::with(refusal_of(fault), plain)),
@@ -189,24 +186,16 @@ fn export_watched<S: DeviceFile, D: DeviceFile, E: Write + IsTerminal>(
     to: &mut D,
     err: &mut E,
 ) -> Result<(), CopyFault>
-    ensures ok { OnOk result (HasBlocks (S.holds image.now) ready.old.sizes
-        ready.old.window.outbox (D.told to.old) (D.told to.new)) }
+    ensures ok { OnOk result (HasBlocks (S.holds image.now) ready.old.image.sizes
+        ready.old.image.window.outbox (D.told to.old) (D.told to.new)) }
     ensures err { IfErr result (HasSomeBlocks (S.holds image.now) (S.refuses image.now)
-        ready.old.sizes ready.old.window.outbox (D.told to.old) (D.told to.new)) }
+        ready.old.image.sizes ready.old.image.window.outbox (D.told to.old) (D.told to.new)) }
     ensures size { (D.size to.new ≡ D.size to.old)
         × (ready.new.room.line ≡ ready.old.room.line) }
 {
     let mut bar = Gauge::new(err);
-    let (run, bytes) = (&mut ready.room.run, &mut ready.room.bytes);
-    let done = export_blocks(
-        image,
-        &ready.sizes,
-        &mut ready.window,
-        to,
-        run,
-        bytes,
-        &mut bar,
-    );
+    let buffer = &mut ready.room.buffer;
+    let done = export_blocks(image, &mut ready.image, to, buffer, &mut bar);
     bar.end();
     done
 }
@@ -233,8 +222,9 @@ pub fn recover_in_window(
     alloc: Global,
     first: FirstSectors,
     device: &DeviceHolds,
-) -> Result<(WindowMedium, Super), Refusal>
-    ensures ok { IfOk result (λ image. IsRecoveredIn first device.now.bytes image.1 image.0) }
+) -> Result<RecoveredImage, Refusal>
+    ensures ok { IfOk result
+        (λ image. IsRecoveredIn first device.now.bytes image.sizes image.window) }
     ensures err { IfErr result (IsNotRecoveredIn first device.now.bytes) }
 {
     let room = room_to_recover(&first.sizes);
@@ -242,7 +232,10 @@ pub fn recover_in_window(
     // The law of the outbox, from the first call on.
     let _waiting = window.waiting();
     match recover(&mut window) {
-        Ok(recovered) => Ok((window, recovered.sizes)),
+        Ok(recovered) => Ok(RecoveredImage {
+            window,
+            sizes: recovered.sizes,
+        }),
         Err(fault) => Err(Refusal::Image(fault)),
     }
 }
@@ -260,33 +253,30 @@ pub(crate) fn room_to_recover(sizes: &Option<Super>) -> usize
 
 /// Has a plain file that was just made or emptied hold the blocks of an image, as a start would
 /// serve them: those at home, and over them what waits in the window of its recovery. The image is
-/// only read, as many sectors at once as the bytes have; a meter hears how many blocks it were.
+/// only read, as many sectors at once as the buffer has; a meter hears how many blocks it were.
 ///
 /// # Errors
 ///
 /// The first call that a file refused: a read of the blocks that come next, or one of the plain
 /// file. Nothing was asked of either after that.
 pub fn export_blocks<S: DeviceFile, D: DeviceFile, M: Meter>(
-    image: &S,
-    sizes: &Super,
-    window: &mut WindowMedium,
+    file: &S,
+    image: &mut RecoveredImage,
     plain: &mut D,
-    run: &mut Run,
-    bytes: &mut [u8],
+    buffer: &mut CopyBuffer,
     meter: &mut M,
 ) -> Result<(), CopyFault>
-    requires { 512 ≤ length bytes.old }
-    ensures ok { OnOk result (HasBlocks (S.holds image.now) sizes.now window.old.outbox
+    ensures ok { OnOk result (HasBlocks (S.holds file.now) image.old.sizes image.old.window.outbox
         (D.told plain.old) (D.told plain.new)) }
-    ensures err { IfErr result (HasSomeBlocks (S.holds image.now) (S.refuses image.now) sizes.now
-        window.old.outbox (D.told plain.old) (D.told plain.new)) }
+    ensures err { IfErr result (HasSomeBlocks (S.holds file.now) (S.refuses file.now)
+        image.old.sizes image.old.window.outbox (D.told plain.old) (D.told plain.new)) }
     ensures size { D.size plain.new ≡ D.size plain.old }
 {
-    match copy_home(image, sizes, plain, run, bytes, meter) {
+    match copy_home(file, &image.sizes, plain, buffer, meter) {
         Ok(()) => {}
         Err(fault) => return Err(fault),
     }
-    match carry_home(window, sizes, plain, run) {
+    match carry_home(&mut image.window, &image.sizes, plain, &mut buffer.run) {
         Ok(()) => Ok(()),
         Err(fault) => Err(CopyFault::To(fault)),
     }
@@ -297,15 +287,18 @@ fn copy_home<S: DeviceFile, D: DeviceFile, M: Meter>(
     image: &S,
     sizes: &Super,
     plain: &mut D,
-    run: &mut Run,
-    bytes: &mut [u8],
+    buffer: &mut CopyBuffer,
     meter: &mut M,
 ) -> Result<(), CopyFault>
-    requires { 512 ≤ length bytes.old }
     ensures { Copies D.told D.at_once D.size (S.holds image.now) (S.refuses image.now)
         sizes.now.home sizes.now.blocks 0 plain.old plain.new result }
 {
-    copy_sectors(image, sizes.home, sizes.blocks, plain, 0, run, bytes, meter)
+    let range = CopyRange {
+        first: sizes.home,
+        count: sizes.blocks,
+        at: 0,
+    };
+    copy_sectors(image, range, plain, buffer, meter)
 }
 
 // Has the plain file carry out what waits and goes home, and makes that durable.
@@ -315,7 +308,8 @@ fn carry_home<D: DeviceFile>(
     plain: &mut D,
     run: &mut Run,
 ) -> Result<(), FileFault>
-    ensures goes { GoesHome D.told D.size sizes.now window.old.outbox plain.old plain.new result }
+    ensures goes { GoesThrough D.told D.size (going_home sizes.now window.old.outbox) plain.old
+        plain.new result }
     ensures runs { GoesInRuns D.told D.at_once plain.old plain.new }
 {
     match carry_moved(window, sizes.home, sizes.blocks, plain, run) {

@@ -17,6 +17,14 @@ use device_file::Existing;
 use journal::{LogFormat, Super};
 use std::fs::{File, Files};
 
+/// Where a file is made, and what is done with one that is there.
+#[derive(Drop)]
+pub struct FilePlace<'a, R> {
+    pub rt: &'a R,
+    pub path: &'a str,
+    pub existing: Existing,
+}
+
 /// The super of an image with these sizes, where it may have them.
 pub(crate) fn sizes_of(format: LogFormat, blocks: u64, slots: u64) -> Option<Super>
     ensures { MatchOption result (¬ AreLimits blocks slots)
@@ -100,15 +108,14 @@ fn create<R: Files<File = File>>(
 
 /// The same, for the second file that a line names.
 pub(crate) fn new_target<R: Files<File = File>>(
-    rt: &R,
-    path: &str,
+    place: FilePlace<R>,
     sectors: u64,
-    existing: Existing,
 ) -> Result<LockedFile, Refusal>
-    ensures ok { IfOk result (λ target. IsMade path.now existing sectors target) }
+    ensures ok { IfOk result
+        (λ target. IsMade place.entry.path.now place.entry.existing sectors target) }
     ensures err { IfErr result IsTargetUnmade }
 {
-    match new_file(rt, path, sectors, existing) {
+    match new_file(place.rt, place.path, sectors, place.existing) {
         Ok(file) => Ok(file),
         Err(Refusal::File(fault)) => Err(Refusal::Target(fault)),
         Err(_) => Err(Refusal::Streams),

@@ -1,5 +1,5 @@
 //! The blocks of a plain file become those of a new image.
-ghost use Rattle.std.specs.Prelude.{◌≡◌, ◌≤◌, Some, length, IfOk, OnOk, IfErr};
+ghost use Rattle.std.specs.Prelude.{◌≡◌, Some, IfOk, OnOk, IfErr};
 ghost use Rattle.journal.specs.Places.{sectors_of};
 ghost use Rattle.journal.specs.Formats.{shape_of};
 ghost use Rattle.device_file.specs.FileValue.{IsMade};
@@ -12,40 +12,47 @@ ghost use Rattle.images.specs.Program.{IsImport, IsImportRefused};
 use crate::copying::{CopyRoom, copy_room, tell_of};
 use crate::ended::{LeftFile, LeftFiles, LockedFile, Refused, Stopped};
 use crate::gauge::Gauge;
-use crate::image::{new_target, sizes_of};
+use crate::image::{FilePlace, new_target, sizes_of};
 use crate::making::ask_to_be;
 use crate::opening::open_plain;
 use crate::refusal::Refusal;
 use crate::task::ImageOptions;
-use device_file::{CopyFault, DeviceFile, Existing, Meter, Run, copy_sectors};
+use device_file::{CopyBuffer, CopyFault, CopyRange, DeviceFile, Meter, Run, copy_sectors};
 use journal::Super;
 use std::fs::{File, Files};
 use std::io::{IsTerminal, Write};
 
+/// Where an image is made, and with what.
+#[derive(Drop)]
+pub(crate) struct NewImage<'a, R> {
+    pub(crate) rt: &'a R,
+    pub(crate) path: &'a str,
+    pub(crate) options: ImageOptions,
+}
+
 /// Makes an image file whose blocks are those of a plain file, and says how many there are.
 #[inline(never)]
 pub(crate) fn import<R: Files<File = File> + AllocGlobal, O: Write, E: Write + IsTerminal>(
-    rt: &R,
     raw: &str,
-    image: &str,
-    options: &ImageOptions,
+    image: NewImage<R>,
     out: &mut O,
     err: &mut E,
 ) -> Result<LeftFiles, Refused>
-    ensures done { IfOk result (λ left. IsImport raw.now (made_at image.now options.now.existing)
-        (O.contents out.old) (O.contents out.new) left.file left.raw options.now.format
-        options.now.slots) }
+    ensures done { IfOk result (λ left. IsImport raw.now
+        (made_at image.entry.path.now image.entry.options.existing) (O.contents out.old)
+        (O.contents out.new) left.file left.raw image.entry.options.format
+        image.entry.options.slots) }
     ensures refused { IfErr result (λ refused. IsImportRefused raw.now
-        (made_at image.now options.now.existing) (O.contents out.old) (O.contents out.new)
-        refused.files.file refused.files.raw options.now.format options.now.slots
-        refused.refusal) }
+        (made_at image.entry.path.now image.entry.options.existing) (O.contents out.old)
+        (O.contents out.new) refused.files.file refused.files.raw image.entry.options.format
+        image.entry.options.slots refused.refusal) }
 {
-    let plain = open_plain(rt, raw)?;
-    let mut room = match copy_room(rt.alloc(), b"imported ", plain.sectors()) {
+    let plain = open_plain(image.rt, raw)?;
+    let mut room = match copy_room(image.rt.alloc(), b"imported ", plain.sectors()) {
         Ok(room) => room,
         Err(refusal) => return Err(refused_with(refusal, None, plain)),
     };
-    match import_from(rt, &plain, image, options, &mut room, out, err) {
+    match import_from(&plain, image, &mut room, out, err) {
         Ok(file) => Ok(LeftFiles {
             file: Some(file),
             raw: Some(plain),
@@ -73,27 +80,28 @@ fn refused_with(refusal: Refusal, file: LeftFile, plain: LockedFile) -> Refused
 // Makes an image of the blocks of a plain file, which is only read, once all memory is had. The
 // sizes are tested before a file is made.
 fn import_from<R: Files<File = File>, S: DeviceFile, O: Write, E: Write + IsTerminal>(
-    rt: &R,
     plain: &S,
-    image: &str,
-    options: &ImageOptions,
+    image: NewImage<R>,
     room: &mut CopyRoom,
     out: &mut O,
     err: &mut E,
 ) -> Result<LockedFile, Stopped>
     requires { room.old.line.items ≡ imported_text (S.size plain.now) }
     ensures ok { IfOk result (λ file. IsImage (S.holds plain.now) (S.refuses plain.now)
-        options.now.format (S.size plain.now) options.now.slots (O.contents out.old)
-        (O.contents out.new) (made_at image.now options.now.existing) (Some file)) }
+        image.entry.options.format (S.size plain.now) image.entry.options.slots
+        (O.contents out.old) (O.contents out.new)
+        (made_at image.entry.path.now image.entry.options.existing) (Some file)) }
     ensures err { IfErr result (λ stopped. IsNoImage (S.holds plain.now) (S.refuses plain.now)
-        options.now.format (S.size plain.now) options.now.slots (O.contents out.old)
-        (O.contents out.new) (made_at image.now options.now.existing) stopped.file
+        image.entry.options.format (S.size plain.now) image.entry.options.slots
+        (O.contents out.old) (O.contents out.new)
+        (made_at image.entry.path.now image.entry.options.existing) stopped.file
         stopped.refusal) }
 {
+    let options = image.options;
     let Some(sizes) = sizes_of(options.format, plain.sectors(), options.slots) else {
         return Err(Stopped::from(Refusal::Sizes));
     };
-    let mut file = new_image(rt, image, &sizes, options.existing)?;
+    let mut file = new_image(image, &sizes)?;
     match import_watched(plain, &sizes, &mut file, room, err) {
         Ok(()) => tell_of(file, out, room),
         Err(fault) => Err(Stopped::with(refusal_of(fault), file)),
@@ -102,16 +110,19 @@ fn import_from<R: Files<File = File>, S: DeviceFile, O: Write, E: Write + IsTerm
 
 // A file of as many sectors as an image with these sizes has.
 fn new_image<R: Files<File = File>>(
-    rt: &R,
-    path: &str,
+    image: NewImage<R>,
     sizes: &Super,
-    existing: Existing,
 ) -> Result<LockedFile, Refusal>
-    ensures ok { IfOk result
-        (λ image. IsMade path.now existing (sectors_of (shape_of sizes.now)) image) }
+    ensures ok { IfOk result (λ made. IsMade image.entry.path.now image.entry.options.existing
+        (sectors_of (shape_of sizes.now)) made) }
     ensures err { IfErr result (λ refusal. IsTargetUnmade refusal) }
 {
-    new_target(rt, path, sizes.sectors(), existing)
+    let place = FilePlace {
+        rt: image.rt,
+        path: image.path,
+        existing: image.options.existing,
+    };
+    new_target(place, sizes.sectors())
 }
 
 // Has a file become an image with the blocks of a plain one, and tells on the way how far it is.
@@ -129,7 +140,7 @@ fn import_watched<S: DeviceFile, D: DeviceFile, E: Write + IsTerminal>(
     ensures size { (D.size file.new ≡ D.size file.old) × (room.new.line ≡ room.old.line) }
 {
     let mut bar = Gauge::new(err);
-    let done = import_blocks(plain, sizes, file, &mut room.run, &mut room.bytes, &mut bar);
+    let done = import_blocks(plain, sizes, file, &mut room.buffer, &mut bar);
     bar.end();
     done
 }
@@ -146,7 +157,7 @@ fn refusal_of(fault: CopyFault) -> Refusal
 
 /// Has a file that was just made or emptied become a new image with these sizes, whose blocks are
 /// those of a plain file: they are written at home, and only then is it made an image. The plain
-/// file is only read, as many sectors at once as the bytes have; a meter hears how many it were.
+/// file is only read, as many sectors at once as the buffer has; a meter hears how many it were.
 ///
 /// # Errors
 ///
@@ -156,19 +167,17 @@ pub fn import_blocks<S: DeviceFile, D: DeviceFile, M: Meter>(
     plain: &S,
     sizes: &Super,
     image: &mut D,
-    run: &mut Run,
-    bytes: &mut [u8],
+    buffer: &mut CopyBuffer,
     meter: &mut M,
 ) -> Result<(), CopyFault>
-    requires { 512 ≤ length bytes.old }
     ensures ok { OnOk result (IsImported (S.holds plain.now) (shape_of sizes.now)
         (D.told image.old) (D.told image.new)) }
     ensures err { IfErr result (IsNotImported (S.holds plain.now) (S.refuses plain.now)
         (shape_of sizes.now) (D.told image.old) (D.told image.new)) }
     ensures size { D.size image.new ≡ D.size image.old }
 {
-    match copy_blocks(plain, sizes, image, run, bytes, meter) {
-        Ok(()) => become_image(image, run, sizes),
+    match copy_blocks(plain, sizes, image, buffer, meter) {
+        Ok(()) => become_image(image, &mut buffer.run, sizes),
         Err(fault) => Err(fault),
     }
 }
@@ -178,15 +187,18 @@ fn copy_blocks<S: DeviceFile, D: DeviceFile, M: Meter>(
     plain: &S,
     sizes: &Super,
     image: &mut D,
-    run: &mut Run,
-    bytes: &mut [u8],
+    buffer: &mut CopyBuffer,
     meter: &mut M,
 ) -> Result<(), CopyFault>
-    requires { 512 ≤ length bytes.old }
     ensures { Copies D.told D.at_once D.size (S.holds plain.now) (S.refuses plain.now) 0
         sizes.now.blocks sizes.now.home image.old image.new result }
 {
-    copy_sectors(plain, 0, sizes.blocks, image, sizes.home, run, bytes, meter)
+    let range = CopyRange {
+        first: 0,
+        count: sizes.blocks,
+        at: sizes.home,
+    };
+    copy_sectors(plain, range, image, buffer, meter)
 }
 
 // Makes an image of a file that has its blocks.

@@ -18,7 +18,8 @@ mod task;
 mod text;
 
 pub use ended::{Ended, LockedFile, Stopped};
-pub use exporting::{export_blocks, export_file, recover_in_window};
+pub use exporting::{RecoveredImage, export_blocks, export_file, recover_in_window};
+pub use image::FilePlace;
 pub use importing::import_blocks;
 pub use laws::{copy_laws, making_laws};
 pub use making::ask_to_be;

@@ -20,22 +20,22 @@ ghost use Rattle.images.specs.Program.{
   made_text,
   version_text,
 };
-ghost use Rattle.images.specs.Opened.{made_at};
+ghost use Rattle.images.specs.Opened.{made_in};
 ghost use Rattle.device_file.specs.Carried.{AreCalls};
 ghost use Rattle.images.specs.Task.{image_wanted, wanted_of};
 ghost use Rattle.journal.specs.Formats.{shape_of};
 
 use crate::ended::{Ended, LeftFile, LeftFiles, Refused, Stopped};
 use crate::exporting::export;
-use crate::image::{new_file, super_of};
-use crate::importing::import;
+use crate::image::{FilePlace, new_file, super_of};
+use crate::importing::{NewImage, import};
 use crate::making::ask_to_be;
 use crate::migrating::migrate;
 use crate::refusal::Refusal;
 use crate::showing::show;
 use crate::task::{ImageTask, NewSizes, Task, read_words};
 use console::{ArgumentFault, words_of, write_out};
-use device_file::{Existing, Run};
+use device_file::Run;
 use journal::Super;
 use std::fs::{File, Files};
 use std::io::{IsTerminal, Write};
@@ -144,14 +144,14 @@ fn do_task<R: Files<File = File> + AllocGlobal, O: Write, E: Write + IsTerminal>
         Task::Image(task) => alone(do_image(rt, task, device, out)),
         Task::Import {
             raw,
-            image,
+            image: path,
             options,
-        } => import(rt, raw, image, &options, out, err),
+        } => import(raw, NewImage { rt, path, options }, out, err),
         Task::Export {
             image,
-            raw,
+            raw: path,
             existing,
-        } => export(rt, image, raw, existing, device, out, err),
+        } => export(image, FilePlace { rt, path, existing }, device, out, err),
     }
 }
 
@@ -173,10 +173,10 @@ fn do_image<R: Files<File = File> + AllocGlobal, O: Write>(
         ImageTask::Show { image } => show(rt, image, device, out),
         ImageTask::Migrate { image } => migrate(rt, image, device, out),
         ImageTask::Make {
-            image,
+            image: path,
             sizes,
             existing,
-        } => make(rt, image, &sizes, existing, out),
+        } => make(FilePlace { rt, path, existing }, &sizes, out),
     }
 }
 
@@ -221,41 +221,36 @@ fn say_version<O: Write>(out: &mut O) -> Result<LeftFile, Stopped>
 // Makes an image file, and says so.
 #[inline(never)]
 fn make<R: Files<File = File> + AllocGlobal, O: Write>(
-    rt: &R,
-    image: &str,
+    place: FilePlace<R>,
     wanted: &NewSizes,
-    existing: Existing,
     out: &mut O,
 ) -> Result<LeftFile, Stopped>
     ensures done { IfOk result (λ back. IsMake (O.contents out.old) (O.contents out.new) back
-        (made_at image.now existing) wanted.now) }
+        (made_in place.entry) wanted.now) }
     ensures refused { IfErr result (λ stopped. IsMakeRefused (O.contents out.old)
-        (O.contents out.new) stopped.file (made_at image.now existing) wanted.now
-        stopped.refusal) }
+        (O.contents out.new) stopped.file (made_in place.entry) wanted.now stopped.refusal) }
 {
     let sizes = super_of(wanted)?;
-    match Run::new(rt.alloc()) {
-        Ok(mut run) => make_with(rt, image, &sizes, existing, &mut run, out),
+    match Run::new(place.rt.alloc()) {
+        Ok(mut run) => make_with(place, &sizes, &mut run, out),
         Err(_) => Err(Stopped::from(Refusal::NoMemory)),
     }
 }
 
 // Makes an image file of these sizes, once all memory is had, and says so.
 fn make_with<R: Files<File = File>, O: Write>(
-    rt: &R,
-    image: &str,
+    place: FilePlace<R>,
     sizes: &Super,
-    existing: Existing,
     run: &mut Run,
     out: &mut O,
 ) -> Result<LeftFile, Stopped>
     ensures done { IfOk result (λ back. IsMadeAs (O.contents out.old) (O.contents out.new) back
-        (made_at image.now existing) (shape_of sizes.now)) }
+        (made_in place.entry) (shape_of sizes.now)) }
     ensures refused { IfErr result (λ stopped. IsNotMade (O.contents out.old)
-        (O.contents out.new) stopped.file (made_at image.now existing) (shape_of sizes.now)
+        (O.contents out.new) stopped.file (made_in place.entry) (shape_of sizes.now)
         stopped.refusal) }
 {
-    let mut file = match new_file(rt, image, sizes.sectors(), existing) {
+    let mut file = match new_file(place.rt, place.path, sizes.sectors(), place.existing) {
         Ok(file) => file,
         Err(refusal) => return Err(Stopped::from(refusal)),
     };

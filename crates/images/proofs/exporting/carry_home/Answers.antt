@@ -1,29 +1,22 @@
-use Rattle.std.proofs.Common.{◌∙◌, inl, inr, refl}
-use Rattle.device_file.proofs.Puts.{puts_all}
-use Rattle.device_file.specs.Copied.{moved_calls}
-use Rattle.images.proofs.Exports.{move_stopped, flushed, flush_refused}
+use Rattle.std.proofs.Common.{◌∙◌, [], ◌∷◌, inl, inr, refl}
+use Rattle.std.specs.Prelude.{is_ok}
+use Rattle.window.specs.declared.call.DeviceCall.TheVariants.{Flush}
+use Rattle.images.proofs.InOrder.{goes_on, named_sync, one_call, stops_before}
 use Rattle.images.proofs.exporting.carry_home.Goals as goal
 
 pub returns-in-Ok-clause-goes : goal.returns-in-Ok-clause-goes
-returns-in-Ok-clause-goes g c =
-    let told = g.D.DeviceFile.told in
-    let waiting = c.args.window.now.outbox in
-    let moved = puts_all (moved_calls c.args.sizes.now.home c.args.sizes.now.blocks waiting) (told c.args.plain.now)
-    (told c.carry_moved.new.file) c.in-Ok.ensures.takes.ok in
-    record {
-      ok = flushed c.args.sizes.now waiting (told c.args.plain.now) (told c.carry_moved.new.file) (told c.make_durable.new.plain)
-          c.make_durable.result moved c.make_durable.ensures.asks.asked;
-      err = flush_refused c.args.sizes.now waiting (told c.args.plain.now) (told c.carry_moved.new.file)
-          (told c.make_durable.new.plain) c.make_durable.result moved c.make_durable.ensures.asks.asked;
-      size = c.make_durable.ensures.asks.size ∙ c.in-Ok.ensures.takes.size;
-    }
+returns-in-Ok-clause-goes g c = record {
+  in_order = goes_on c.in-Ok.ensures.takes.in_order
+      (one_call Flush (is_ok c.make_durable.result) _ _ c.make_durable.ensures.asks.asked);
+  size = c.make_durable.ensures.asks.size ∙ c.in-Ok.ensures.takes.size;
+  named = named_sync c.make_durable.result c.make_durable.ensures.asks.named;
+}
 
 pub returns-in-Err-clause-goes : goal.returns-in-Err-clause-goes
 returns-in-Err-clause-goes g c = record {
-  ok = tt;
-  err = move_stopped c.args.sizes.now c.args.window.now.outbox (g.D.DeviceFile.told c.args.plain.now)
-      (g.D.DeviceFile.told c.carry_moved.new.file) c.in-Err.ensures.takes.err;
+  in_order = stops_before (Flush ∷ []) c.in-Err.ensures.takes.in_order;
   size = c.in-Err.ensures.takes.size;
+  named = inl c.in-Err.ensures.takes.named;
 }
 
 pub returns-in-Ok-clause-runs : goal.returns-in-Ok-clause-runs

@@ -27,8 +27,8 @@ returns-in-Ok-clause-ok g c = if_ok c.make_copy.result (λ plain copied. record 
   first = c.in-Ok.ensures.ok.first;
   has = c.in-Ok.ensures.ok.has;
   so = record {
-    sizes = c.in-Ok.ready.sizes;
-    after = c.in-Ok.ready.window;
+    sizes = c.in-Ok.ready.image.sizes;
+    after = c.in-Ok.ready.image.window;
     recovered = c.in-Ok.ensures.ok.so;
     copied = copied;
   };
@@ -39,8 +39,8 @@ returns-in-Ok-clause-err g c = if_err c.make_copy.result (λ stopped why. inr (r
   first = c.in-Ok.ensures.ok.first;
   has = c.in-Ok.ensures.ok.has;
   so = inr (record {
-    sizes = c.in-Ok.ready.sizes;
-    after = c.in-Ok.ready.window;
+    sizes = c.in-Ok.ready.image.sizes;
+    after = c.in-Ok.ready.image.window;
     recovered = c.in-Ok.ensures.ok.so;
     stopped = inr why;
   });

@@ -1,11 +1,10 @@
-use Rattle.std.proofs.Common.{◌≡◌, ◌∙◌, ℕ, List, inl, inr, refl, ap, subst}
+use Rattle.std.proofs.Common.{◌≡◌, ◌∙◌, ℕ, List, inl, inr, refl, ap}
 use Rattle.std.specs.Prelude.{Option, Some}
 use Rattle.std.specs.Io.KnownBytes.{Appends}
 use Rattle.std.proofs.KnownBytes.{Keeps-refl}
 use Rattle.console.specs.Streams.{AppendsSome}
 use Rattle.window.specs.declared.call.DeviceCall.{DeviceCall}
 use Rattle.journal.specs.declared.super_sector.Super.{Super}
-use Rattle.device_file.specs.Asked.{Told}
 use Rattle.device_file.specs.FileValue.{FileValue, IsMade}
 use Rattle.device_file.specs.declared.existing.Existing.{Existing}
 use Rattle.images.specs.Exported.{IsNoCopyMade, IsPlainCopy, exported_text}
@@ -16,21 +15,18 @@ use Rattle.images.specs.declared.refusal.Refusal.TheVariants as refused
 use Rattle.images.proofs.Options.{if_ok, if_err}
 use Rattle.images.proofs.exporting.make_copy.Goals as goal
 
-module _ (holds : ℕ → List ℕ → Type 0) (refuses : ℕ → ℕ → Type 0) (sizes : Super) (waiting : List DeviceCall)
-    (was now : Option (List ℕ)) (path : List ℕ) (existing : Existing) (old new : FileValue) (line : List ℕ)
+module _ {holds : ℕ → List ℕ → Type 0} {refuses : ℕ → ℕ → Type 0} {sizes : Super} {waiting : List DeviceCall}
+    {was now : Option (List ℕ)} {path : List ℕ} {existing : Existing} {old new : FileValue} {line : List ℕ}
     (made : IsMade path existing sizes.blocks old) (same : new.size ≡ old.size)
     (asked : HasBlocks holds sizes waiting old.told new.told) (is : line ≡ exported_text sizes.blocks) where
-  asked_since : HasBlocks holds sizes waiting (made_at path existing) new.told
-  asked_since = subst (λ (t : Told). HasBlocks holds sizes waiting t new.told) made.told_is asked
-
   copied : (back : FileValue) → (back ≡ new) × Appends was now line
       → IsPlainCopy holds refuses sizes waiting was now (made_at path existing) (Some back)
   copied back told = record {
     plain = new;
     given = ap Some told.0;
     size = same ∙ made.sectors_are;
-    asked = asked_since;
-    written = subst (λ (l : List ℕ). Appends was now l) is told.1;
+    asked = rw made.told_is at asked;
+    written = rw is at told.1;
   }
 
   untold : (stopped : Stopped) → (stopped ≡ record { refusal = refused.Streams; file = Some new }) × AppendsSome was now line
@@ -39,24 +35,20 @@ module _ (holds : ℕ → List ℕ → Type 0) (refuses : ℕ → ℕ → Type 0
     plain = new;
     given = ap (λ (s : Stopped). s.file) told.0;
     size = same ∙ made.sectors_are;
-    asked = asked_since;
+    asked = rw made.told_is at asked;
     failed = ap (λ (s : Stopped). s.refusal) told.0;
-    written = subst (λ (l : List ℕ). AppendsSome was now l) is told.1;
+    written = rw is at told.1;
   }))
 
 pub returns-in-Ok-clause-ok : goal.returns-in-Ok-clause-ok
 returns-in-Ok-clause-ok g c = if_ok c.tell_of.result
-    (copied (g.S.DeviceFile.holds c.args.image.now) (g.S.DeviceFile.refuses c.args.image.now) c.args.ready.now.sizes
-    c.args.ready.now.window.outbox (g.O.Write.contents c.args.out.now) (g.O.Write.contents c.tell_of.new.out) c.args.raw.now
-    c.args.existing c.in_ok-plain.plain c.export_watched.new.to c.export_watched.new.ready.room.line.items c.in_ok-plain.ensures.ok
-    c.in-Ok.ensures.size.0 c.in-Ok.ensures.ok (rw c.in-Ok.ensures.size.1 c.requires)) c.tell_of.ensures.told
+    (copied c.in_ok-plain.ensures.ok c.in-Ok.ensures.size.0 c.in-Ok.ensures.ok (rw c.in-Ok.ensures.size.1 c.requires))
+    c.tell_of.ensures.told
 
 pub returns-in-Ok-clause-err : goal.returns-in-Ok-clause-err
 returns-in-Ok-clause-err g c = if_err c.tell_of.result
-    (untold (g.S.DeviceFile.holds c.args.image.now) (g.S.DeviceFile.refuses c.args.image.now) c.args.ready.now.sizes
-    c.args.ready.now.window.outbox (g.O.Write.contents c.args.out.now) (g.O.Write.contents c.tell_of.new.out) c.args.raw.now
-    c.args.existing c.in_ok-plain.plain c.export_watched.new.to c.export_watched.new.ready.room.line.items c.in_ok-plain.ensures.ok
-    c.in-Ok.ensures.size.0 c.in-Ok.ensures.ok (rw c.in-Ok.ensures.size.1 c.requires)) c.tell_of.ensures.untold
+    (untold c.in_ok-plain.ensures.ok c.in-Ok.ensures.size.0 c.in-Ok.ensures.ok (rw c.in-Ok.ensures.size.1 c.requires))
+    c.tell_of.ensures.untold
 
 pub returns-in-Err-clause-err : goal.returns-in-Err-clause-err
 returns-in-Err-clause-err g c = rw c.with.ensures (inr (inl (record {
