@@ -6,8 +6,6 @@ pub mod Packets
 pub mod Options
 pub mod InTurn
 pub mod WordWalks
-pub mod FormatWords
-pub mod PlayWords
 pub mod Taken
 pub mod LifeActions
 pub mod ActingLines

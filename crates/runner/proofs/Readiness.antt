@@ -2,7 +2,7 @@
 use Rattle.std.proofs.Common.{◌≡◌, ℕ, ◌+◌, ◌/◌, Bool, true, false, List, [], ◌∷◌, ◌++◌, replicate, refl, sym, ap, subst, ◌∙◌, ⊎_elim, inl}
 use Rattle.std.proofs.Common.{inr, arith, append_assoc}
 use Rattle.std.proofs.lemmas.Bool.{cases_Bool}
-use Rattle.std.specs.Prelude.{map, Result}
+use Rattle.std.specs.Prelude.{map}
 use Rattle.spec.specs.Blocks.{Array}
 use Rattle.medium.specs.Medium.{Image}
 use Rattle.medium.specs.Moments.{EachCut, IsFlushed}
@@ -15,22 +15,17 @@ use Rattle.journal.specs.Places.{limit_of, migrated}
 use Rattle.spec.specs.Book.{Book, opened}
 use Rattle.bot_machine.specs.Books.{StandsAs}
 use Rattle.bot_machine.specs.Device.{presented, Device}
-use Rattle.spec.specs.Rules.{UnitState, CarriesOut, Ticks}
-use Rattle.spec.specs.Sense.{Sense}
 use Rattle.spec.specs.declared.event.Event.{Event}
-use Rattle.spec.specs.declared.event.Event.TheVariants as event
 use Rattle.spec.specs.declared.event.Answer.{Answer}
 use Rattle.bot_machine.specs.declared.lives.life.Life.{Life}
-use Rattle.spec.specs.Conversation.{Conversation, Begins, OpensExchange, OutStep}
-use Rattle.spec.specs.UnitConversation.{UnitStep, Intends}
-use Rattle.spec.specs.Exchange.{Script, finished, taking, Moment, at_once, moment_of}
 use Rattle.spec.specs.Lives.{Action, starts, plays, cuts, Place, before_first, between, runs, off, Standing, Opens}
 use Rattle.spec.specs.Lives.{LifeBegins, LivesStep, LivesRun, after_cut}
 use Rattle.bot_machine.specs.LivesValue.{OpensOn, HasLimit, book_at, FoundAt}
 use Rattle.spec.specs.Promise.{first_standing}
 use Rattle.bot_machine.specs.Lifetimes.{actions_of_all, armed_by}
+use Rattle.bot_machine.proofs.BookLaws.{book_laws}
 use Rattle.bot_machine.proofs.LifeStarts.{next_opens, stands_ours}
-use Rattle.bot_machine.proofs.UnitLaws.{knows_images, keeps_writes}
+use Rattle.bot_machine.proofs.UnitLaws.{knows_images}
 use Rattle.runner.specs.Laws.{IsReadyFor, FormatIsReady, MigrationIsReady, LivesAreReady}
 
 -- where nothing is unflushed and the contents are ours for a book, a life opens with it
@@ -98,46 +93,6 @@ migration_is_ready = λ old made cut answer keep size m c.
     (subst (λ (n : ℕ). StandsAs n m.shape.blocks (state_of made).content m.array (answer.next + 1)) (sym size)
     (migrated m.shape, refl, m.ours)) c
 
--- ---- whether every image was ours when lives began does not change
-
-abbrev ours_in : Conversation UnitState → Bool
-ours_in c = c.unit.book.ours
-
-module _ (refused : Bool) where
-  unit_ours : (old new : Conversation UnitState) → new.unit ≡ old.unit → ours_in new ≡ ours_in old
-  unit_ours old new same = ap (λ (u : UnitState). u.book.ours) same
-
-  carried_ours : (block bytes : List ℕ) (old new : Conversation UnitState) (answer : Result (List ℕ) Sense)
-      → CarriesOut refused block bytes old.unit answer new.unit → ours_in new ≡ ours_in old
-  carried_ours block bytes old new answer effect = (keeps_writes.life refused block bytes old.unit new.unit answer effect).ours
-
-  opens_ours : (packet : List ℕ) (old new : Conversation UnitState) → OpensExchange Intends CarriesOut Ticks refused packet old new
-      → ours_in new ≡ ours_in old
-  opens_ours packet old new o = by_moment (moment_of o.case) o.begins
-    where
-      by_moment : (m : Moment) → Begins Intends CarriesOut Ticks refused m o.case o.command o.intended old new → ours_in new ≡ ours_in old
-      by_moment at_once h = carried_ours _ _ old new h.answer h.effect
-      by_moment _ h = unit_ours old new h.0
-
-  out_ours : (halted : Bool) (left : Script) (packet : List ℕ) (old new : Conversation UnitState) (answer : Answer)
-      → OutStep Intends CarriesOut Ticks refused halted left packet old answer new → ours_in new ≡ ours_in old
-  out_ours false finished packet old new answer (told, inl opens) = opens_ours packet old new opens
-  out_ours false finished packet old new answer (told, inr left) = unit_ours old new left.unit
-  out_ours false (taking case command intended bytes due) packet old new answer (told, inl more) = unit_ours old new more.unit
-  out_ours false (taking case command intended bytes due) packet old new answer (told, inr (inl last)) =
-      carried_ours _ _ old new last.carried_out.answer last.carried_out.effect
-  out_ours false (taking case command intended bytes due) packet old new answer (told, inr (inr bad)) = unit_ours old new bad.unit
-  out_ours _ left packet old new answer h = ap ours_in h.1
-
-  -- in an event
-  step_ours : (happens : Event) (old new : Conversation UnitState) (answer : Answer) → UnitStep refused old happens answer new
-      → ours_in new ≡ ours_in old
-  step_ours (event.Out packet) old new answer h = out_ours old.line.out_halted old.line.left packet.items old new answer h
-  step_ours event.In old new answer h = ap ours_in h.1
-  step_ours (event.Setup packet) old new answer h = unit_ours old new h.1
-  step_ours event.Tick old new answer h =
-      ⊎_elim (λ same. unit_ours old new same) (λ faulted. ap (λ (u : UnitState). u.book.ours) faulted.after) h.1
-
 -- ---- where lives stand
 
 -- lives that began with this book stand here: before a first life it is the book still, and whether it is ours stays
@@ -164,7 +119,7 @@ module _ (device : Device) (book : Book) where
       → LivesStep (presented device) refused (record { place = place; armed = armed; limit = limit }) (plays happens) told new
       → IsFrom book new.place
   from_event refused (runs conversation) armed limit new happens told from h = ⊎_elim
-      (λ ends. rw ends.after (step_ours refused happens conversation ends.later h.0 ends.step ∙ from))
+      (λ ends. rw ends.after ((book_laws.life refused conversation ends.later happens h.0 ends.step).ours ∙ from))
       (λ cut. rw cut.goes.after from) h.2
   from_event refused (off remains) armed limit new happens told from h = rw h.2.1 from
   from_event refused _ armed limit new happens told from h = absurd h.2
@@ -198,21 +153,15 @@ cut_between (before_first book) = tt
 cut_between _ = tt
 
 module _ (device : Device) where
-  -- the second part of a run
-  runs_on : (first rest : List Action) (old new : Standing) (told : List Answer) (refusals : List Bool)
-      → LivesRun (presented device) old (first ++ rest) told refusals new
-      → (mid : Standing) × (more : List Answer) × (others : List Bool) × LivesRun (presented device) mid rest more others new
-  runs_on [] rest old new told refusals run = (old, told, refusals, run)
-  runs_on (action ∷ first) rest old new told (refused ∷ refusals) run = runs_on first rest run.0 new run.2 refusals run.5
-  runs_on (action ∷ first) rest old new told [] run = absurd run
-
   -- behind a cut no disk runs
-  behind_cut : (keep : ℕ → Bool) (rest : List Action) (old new : Standing) (told : List Answer) (refusals : List Bool)
-      → LivesRun (presented device) old (cuts keep ∷ rest) told refusals new
+  behind_cut : (keep : ℕ → Bool) (first rest : List Action) (old new : Standing) (told : List Answer) (refusals : List Bool)
+      → LivesRun (presented device) old (first ++ cuts keep ∷ rest) told refusals new
       → (mid : Standing) × (more : List Answer) × (others : List Bool) × IsBetween mid.place
       × LivesRun (presented device) mid rest more others new
-  behind_cut keep rest old new told (refused ∷ refusals) run = (run.0, run.2, refusals, rw run.4.1 (cut_between old.place), run.5)
-  behind_cut keep rest old new told [] run = absurd run
+  behind_cut keep [] rest old new told (refused ∷ refusals) run = (run.0, run.2, refusals, rw run.4.1 (cut_between old.place), run.5)
+  behind_cut keep (action ∷ first) rest old new told (refused ∷ refusals) run =
+      behind_cut keep first rest run.0 new run.2 refusals run.5
+  behind_cut keep _ rest old new told _ run = absurd run
 
   all_between : (lives : List Life) (old new : Standing) (told : List Answer) (refusals : List Bool) → IsBetween old.place
       → LivesRun (presented device) old (actions_of_all lives) told refusals new → IsBetween new.place
@@ -222,8 +171,7 @@ module _ (device : Device) where
       let before : List Action = armed_by life.fuse ++ starts ∷ map plays life.events.items in
       let cut : Action = cuts (keeps life.kept) in
       let whole = rw (append_assoc before (cut ∷ []) (actions_of_all lives)) at run in
-      let last = runs_on before (cut ∷ actions_of_all lives) old new told refusals whole in
-      let b = behind_cut (keeps life.kept) (actions_of_all lives) last.0 new last.1 last.2 last.3 in
+      let b = behind_cut (keeps life.kept) before (actions_of_all lives) old new told refusals whole in
       all_between lives b.0 new b.1 b.2 b.3 b.4
 
 -- a life opens where no disk runs
