@@ -1,20 +1,19 @@
 -- Lines that act on lives, one after another.
 use Rattle.std.proofs.Common.{◌≡◌, ℕ, List, [], ◌∷◌, ◌++◌, Option, refl}
-use Rattle.std.specs.Prelude.{All, flat_map}
+use Rattle.std.specs.Prelude.{flat_map}
 use Rattle.medium.specs.Sim.{Sim}
 use Rattle.spec.specs.Lives.{Action}
 use Rattle.bot_machine.specs.LivesValue.{LivesValue, medium_in}
 use Rattle.runner.specs.declared.fault.ScriptFault.{ScriptFault}
 use Rattle.runner.specs.declared.kept.KeptWrites.{KeptWrites}
-use Rattle.runner.specs.declared.line.ScriptKind.TheVariants.{Lives}
 use Rattle.runner.specs.declared.line.ScriptLine.{ScriptLine}
 use Rattle.runner.specs.declared.line.ScriptLine.TheVariants.{Fuse, Fail, Cut}
 use Rattle.runner.specs.Events.{events_of}
-use Rattle.runner.specs.Line.{Spells, IsScriptLine}
+use Rattle.runner.specs.Line.{Spells}
 use Rattle.runner.specs.Lifetimes.{comes, actions_of, LineActs}
 use Rattle.runner.specs.PlayedLives.{TellsLives, BreaksOff, PlaysAll, PlaysUpTo}
 use Rattle.runner.proofs.LifeActions.{tells-none, tells-more, ends-behind}
-use Rattle.runner.proofs.InTurn.{IsGivenTo, given-start, given-more, given-all, given-part, gives_some}
+use Rattle.runner.proofs.InTurn.{IsGivenTo, given-start, given-more, given-all, given-part}
 
 acts_by_events : (asked : ScriptLine) → ((writes : ℕ) → asked ≡ Fuse writes → ⊥) → ((call : ℕ) → asked ≡ Fail call → ⊥)
     → ((kept : KeptWrites) → asked ≡ Cut kept → ⊥) → flat_map comes (events_of asked) ≡ actions_of asked
@@ -63,16 +62,13 @@ module _ {most : ℕ} {was mid : Option (List ℕ)} {old between : LivesValue} {
 
     -- a line broke off, and others were left
     pub lines-break : {now : Option (List ℕ)} {new : LivesValue} {fault : ScriptFault} {back : Sim}
-        → BreaksOff mid now between actions new fault → All (IsScriptLine Lives most) left → medium_in new.state ≡ back
-        → PlaysUpTo was now old most all fault back
-    lines-break {now} {new} breaks are is =
+        → BreaksOff mid now between actions new fault → medium_in new.state ≡ back → PlaysUpTo was now old most all fault back
+    lines-break {now} {new} breaks is =
         record {
           first = so.actions;
           part = breaks.first;
           last = breaks.last;
-          stops = given-part (LineActs most) so.given next breaks.first breaks.last breaks.rest (rw breaks.parts at acts)
-              (gives_some (LineActs most) (IsScriptLine Lives most)
-              (λ other is_line. (actions_of is_line.0, line_acts most other is_line.0 is_line.1)) left are);
+          stops = given-part (LineActs most) so.given next breaks.first breaks.last breaks.rest (rw breaks.parts at acts);
           new = new;
           answers = so.tells.answers ++ breaks.answers;
           ends = ends-behind so.tells breaks;

@@ -1,6 +1,7 @@
 -- What lines give, one after another.
-use Rattle.std.proofs.Common.{◌≡◌, ℕ, suc, List, [], ◌∷◌, ◌++◌, ◌∙◌, refl, sym, ap, subst, arith, append_assoc, append-nil}
+use Rattle.std.proofs.Common.{◌≡◌, ℕ, List, [], ◌∷◌, ◌++◌, ◌∙◌, refl, sym, ap, subst, append_assoc, append-nil}
 use Rattle.std.specs.Prelude.{All}
+use Rattle.std.proofs.lemmas.List.Elements.{All-head, All-tail}
 use Rattle.runner.specs.Script.{InTurn, StopsAt}
 
 -- the lines before those left gave these
@@ -8,6 +9,11 @@ pub record IsGivenTo {A : Type 0} (LineGives : List ℕ → List A → Type 0) (
   pub before : List (List ℕ)
   pub parts : all ≡ before ++ left
   pub gave : InTurn LineGives before first
+
+-- what holds of all holds of the one here
+pub of_all : {A : Type 0} (P : A → Type 0) (before after : List A) (here : A) → All P (before ++ here ∷ after) → P here
+of_all P [] after here are = All-head P here after are
+of_all P (first ∷ before) after here are = of_all P before after here (All-tail P first (before ++ here ∷ after) are)
 
 module _ {A : Type 0} (LineGives : List ℕ → List A → Type 0) where
   -- lines give what they give, and others what they do
@@ -40,8 +46,8 @@ module _ {A : Type 0} (LineGives : List ℕ → List A → Type 0) where
 
     -- a line gave a part of what it gives, and one thing more
     pub given-part : (part : List A) (last : A) (rest : List A) → LineGives line (part ++ last ∷ rest)
-        → (later : List A) × InTurn LineGives left later → StopsAt LineGives all first part last
-    given-part part last rest gives others = record {
+        → StopsAt LineGives all first part last
+    given-part part last rest gives = record {
       before = so.before;
       line = line;
       after = left;
@@ -49,19 +55,8 @@ module _ {A : Type 0} (LineGives : List ℕ → List A → Type 0) where
       whole = so.gave;
       rest = rest;
       here = gives;
-      later = others.0;
-      others = others.1;
     }
 
   pub given-all : {all left : List (List ℕ)} {first : List A} → left ≡ [] → IsGivenTo LineGives all left first
       → InTurn LineGives all first
   given-all none so = rw (so.parts ∙ ap (λ (l : List (List ℕ)). so.before ++ l) none ∙ append-nil so.before) so.gave
-
-  -- lines that each give something do so in turn
-  pub gives_some : (Is : List ℕ → Type 0) → ((line : List ℕ) → Is line → (some : List A) × LineGives line some)
-      → (lines : List (List ℕ)) → All Is lines → (all : List A) × InTurn LineGives lines all
-  gives_some Is each [] are = ([], refl)
-  gives_some Is each (line ∷ lines) are =
-      let here = each line (are 0 [] (omega arith)) in
-      let rest = gives_some Is each lines (λ k d lt. are (suc k) d (omega (arith, lt))) in
-      (here.0 ++ rest.0, (here.0, rest.0, here.1, rest.1, refl))

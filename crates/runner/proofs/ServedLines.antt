@@ -48,9 +48,9 @@ next_number : (before : ℕ) → min (line_number before + 1) 184467440737095516
 next_number before = omega arith
 
 module _ {D : Type 0} {Goes : D → List Event → List Answer → D → Type 0} {packet : D → ℕ} (laws : IsPlayer Goes packet) where
-  pub served-none : (Stops : D → Event → D → Type 0) (most : ℕ) (was : Option (List ℕ)) (disk : D)
-      → HasServed Goes Stops most was was disk disk [] 1 []
-  served-none Stops most was disk = record {
+  pub served-none : (Stops : D → Event → D → Type 0) (was : Option (List ℕ)) (disk : D)
+      → HasServed Goes Stops (packet disk) was was disk disk [] 1 []
+  served-none Stops was disk = record {
     before = [];
     line = [];
     parts = λ more. refl;
@@ -60,15 +60,18 @@ module _ {D : Type 0} {Goes : D → List Event → List Answer → D → Type 0}
     answered = record { events = []; plays = refl; tells = tells-none laws was disk };
   }
 
-  module _ {Stops : D → Event → D → Type 0} {most : ℕ} {was mid : Option (List ℕ)} {old between : D} {held : List ℕ} {number : ℕ}
-      {read : List ℕ} (so : HasServed Goes Stops most was mid old between held number read) where
+  module _ {Stops : D → Event → D → Type 0} {was mid : Option (List ℕ)} {old between : D} {held : List ℕ} {number : ℕ}
+      {read : List ℕ} (so : HasServed Goes Stops (packet old) was mid old between held number read) where
+    abbrev longest : ℕ
+    longest = packet old
+
     -- the size of packets stays
-    pub served-packets : packet between ≡ packet old
+    pub served-packets : packet between ≡ longest
     served-packets = most_stays laws so.answered.tells
 
     -- more bytes of the line
     pub served-part : (new part : List ℕ) {next : ℕ} {all : List ℕ} → IsUnended part → StandsFor new (held ++ part)
-        → next ≡ number → all ≡ read ++ part → HasServed Goes Stops most was mid old between new next all
+        → next ≡ number → all ≡ read ++ part → HasServed Goes Stops longest was mid old between new next all
     served-part new part {next} {all} unended holds same is = record {
       before = so.before;
       line = so.line ++ part;
@@ -81,12 +84,12 @@ module _ {D : Type 0} {Goes : D → List Event → List Answer → D → Type 0}
     }
 
     -- one line more
-    answered-more : (now : Option (List ℕ)) (new : D) → IsAnswered Goes Stops most mid now between new held
-        → AreAnswered Goes Stops most was now old new (so.before ++ so.line ∷ [])
+    answered-more : (now : Option (List ℕ)) (new : D) → IsAnswered Goes Stops (packet between) mid now between new held
+        → AreAnswered Goes Stops longest was now old new (so.before ++ so.line ∷ [])
     answered-more now new (events, plays, tells) = record {
       events = so.answered.events ++ events;
-      plays = InTurn-append (LinePlays most) so.before (so.line ∷ []) so.answered.events events so.answered.plays
-          (events, [], plays_line most held so.line events so.stands plays, refl, sym (append-nil events));
+      plays = InTurn-append (LinePlays longest) so.before (so.line ∷ []) so.answered.events events so.answered.plays
+          (events, [], plays_line longest held so.line events so.stands (rw served-packets at plays), refl, sym (append-nil events));
       tells = tells-more laws so.answered.tells tells;
     }
 
@@ -99,9 +102,9 @@ module _ {D : Type 0} {Goes : D → List Event → List Answer → D → Type 0}
     parts-last = ap lines_of (sym (append-nil read)) ∙ so.parts [] ∙ ap (λ (l : List ℕ). so.before ++ lines_of l) (append-nil so.line)
         ∙ ap (λ (l : List (List ℕ)). so.before ++ l) (last_line so.line so.unended)
 
-    pub served-line : {now : Option (List ℕ)} {new : D} → IsAnswered Goes Stops most mid now between new held
+    pub served-line : {now : Option (List ℕ)} {new : D} → IsAnswered Goes Stops (packet between) mid now between new held
         → {none : List ℕ} {next : ℕ} {all : List ℕ} → none ≡ [] → next ≡ min (number + 1) 18446744073709551615 → all ≡ read ++ 10 ∷ []
-        → HasServed Goes Stops most was now old new none next all
+        → HasServed Goes Stops longest was now old new none next all
     served-line {now} {new} answered empty counts is = record {
       before = so.before ++ so.line ∷ [];
       line = [];
@@ -117,7 +120,8 @@ module _ {D : Type 0} {Goes : D → List Event → List Answer → D → Type 0}
     -- the line stops the serving
     module _ (now : Option (List ℕ)) (new : D) where
       stops-at : (script : List ℕ) (after : List (List ℕ)) → lines_of script ≡ so.before ++ so.line ∷ after → (fault : ServeFault)
-          → IsLineStopped Goes Stops most mid now between new held number fault → StopsIn Goes Stops most was now old new script fault
+          → IsLineStopped Goes Stops (packet between) mid now between new held number fault
+          → StopsIn Goes Stops longest was now old new script fault
       stops-at script after parts (Line told) stopped = record {
         before = so.before;
         line = so.line;
@@ -133,48 +137,55 @@ module _ {D : Type 0} {Goes : D → List Event → List Answer → D → Type 0}
                 written = Appends-kept was mid now (text_of so.answered.events tells.answers) tells.written stopped.3;
               });
             };
-        bad = λ line. stopped.1 (holds_line most held so.line so.stands line);
+        bad = λ line. stopped.1 (rw served-packets (holds_line longest held so.line so.stands line));
         counted = stopped.0 ∙ so.counted;
       }
       stops-at script after parts fault (asked, plays, part) = record {
-        before = so.before;
-        line = so.line;
-        after = after;
-        parts = parts;
         first = so.answered.events;
-        whole = so.answered.plays;
         part = part.part;
         event = part.event;
-        rest = part.rest;
-        here = plays_line most held so.line (part.part ++ part.event ∷ part.rest) so.stands (rw part.parts at plays);
+        stops = record {
+          before = so.before;
+          line = so.line;
+          after = after;
+          parts = parts;
+          whole = so.answered.plays;
+          rest = part.rest;
+          here = plays_line longest held so.line (part.part ++ part.event ∷ part.rest) so.stands (rw (served-packets, part.parts) at plays);
+        };
         ends = ends-behind laws so.answered.tells part;
       }
 
-      pub stops-ended : (more : List ℕ) (fault : ServeFault) → IsLineStopped Goes Stops most mid now between new held number fault
-          → StopsIn Goes Stops most was now old new (read ++ 10 ∷ more) fault
+      pub stops-ended : (more : List ℕ) (fault : ServeFault)
+          → IsLineStopped Goes Stops (packet between) mid now between new held number fault
+          → StopsIn Goes Stops longest was now old new (read ++ 10 ∷ more) fault
       stops-ended more fault stopped = stops-at (read ++ 10 ∷ more) (lines_of more) (parts-ended more) fault stopped
+
+      -- behind the last of the bytes
+      pub stops-last : (fault : ServeFault) → IsLineStopped Goes Stops (packet between) mid now between new held number fault
+          → StopsIn Goes Stops longest was now old new read fault
+      stops-last fault stopped = stops-at read [] parts-last fault stopped
+
+      pub answered-last : IsAnswered Goes Stops (packet between) mid now between new held
+          → AreAnswered Goes Stops longest was now old new (lines_of read)
+      answered-last answered = rw parts-last (answered-more now new answered)
 
       -- at the end of the input
       pub stopped-last : (left after : Option (List ℕ)) → Consumes left after read → IsAtEnd after → (fault : ServeFault)
-          → IsLineStopped Goes Stops most mid now between new held number fault
-          → IsStoppedBy Goes Stops most was now old new left after fault
+          → IsLineStopped Goes Stops (packet between) mid now between new held number fault
+          → IsStoppedBy Goes Stops longest was now old new left after fault
       stopped-last left after taken end Reader stopped = absurd stopped.2.ends
-      stopped-last left after taken end fault stopped =
-          (read, all_of left after read taken end, stops-at read [] parts-last fault stopped)
+      stopped-last left after taken end fault stopped = (read, all_of left after read taken end, stops-last fault stopped)
 
       -- the input was read to its end
       pub served-all : (left after : Option (List ℕ)) → Consumes left after read → IsAtEnd after
-          → IsAnswered Goes Stops most mid now between new held → IsServedBy Goes Stops most was now old new left after
-      served-all left after taken end answered = record {
-        script = read;
-        all = all_of left after read taken end;
-        at_end = end;
-        answered = rw parts-last (answered-more now new answered);
-      }
+          → IsAnswered Goes Stops (packet between) mid now between new held → IsServedBy Goes Stops longest was now old new left after
+      served-all left after taken end answered =
+          record { script = read; all = all_of left after read taken end; at_end = end; answered = answered-last answered }
 
     -- a line is too long
-    pub stops-long : (part more : List ℕ) → most ≤ 512 → IsUnended part → IsTooLong (held ++ part)
-        → StopsAtBadLine Goes Stops most was mid old between (read ++ part ++ more) number
+    pub stops-long : (part more : List ℕ) → longest ≤ 512 → IsUnended part → IsTooLong (held ++ part)
+        → StopsAtBadLine Goes Stops longest was mid old between (read ++ part ++ more) number
     stops-long part more small unended is_long =
         let is = ap (λ (l : List ℕ). l ++ part) (held_is so.stands) in
         let line = so.line ++ part in
@@ -189,7 +200,7 @@ module _ {D : Type 0} {Goes : D → List Event → List Answer → D → Type 0}
               ∙ ap (λ (l : List ℕ). so.before ++ lines_of l) (sym (append_assoc so.line part more))
               ∙ ap (λ (l : List (List ℕ)). so.before ++ l) next.2;
           answered = so.answered;
-          bad = λ asked. too_long most (line ++ next.0) small long
+          bad = λ asked. too_long longest (line ++ next.0) small long
               (λ comment same. let tail = first_is line next.0 comment (omega (arith, whole)) same in
               is_long.no_comment tail.0 (is ∙ tail.1)) asked.0 asked.1 asked.2;
           counted = so.counted;
@@ -202,7 +213,7 @@ module _ {D : Type 0} {Goes : D → List Event → List Answer → D → Type 0}
             absurd (is_long.no_comment (kept ++ part) (ap (λ (l : List ℕ). l ++ part) is_held))
 
     -- more is read: all whole lines were answered
-    pub served-unread : StopsUnread Goes Stops most was mid old between read
+    pub served-unread : StopsUnread Goes Stops longest was mid old between read
     served-unread = record { before = so.before; line = so.line; parts = parts-last; answered = so.answered }
 
 -- the serving stopped, whatever stands behind what was read

@@ -1,9 +1,9 @@
 -- Lives of a disk over a medium in memory, from the first on.
-use Rattle.std.proofs.Common.{◌≡◌, ℕ, ◌+◌, ◌≤◌, Bool, false, List, [], ◌∷◌, ◌++◌, None, Option, refl, ap, ◌∙◌, arith}
+use Rattle.std.proofs.Common.{◌≡◌, ℕ, Bool, false, List, [], ◌∷◌, ◌++◌, Option, refl, ap, ◌∙◌, arith}
+use Rattle.std.specs.Prelude.{All}
 use Rattle.medium.specs.Medium.{CutLeaves}
 use Rattle.medium.specs.Sim.{Sim, state_of}
 use Rattle.bot_machine.specs.StartFaults.{StartFault}
-use Rattle.bot_machine.specs.StartFaults as start
 use Rattle.bot_machine.specs.Device.{presented, Device}
 use Rattle.bot_machine.specs.Books.{StandsAs}
 use Rattle.bot_machine.specs.Starting.{StandsForSome}
@@ -11,23 +11,24 @@ use Rattle.spec.specs.Book.{Book}
 use Rattle.spec.specs.declared.event.Answer.{Answer}
 use Rattle.bot_machine.specs.declared.lives.disk_state.DiskState.{DiskState}
 use Rattle.bot_machine.specs.declared.lives.disk_state.DiskState.TheVariants.{Stopped}
-use Rattle.spec.specs.Conversation.{refused_events}
 use Rattle.spec.specs.Promise.{first_standing, AreKept, AreKeptUpTo}
 use Rattle.bot_machine.specs.Lifetimes.{KeepsPromise, KeepsPromiseUpTo, IsRefusedFor}
 use Rattle.spec.specs.Lives.{Action, plays, Standing, LivesRun}
-use Rattle.bot_machine.specs.LivesValue.{LivesValue, MayRefuse, LivesRefuseStart, HasLimit, FitsLives, OpensOn}
-use Rattle.bot_machine.specs.LivesValue.{IsAtRest, faults_armed}
+use Rattle.bot_machine.specs.LivesValue.{LivesValue, LivesRefuseStart, HasLimit, FitsLives, OpensOn, faults_armed}
 use Rattle.bot_machine.specs.Moving.{medium_in, has_refused, MovesBy}
+use Rattle.bot_machine.proofs.LifeRuns.{first_fits, more_refused}
 use Rattle.bot_machine.proofs.Moved.{few_causes}
 use Rattle.bot_machine.proofs.Runs.{refused_events-append}
 use Rattle.runner.specs.declared.fault.ScriptError.{ScriptError as ErrorOf}
 use Rattle.runner.specs.declared.fault.ScriptFault.{ScriptFault}
-use Rattle.runner.specs.declared.fault.ScriptFault.TheVariants.{Line, TooLong, Start, Writer}
-use Rattle.runner.specs.Lifetimes.{LineActs, AreMoved, AreStopped}
+use Rattle.runner.specs.declared.fault.ScriptFault.TheVariants.{Start, Writer}
+use Rattle.runner.specs.Lifetimes.{LineActs, AreMoved, AreStopped, AwaitsLife}
+use Rattle.runner.specs.declared.line.ScriptKind.TheVariants.{Lives}
+use Rattle.runner.specs.Line.{IsScriptLine}
 use Rattle.runner.specs.Lines.{lines_of}
 use Rattle.std.specs.Io.KnownBytes.{IsAtEnd}
 use Rattle.runner.specs.Outcome.{IsRead, HasTaken}
-use Rattle.runner.specs.OutcomeOfLives.{ArePlayed, AreRefused, KeepsUntil}
+use Rattle.runner.specs.OutcomeOfLives.{ArePlayed, AreRefused}
 use Rattle.runner.specs.PlayedLives.{Acted, EndsBy, PlaysAll, PlaysUpTo}
 use Rattle.runner.specs.Script.{StopsAt, device}
 
@@ -44,17 +45,11 @@ stays : (disk : Device) (refusals : List Bool) (old new : Standing) → LivesRun
 stays disk [] old new run = run.1
 stays disk (refused ∷ refusals) old new run = absurd run
 
--- what is a cause where more refusals are counted before is one where fewer are
-may_refuse : (book : Book) (fewer counted failures : ℕ) (fault : StartFault) → fewer ≤ counted
-    → MayRefuse book counted failures fault → MayRefuse book fewer failures fault
-may_refuse book fewer counted failures start.Read le h = omega (arith, le, h)
-may_refuse book fewer counted failures start.Write le h = omega (arith, le, h)
-may_refuse book fewer counted failures start.Flush le h = omega (arith, le, h)
-may_refuse book fewer counted failures _ le h = h
+module _ (most : ℕ) (medium : Sim) (awaits : AwaitsLife medium) where
+  fits : (limit : ℕ) (book : Book) → OpensOn (state_of medium) book → HasLimit (state_of medium).size limit (state_of medium).content
+      → FitsLives (first_over most medium) (first_standing limit book)
+  fits = first_fits medium (device most) awaits.rests awaits.unfused
 
-module _ (most : ℕ) (medium : Sim) (rest : IsAtRest medium) (unfused : medium.power.fuse ≡ None)
-    (fits : (limit : ℕ) (book : Book) → OpensOn (state_of medium) book → HasLimit (state_of medium).size limit (state_of medium).content
-    → FitsLives (first_over most medium) (first_standing limit book)) where
   module _ (actions : List Action) (answers : List Answer) (new : LivesValue)
       (acted : Acted (first_over most medium) actions answers new) where
     kept_from : (limit : ℕ) (book : Book) → OpensOn (state_of medium) book → HasLimit (state_of medium).size limit (state_of medium).content
@@ -82,7 +77,7 @@ module _ (most : ℕ) (medium : Sim) (rest : IsAtRest medium) (unfused : medium.
     moved : AreMoved most medium (medium_in new.state) actions answers keep.refusals
     unfolding keep
     moved = record {
-      fits = acted.fits false (λ _. (unfused, rest.on));
+      fits = acted.fits false (λ _. (awaits.unfused, awaits.rests.on));
       state = new.state;
       moves = acted.goes_on.moves;
       left = refl;
@@ -139,9 +134,7 @@ module _ (most : ℕ) (medium : Sim) (rest : IsAtRest medium) (unfused : medium.
         let g = on.goes (first_standing limit book) (fits limit book opens has) in
         let l = refused.stops.goes g.there g.fits in
         let fewer = on.refused in
-        may_refuse l.book (refused_events on.refusals + (state_of medium).failures)
-        (refused_events refused.stops.refusals + (state_of (medium_in mid.state)).failures) (state_of (medium_in new.state)).failures
-        fault (omega (arith, fewer)) (l.cause (l.ours ∙ g.ours ∙ ours))
+        more_refused l.book fault _ _ _ (omega (arith, fewer)) (l.cause (l.ours ∙ g.ours ∙ ours))
 
     are_stopped : AreStopped most medium (medium_in new.state) actions answers fault keeps
     unfolding keep moved keeps
@@ -160,7 +153,8 @@ module _ (most : ℕ) (medium : Sim) (rest : IsAtRest medium) (unfused : medium.
           size_stays = size_stays;
         }
 
-  module _ (left was now : Option (List ℕ)) (script : List ℕ) (read : IsRead left script) where
+  module _ (left was now : Option (List ℕ)) (script : List ℕ) (read : IsRead left script)
+      (good : All (IsScriptLine Lives most) (lines_of script)) where
     pub are_played : (after : Sim) → PlaysAll was now (first_over most medium) most (lines_of script) after
         → ArePlayed most left was now medium after
     are_played after all = rw (← all.left) (record {
@@ -184,6 +178,7 @@ module _ (most : ℕ) (medium : Sim) (rest : IsAtRest medium) (unfused : medium.
       promise = record {
         script = script;
         read = read;
+        good = good;
         first = first;
         part = part;
         stops = rw ends.is at stops;
@@ -197,6 +192,7 @@ module _ (most : ℕ) (medium : Sim) (rest : IsAtRest medium) (unfused : medium.
       promise = record {
         script = script;
         read = read;
+        good = good;
         first = first;
         part = part;
         event = ends.event;
@@ -214,15 +210,6 @@ module _ (most : ℕ) (medium : Sim) (rest : IsAtRest medium) (unfused : medium.
         → AreRefused most left was now medium fault back
     are_refused fault back up_to = rw (← up_to.left)
         (ended up_to.first up_to.part up_to.last up_to.answers up_to.new fault up_to.stops up_to.ends)
-
--- what is told of a script that was refused tells of the promise
-pub until : (most : ℕ) (left was now : Option (List ℕ)) (medium back : Sim) (fault : ScriptFault)
-    → AreRefused most left was now medium fault back → KeepsUntil most left was now medium fault back
-until most left was now medium back (Start fault) refused = refused.promise
-until most left was now medium back Writer refused = refused.promise
-until most left was now medium back (Line number) refused = refused.0
-until most left was now medium back TooLong refused = refused.0
-until most left was now medium back _ refused = refused
 
 -- a script that was played up to a fault was read to its end
 pub taken_up_to : (most : ℕ) (was now : Option (List ℕ)) (lives : LivesValue) (lines : List (List ℕ)) (error : ErrorOf Sim)

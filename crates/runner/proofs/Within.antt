@@ -1,8 +1,8 @@
 -- The packets of lines are not too long.
-use Rattle.std.proofs.Common.{◌≡◌, ◌≤◌, ℕ, suc, List, [], ◌∷◌, ◌++◌, length, map, ap, subst, inl, inr, refl, ◌∙◌, arith}
+use Rattle.std.proofs.Common.{◌≡◌, ◌≤◌, ℕ, suc, List, [], ◌∷◌, ◌++◌, length, map, ap, subst, inl, inr, ◌∙◌, arith}
 use Rattle.std.specs.Prelude.{replicate, zero, take, drop}
 use Rattle.std.proofs.lemmas.List.{length-take}
-use Rattle.std.proofs.lemmas.List.Elements.{All-cons, All-head, All-nil, All-replicate, All-rest}
+use Rattle.std.proofs.lemmas.List.Elements.{All-cons, All-nil, All-replicate}
 use Rattle.spec.specs.Packets.{bytes_of, packets_of, cut_into}
 use Rattle.bot_machine.specs.Fitting.{IsWithin, AreWithin}
 use Rattle.spec.specs.declared.event.Event.{Event}
@@ -11,6 +11,7 @@ use Rattle.runner.specs.declared.line.ScriptLine.{ScriptLine}
 use Rattle.runner.specs.declared.line.ScriptLine.TheVariants.{Out, Fill, In, Setup, Tick}
 use Rattle.runner.specs.Events.{packet_out, events_of}
 use Rattle.runner.specs.Line.{Spells, SpellsOut}
+use Rattle.runner.proofs.InTurn.{of_all}
 
 one_within : (most : ℕ) (happens : Event) → IsWithin most happens → AreWithin most (happens ∷ [])
 one_within most happens is = All-cons (IsWithin most) happens [] is (All-nil (IsWithin most))
@@ -41,13 +42,8 @@ events_within most line (Setup packet) spelled = one_within most (event.Setup pa
 events_within most line (Tick count) spelled = All-replicate (IsWithin most) count event.Tick tt
 events_within most line _ spelled = All-nil (IsWithin most)
 
--- the first of events
-pub first_within : (most : ℕ) (event : Event) (events all : List Event) → all ≡ event ∷ events → AreWithin most all → IsWithin most event
-first_within most event events all is are = All-head (IsWithin most) event events (rw is at are)
-
 -- one that comes behind others
 pub next_within : (most : ℕ) (before events all left : List Event) (event : Event) → all ≡ before ++ events → events ≡ event ∷ left
     → AreWithin most all → IsWithin most event
-next_within most [] events all left event is next are = first_within most event left all (is ∙ next) are
-next_within most (first ∷ before) events all left event is next are =
-    next_within most before events (before ++ events) left event refl next (All-rest (IsWithin most) first (before ++ events) all is are)
+next_within most before events all left event is next are =
+    of_all (IsWithin most) before left event (rw (is ∙ ap (λ l. before ++ l) next) at are)

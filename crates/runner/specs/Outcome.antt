@@ -49,6 +49,16 @@ IsNoScript kind most left NoMemory = ⊤
 IsNoScript kind most left Reader = ⊤
 IsNoScript kind most left fault = ⊥
 
+-- How a script of a kind came to no end: nothing of it was played; or it was, up to a start that
+-- was refused, or up to an answer that was not written.
+abbrev pub ComesToNoEnd : {M : Type 0} → ScriptKind → ℕ → Option (List ℕ) → Option (List ℕ)
+    → Option (List ℕ) → M → (StartFault → M → Type 0) → (M → Type 0) → ScriptFault → M → Type 0
+ComesToNoEnd kind most left was now medium UpToStart UpToAnswer (Start fault) back =
+    UpToStart fault back
+ComesToNoEnd kind most left was now medium UpToStart UpToAnswer Writer back = UpToAnswer back
+ComesToNoEnd kind most left was now medium UpToStart UpToAnswer fault back =
+    IsLeftAlone medium back was now × IsNoScript kind most left fault
+
 -- How much of the script was taken from its reader, where it was refused: a first part where it was
 -- not read to its end, and else all of it.
 abbrev pub HasTaken : ScriptFault → Option (List ℕ) → Option (List ℕ) → Type 0
@@ -86,6 +96,7 @@ module _ {M : Type 0} (state : M → State) (most : ℕ) (left : Option (List �
   pub record IsCutShort (back : M) : Type 0 where
     pub script : List ℕ
     pub read : IsRead left script
+    pub good : All (IsScriptLine OneLife most) (lines_of script)
     pub first : List Event
     pub part : List Event
     pub event : Event
@@ -100,10 +111,5 @@ module _ {M : Type 0} (state : M → State) (most : ℕ) (left : Option (List �
 
   -- why a script was refused, and what was written then
   abbrev pub IsRefused : ScriptFault → M → Type 0
-  IsRefused (Line number) back = IsLeftAlone medium back was now
-      × HasBadLine OneLife most left number
-  IsRefused TooLong back = IsLeftAlone medium back was now
-      × IfSome left (λ all. script_limit < length all)
-  IsRefused (Start fault) back = IsNotStarted fault back
-  IsRefused Writer back = IsCutShort back
-  IsRefused fault back = IsLeftAlone medium back was now
+  IsRefused fault back =
+      ComesToNoEnd OneLife most left was now medium IsNotStarted IsCutShort fault back

@@ -1,5 +1,5 @@
 -- What playing a script of several lives leaves: a medium, and what was written.
-use Rattle.std.specs.Prelude.{◌<◌, ℕ, List, [], ◌∷◌, ◌++◌, length, Option, IfSome}
+use Rattle.std.specs.Prelude.{ℕ, List, [], ◌∷◌, ◌++◌, All, Option}
 use Rattle.std.specs.Io.KnownBytes.{Appends}
 use Rattle.medium.specs.Sim.{Sim}
 use Rattle.bot_machine.specs.StartFaults.{StartFault}
@@ -9,11 +9,11 @@ use Rattle.spec.specs.declared.event.Answer.{Answer}
 use Rattle.spec.specs.Lives.{Action, starts, plays}
 use Rattle.console.specs.Streams.{AppendsUpTo}
 use Rattle.runner.specs.declared.fault.ScriptFault.{ScriptFault}
-use Rattle.runner.specs.declared.fault.ScriptFault.TheVariants.{Line, TooLong, Start, Writer}
 use Rattle.runner.specs.declared.line.ScriptKind.TheVariants.{Lives}
 use Rattle.runner.specs.Lifetimes.{LineActs, Acts, AreMoved, AreStopped, text_of_lives}
+use Rattle.runner.specs.Line.{IsScriptLine}
 use Rattle.runner.specs.Lines.{lines_of}
-use Rattle.runner.specs.Outcome.{script_limit, IsRead, IsLeftAlone, HasBadLine}
+use Rattle.runner.specs.Outcome.{IsRead, ComesToNoEnd}
 use Rattle.runner.specs.Script.{StopsAt, device}
 use Rattle.runner.specs.Text.{line_for}
 
@@ -39,6 +39,7 @@ module _ (most : ℕ) (left was now : Option (List ℕ)) (medium : Sim) where
   pub record KeepsToAStart (back : Sim) : Type 0 where
     pub script : List ℕ
     pub read : IsRead left script
+    pub good : All (IsScriptLine Lives most) (lines_of script)
     pub first : List Action
     pub part : List Action
     pub stops : StopsAt (LineActs most) (lines_of script) first part starts
@@ -57,6 +58,7 @@ module _ (most : ℕ) (left was now : Option (List ℕ)) (medium : Sim) where
   pub record KeepsToALine (back : Sim) : Type 0 where
     pub script : List ℕ
     pub read : IsRead left script
+    pub good : All (IsScriptLine Lives most) (lines_of script)
     pub first : List Action
     pub part : List Action
     pub event : Event
@@ -74,18 +76,7 @@ module _ (most : ℕ) (left was now : Option (List ℕ)) (medium : Sim) where
         (promise.first ++ promise.part ++ plays promise.event ∷ [])
         (promise.answers ++ promise.answer ∷ []) promise.kept.refusals
 
-  -- what was written of a script that was refused, and the promise of what was played
-  abbrev pub KeepsUntil : ScriptFault → Sim → Type 0
-  KeepsUntil (Start fault) back = KeepsToAStart back
-  KeepsUntil Writer back = KeepsToALine back
-  KeepsUntil fault back = IsLeftAlone medium back was now
-
-  -- why a script was refused, and how it moved the disk and its medium
+  -- why a script was refused, what was written then, and how it moved the disk and its medium
   abbrev pub AreRefused : ScriptFault → Sim → Type 0
-  AreRefused (Line number) back = IsLeftAlone medium back was now
-      × HasBadLine Lives most left number
-  AreRefused TooLong back = IsLeftAlone medium back was now
-      × IfSome left (λ all. script_limit < length all)
-  AreRefused (Start fault) back = AreRefusedAStart fault back
-  AreRefused Writer back = AreCutShort back
-  AreRefused fault back = IsLeftAlone medium back was now
+  AreRefused fault back =
+      ComesToNoEnd Lives most left was now medium AreRefusedAStart AreCutShort fault back

@@ -1,12 +1,11 @@
 -- Events played on a disk.
-use Rattle.std.specs.Prelude.{◌≡◌, ℕ, Bool, List, [], ◌∷◌, ◌++◌, Option}
+use Rattle.std.specs.Prelude.{ℕ, Bool, List, [], ◌∷◌, ◌++◌, Option}
 use Rattle.std.specs.Io.KnownBytes.{Appends}
 use Rattle.medium.specs.Medium.{State}
 use Rattle.spec.specs.declared.event.Event.{Event}
 use Rattle.spec.specs.declared.event.Answer.{Answer}
 use Rattle.bot_machine.specs.Disk.{DiskValue, StepsThrough}
 use Rattle.console.specs.Streams.{AppendsUpTo}
-use Rattle.runner.specs.Script.{LinePlays, StopsAt}
 use Rattle.runner.specs.Text.{line_for, text_of}
 
 -- how a disk goes through events: step by step, each of which follows for its medium
@@ -48,21 +47,3 @@ module _ {D : Type 0} (Goes : D → List Event → List Answer → D → Type 0)
     pub mid : D
     pub tells : TellsBy old events mid
     pub stops : Stops mid event new
-
-module _ {M : Type 0} (state : M → State) (Follows : M → M → Type 0) (was now : Option (List ℕ))
-    (old : DiskValue M) where
-  -- a disk played them step by step, told its answers, and left this medium
-  pub record Leaves (events : List Event) (after : M) : Type 0 where
-    pub new : DiskValue M
-    pub tells : TellsBy (StepsOn state Follows) was now old events new
-    pub medium : new.unit.store.medium ≡ after
-
-  -- it broke off at one of these lines, and left this medium
-  pub record BreaksOffAt (most : ℕ) (lines : List (List ℕ)) (after : M) : Type 0 where
-    pub first : List Event
-    pub part : List Event
-    pub event : Event
-    pub stops : StopsAt (LinePlays most) lines first part event
-    pub new : DiskValue M
-    pub breaks : BreaksOffBy (StepsOn state Follows) was now old (first ++ part) event new
-    pub medium : new.unit.store.medium ≡ after

@@ -39,7 +39,7 @@ InTurn {A} LineGives (line ∷ lines) all =
 
 -- Lines give in turn up to one thing, at one line: the lines before that line give the first of
 -- all, the line gives this part of its own and then the last thing; what the line gives behind that
--- is left, and what the lines after it give.
+-- is left, and the lines after it.
 pub record StopsAt {A : Type 0} (LineGives : List ℕ → List A → Type 0) (lines : List (List ℕ))
     (first part : List A) (last : A) : Type 0 where
   pub before : List (List ℕ)
@@ -49,8 +49,6 @@ pub record StopsAt {A : Type 0} (LineGives : List ℕ → List A → Type 0) (li
   pub whole : InTurn LineGives before first
   pub rest : List A
   pub here : LineGives line (part ++ last ∷ rest)
-  pub later : List A
-  pub others : InTurn LineGives after later
 
 -- the lines of a script of one life play these events
 abbrev pub Plays : ℕ → List (List ℕ) → List Event → Type 0

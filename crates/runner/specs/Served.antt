@@ -10,7 +10,7 @@ use Rattle.runner.specs.declared.player.ServeFault.{ServeFault}
 use Rattle.runner.specs.declared.player.ServeFault.TheVariants.{Line, Reader, Writer, Player}
 use Rattle.runner.specs.Line.{IsScriptLine}
 use Rattle.runner.specs.Lines.{lines_of}
-use Rattle.runner.specs.Script.{LinePlays, Plays}
+use Rattle.runner.specs.Script.{LinePlays, Plays, StopsAt}
 use Rattle.runner.specs.Played.{TellsBy, BreaksOffBy, GivesUpBy}
 use Rattle.runner.specs.Streams.{IsAll}
 use Rattle.runner.specs.Text.{line_for}
@@ -98,16 +98,10 @@ module _ {D : Type 0} (Goes : D → List Event → List Answer → D → Type 0)
 
   -- the lines before one were answered, and that one in part
   pub record StopsWithin (script : List ℕ) (fault : ServeFault) : Type 0 where
-    pub before : List (List ℕ)
-    pub line : List ℕ
-    pub after : List (List ℕ)
-    pub parts : lines_of script ≡ before ++ line ∷ after
     pub first : List Event
-    pub whole : Plays most before first
     pub part : List Event
     pub event : Event
-    pub rest : List Event
-    pub here : LinePlays most line (part ++ event ∷ rest)
+    pub stops : StopsAt (LinePlays most) (lines_of script) first part event
     pub ends : EndsBy fault (first ++ part) event
 
   -- All lines of which the line feed was read were answered; behind them stands at most a part of

@@ -34,10 +34,10 @@ impl Iterator for ScriptLine {
 impl ScriptLine {
     // The first packet of `count` times this byte.
     fn next_fill(&mut self, byte: u8, count: u64, size: PacketSize) -> Option<Event>
-        requires { self.old ≡ ScriptLine.Skipped }
         ensures { YieldsFirst events_of (ScriptLine.Fill byte count size) result self.new }
     {
         if count == 0 {
+            *self = ScriptLine::Skipped;
             return None;
         }
         let taken = count.min(size.bytes() as u64);
@@ -51,10 +51,10 @@ impl ScriptLine {
 
     // The first of `count` steps.
     fn next_tick(&mut self, count: u64) -> Option<Event>
-        requires { self.old ≡ ScriptLine.Skipped }
         ensures { YieldsFirst events_of (ScriptLine.Tick count) result self.new }
     {
         if count == 0 {
+            *self = ScriptLine::Skipped;
             return None;
         }
         *self = ScriptLine::Tick { count: count - 1 };

@@ -2,7 +2,7 @@
 ghost use Rattle.std.specs.Prelude.{◌≡◌};
 
 use crate::read::ReadFault;
-use bot_machine::StartFault;
+use bot_machine::{StartError, StartFault};
 use medium::Medium;
 use thiserror::Error;
 
@@ -35,6 +35,20 @@ pub enum ScriptFault {
 pub struct ScriptError<M: Medium> {
     pub fault: ScriptFault,
     pub medium: M,
+}
+
+impl<M: Medium> From<StartError<M>> for ScriptError<M> {
+    ghost use Rattle.runner.specs.declared.fault.ScriptFault.TheVariants.{Start};
+
+    ghost from_gives = { λ error stopped.
+        stopped ≡ record { fault = Start error.fault; medium = error.medium } };
+
+    fn from(error: StartError<M>) -> ScriptError<M> {
+        ScriptError {
+            fault: ScriptFault::Start(error.fault),
+            medium: error.medium,
+        }
+    }
 }
 
 impl From<StartFault> for ScriptFault {

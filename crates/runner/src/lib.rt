@@ -13,6 +13,7 @@ mod laws;
 mod lifetimes;
 mod line;
 mod live;
+mod number_room;
 mod parts;
 mod play;
 mod player;

@@ -1,6 +1,5 @@
 //! A checked script of several lives, played on a simulated medium.
-ghost use Rattle.std.specs.Prelude.{◌≡◌, ◌≤◌, ◌∷◌, [], List, All, OnOk, IfOk, IfErr, flat_map};
-ghost use Rattle.std.specs.Prelude.{length, vec_capacity};
+ghost use Rattle.std.specs.Prelude.{◌≡◌, ◌∷◌, [], List, All, OnOk, IfOk, IfErr, flat_map};
 ghost use Rattle.bot_machine.specs.Fitting.{AreWithin, IsWithin};
 ghost use Rattle.spec.specs.Lives.{Action, cuts};
 ghost use Rattle.spec.specs.Packets.{bytes_of};
@@ -13,6 +12,7 @@ ghost use Rattle.runner.specs.PlayedLives.{Acted, TellsLives, BreaksOff, PlaysAl
 use crate::fault::{ScriptError, ScriptFault};
 use crate::kept::KeptWrites;
 use crate::line::{ScriptKind, ScriptLine, read_line};
+use crate::number_room::NumberRoom;
 use crate::parts::Parts;
 use crate::text::event_line;
 use bot_machine::{Event, Lives, PacketSize};
@@ -21,18 +21,17 @@ use medium::{Kept, SimMedium};
 use std::alloc::Global;
 use std::io::Write;
 
-/// Plays every line of a script, and writes the line of each answer at once. There is room for 64
-/// numbers of writes, so that a start alone takes memory.
+/// Plays every line of a script, and writes the line of each answer at once. A start alone takes
+/// memory.
 pub(crate) fn play_lives<W: Write>(
     alloc: Global,
     mut lives: Lives,
-    mut numbers: Vec<u32>,
+    mut room: NumberRoom,
     size: PacketSize,
     script: &[u8],
     out: &mut W,
 ) -> Result<SimMedium, ScriptError<SimMedium>>
     requires good { All (IsScriptLine ScriptKind.Lives (bytes_of size)) (lines_of script.now) }
-    requires room { 64 ≤ vec_capacity numbers }
     requires packets { lives.device.packet_size ≡ bytes_of size }
     ensures played { IfOk result
         (PlaysAll (W.contents out.old) (W.contents out.new) lives (bytes_of size)
@@ -41,8 +40,8 @@ pub(crate) fn play_lives<W: Write>(
         lives (bytes_of size) (lines_of script.now) error.fault error.medium) }
 {
     for line in Parts::lines(script) {
-        match play_line(alloc, &mut lives, numbers, size, line, out) {
-            Ok(room) => numbers = room,
+        match play_line(alloc, &mut lives, room, size, line, out) {
+            Ok(back) => room = back,
             Err(fault) => {
                 return Err(ScriptError {
                     fault,
@@ -54,19 +53,18 @@ pub(crate) fn play_lives<W: Write>(
     Ok(lives.into_medium())
 }
 
-// Plays one line. The room for the numbers comes back.
+// Plays one line. The room comes back.
 fn play_line<W: Write>(
     alloc: Global,
     lives: &mut Lives,
-    numbers: Vec<u32>,
+    room: NumberRoom,
     size: PacketSize,
     line: &[u8],
     out: &mut W,
-) -> Result<Vec<u32>, ScriptFault>
+) -> Result<NumberRoom, ScriptFault>
     requires good { IsScriptLine ScriptKind.Lives (bytes_of size) line.now }
-    requires room { 64 ≤ vec_capacity numbers }
     requires packets { lives.old.device.packet_size ≡ bytes_of size }
-    ensures played { IfOk result (λ room. (64 ≤ vec_capacity room) × (actions : List Action)
+    ensures played { OnOk result ((actions : List Action)
         × LineActs (bytes_of size) line.now actions
         × TellsLives (W.contents out.old) (W.contents out.new) lives.old actions lives.new) }
     ensures broken { IfErr result (λ fault. (actions : List Action)
@@ -76,15 +74,15 @@ fn play_line<W: Write>(
     match read_line(ScriptKind::Lives, size, line).unwrap() {
         ScriptLine::Fuse { writes } => {
             lives.fuse(writes);
-            Ok(numbers)
+            Ok(room)
         }
         ScriptLine::Fail { call } => {
             lives.fail(call);
-            Ok(numbers)
+            Ok(room)
         }
-        ScriptLine::Cut(kept) => Ok(cut(lives, &kept, numbers)),
+        ScriptLine::Cut(kept) => Ok(cut(lives, &kept, room)),
         asked => match play_events(alloc, lives, asked, out) {
-            Ok(()) => Ok(numbers),
+            Ok(()) => Ok(room),
             Err(fault) => Err(fault),
         },
     }
@@ -129,41 +127,26 @@ fn play_event<W: Write>(
     }
 }
 
-// Cuts the power. The room for the numbers comes back.
-fn cut(lives: &mut Lives, kept: &KeptWrites, mut numbers: Vec<u32>) -> Vec<u32>
-    requires { 64 ≤ vec_capacity numbers }
-    ensures room { vec_capacity result ≡ vec_capacity numbers }
-    ensures acted { Acted lives.old (cuts (is_kept kept.now) ∷ []) [] lives.new }
+// Cuts the power. The room comes back.
+fn cut(lives: &mut Lives, kept: &KeptWrites, mut room: NumberRoom) -> NumberRoom
+    ensures { Acted lives.old (cuts (is_kept kept.now) ∷ []) [] lives.new }
 {
-    match kept {
+    let these = match kept {
         KeptWrites::None => {
             lives.cut(&Kept::None);
-            numbers
+            return room;
         }
         KeptWrites::All => {
             lives.cut(&Kept::All);
-            numbers
+            return room;
         }
-        KeptWrites::These(these) => {
-            fill(&mut numbers, these.as_slice());
-            let kept = Kept::These(numbers);
-            lives.cut(&kept);
-            match kept {
-                Kept::These(numbers) => numbers,
-                Kept::None | Kept::All | Kept::Mask(_) => unreachable!(),
-            }
-        }
-    }
-}
-
-// Puts numbers in place of those that were there.
-fn fill(numbers: &mut Vec<u32>, these: &[u32])
-    requires { length these.now ≤ vec_capacity numbers.old }
-    ensures items { numbers.new.items ≡ these.now }
-    ensures room { vec_capacity numbers.new ≡ vec_capacity numbers.old }
-{
-    numbers.clear();
-    for number in these {
-        numbers.push_reserved(*number);
+        KeptWrites::These(these) => these,
+    };
+    room.fill(these.as_slice());
+    let kept = Kept::These(room.numbers);
+    lives.cut(&kept);
+    match kept {
+        Kept::These(numbers) => NumberRoom { numbers },
+        Kept::None | Kept::All | Kept::Mask(_) => unreachable!(),
     }
 }

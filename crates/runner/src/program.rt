@@ -3,13 +3,9 @@ ghost use Rattle.std.specs.Prelude.{◌≡◌, ◌≢◌, ◌⊎◌, ◌≤◌, 
 ghost use Rattle.std.specs.Prelude.{MatchResult, OnOk, map, drop, string_bytes};
 ghost use Rattle.std.specs.Io.KnownBytes.{Appends};
 ghost use Rattle.console.specs.Streams.{AppendsSome};
-ghost use Rattle.medium.specs.Sim.{Sim};
-ghost use Rattle.bot_machine.specs.LivesValue.{IsAtRest};
 ghost use Rattle.spec.specs.Packets.{bytes_of};
-ghost use Rattle.runner.specs.declared.fault.ScriptFault.{ScriptFault};
 ghost use Rattle.runner.specs.declared.refusal.Refusal.{Refusal};
-ghost use Rattle.runner.specs.OutcomeOfLives.{ArePlayed, AreRefused};
-ghost use Rattle.runner.specs.Status.{refusal_of_fault, status_of};
+ghost use Rattle.runner.specs.Status.{status_of};
 ghost use Rattle.runner.specs.Task.{IsCommandLine};
 ghost use Rattle.runner.specs.Program.{HasDone, HasNoWords, IsBack, IsFormat, IsFormatRefused};
 ghost use Rattle.runner.specs.Program.{IsMigrated};
@@ -28,7 +24,7 @@ use crate::task::{Task, read_words};
 use bot_machine::PacketSize;
 use console::{ArgumentFault, words_of, write_out};
 use journal::LogFormat;
-use medium::{FileMedium, Medium, SimMedium};
+use medium::{FileMedium, Medium};
 use std::alloc::Global;
 use std::fs;
 use std::fs::{File, Files};
@@ -297,26 +293,7 @@ fn sim<R: Files<File = File> + AllocGlobal, O: Write>(
     let Ok(mut script) = fs::open(rt, script) else {
         return Err(Refusal::File);
     };
-    play_in_memory(rt.alloc(), medium, &mut script, out, size)
-}
-
-// Plays a script on a disk over a medium in memory, which nobody wants back.
-fn play_in_memory<R: Read, O: Write>(
-    alloc: Global,
-    medium: SimMedium,
-    script: &mut R,
-    out: &mut O,
-    size: PacketSize,
-) -> Result<(), Refusal>
-    requires rests { IsAtRest medium }
-    requires unfused { medium.power.fuse ≡ None }
-    ensures done { OnOk result ((after : Sim) × ArePlayed (bytes_of size)
-        (R.remaining script.old) (O.contents out.old) (O.contents out.new) medium after) }
-    ensures refused { IfErr result (λ refusal. (fault : ScriptFault) × (after : Sim)
-        × AreRefused (bytes_of size) (R.remaining script.old) (O.contents out.old)
-        (O.contents out.new) medium fault after × (refusal ≡ refusal_of_fault fault)) }
-{
-    match sim_script(alloc, medium, script, out, size) {
+    match sim_script(rt.alloc(), medium, &mut script, out, size) {
         Ok(_) => Ok(()),
         Err(ScriptError { fault, medium: _ }) => Err(Refusal::from(fault)),
     }

@@ -1,16 +1,14 @@
 //! Scripts of packets and tokens, and the text of a disk's answers.
-ghost use Rattle.std.specs.Prelude.{ℕ, List, Option, All, IfOk, IfErr, MatchResult};
+ghost use Rattle.std.specs.Prelude.{IfOk, IfErr, MatchResult};
 ghost use Rattle.std.specs.Io.KnownBytes.{IsAtEnd};
 ghost use Rattle.spec.specs.Packets.{bytes_of};
-ghost use Rattle.runner.specs.Line.{IsScriptLine};
-ghost use Rattle.runner.specs.Lines.{lines_of};
-ghost use Rattle.runner.specs.Outcome.{IsPlayed, IsRead, IsRefused, HasTaken};
+ghost use Rattle.runner.specs.Outcome.{IsPlayed, IsRefused, HasTaken};
 
 use crate::fault::{ScriptError, ScriptFault};
 use crate::identity::disk_identity;
 use crate::line::ScriptKind;
-use crate::play::play;
 use crate::read_script::read_script;
+use crate::serve::serve_script;
 use bot_machine::{Disk, PacketSize};
 use medium::Medium;
 use std::alloc::Global;
@@ -42,36 +40,19 @@ pub fn run_script<M: Medium, R: Read, W: Write>(
     ensures follows { MatchResult result (M.follows medium) (λ error.
         M.follows medium error.medium) }
 {
-    match read_script(alloc, ScriptKind::OneLife, size, script) {
-        Ok(script) => play_script(alloc, medium, script.as_slice(), out, size),
-        Err(fault) => Err(ScriptError { fault, medium }),
-    }
-}
-
-// Starts a disk over a medium, and plays a checked script on it.
-fn play_script<M: Medium, W: Write>(
-    alloc: Global,
-    medium: M,
-    script: &[u8],
-    out: &mut W,
-    size: PacketSize,
-) -> Result<M, ScriptError<M>>
-    requires { All (IsScriptLine ScriptKind.OneLife (bytes_of size)) (lines_of script.now) }
-    ensures played { (left : Option (List ℕ)) → IsRead left script.now → IfOk result
-        (IsPlayed M.state (bytes_of size) left (W.contents out.old) (W.contents out.new) medium) }
-    ensures refused { (left : Option (List ℕ)) → IsRead left script.now → IfErr result (λ error.
-        IsRefused M.state (bytes_of size) left (W.contents out.old) (W.contents out.new) medium
-        error.fault error.medium) }
-    ensures taken { (left now : Option (List ℕ)) → IsAtEnd now → IfErr result (λ error.
-        HasTaken error.fault left now) }
-    ensures follows { MatchResult result (λ back. M.follows medium back)
-        (λ error. M.follows medium error.medium) }
-{
-    match Disk::start_with(alloc, medium, disk_identity(), size) {
-        Ok(disk) => play(disk, size, script, out),
-        Err(error) => Err(ScriptError {
-            fault: ScriptFault::Start(error.fault),
-            medium: error.medium,
+    let script = match read_script(alloc, ScriptKind::OneLife, size, script) {
+        Ok(script) => script,
+        Err(fault) => return Err(ScriptError { fault, medium }),
+    };
+    let mut disk = Disk::start_with(alloc, medium, disk_identity(), size)?;
+    let served = serve_script(&mut disk, script.as_slice(), out);
+    let medium = disk.into_medium();
+    match served {
+        Ok(()) => Ok(medium),
+        // Each line is one of a script, and a disk answers each event.
+        Err(_) => Err(ScriptError {
+            fault: ScriptFault::Writer,
+            medium,
         }),
     }
 }

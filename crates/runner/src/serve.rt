@@ -3,17 +3,17 @@ ghost use Rattle.std.specs.Prelude.{◌≡◌, ◌⊎◌, ◌++◌, ◌<◌, ℕ
 ghost use Rattle.std.specs.Prelude.{MatchOption, MatchResult, [], length, take, ⊤};
 ghost use Rattle.std.specs.Io.{ReadsAtMost};
 ghost use Rattle.std.specs.Io.KnownBytes.{Consumes, IsAtEnd, ReadConsumes};
-ghost use Rattle.spec.specs.Packets.{bytes_of};
-ghost use Rattle.runner.specs.Served.{HasServed, IsAnswered, IsLineStopped, IsServedBy};
+ghost use Rattle.runner.specs.Served.{AreAnswered, HasServed, IsAnswered, IsLineStopped};
+ghost use Rattle.runner.specs.Served.{IsServedBy};
 ghost use Rattle.runner.specs.Served.{IsLineEnd, IsUnended, IsStoppedBy, MayAsk, StopsIn};
 ghost use Rattle.runner.specs.Line.{IsScriptLine};
+ghost use Rattle.runner.specs.Lines.{lines_of};
 
 use crate::held::LineBuffer;
 use crate::line::{ScriptKind, read_line};
 use crate::parts::separator_at;
 use crate::play::play_asked;
 use crate::player::{Player, ServeFault};
-use bot_machine::PacketSize;
 use std::io;
 use std::io::{ErrorKind, Read, Write};
 
@@ -68,17 +68,32 @@ pub fn serve_player<P: Player, S: LineSource<W>, W: Write>(
         (W.contents out.old) (W.contents out.new) player.old player.new (S.left source.old)
         (S.left source.new)) }
 {
-    let size = player.longest_packet();
     let mut line = LineBuffer::new();
     let mut chunk = [0; 4096];
     'reads: for _ in 0..u64::MAX {
         let count = read_more(source, out, &mut chunk)?;
         if count == 0 {
-            return answer_line(player, size, &line, out);
+            return answer_line(player, &line, out);
         }
-        serve_bytes(player, size, &chunk[..count], &mut line, out)?;
+        serve_bytes(player, &chunk[..count], &mut line, out)?;
     }
     Err(ServeFault::Reader)
+}
+
+/// Has a player answer the lines of a script that is there whole, as `serve_player` does.
+pub(crate) fn serve_script<P: Player, W: Write>(
+    player: &mut P,
+    script: &[u8],
+    out: &mut W,
+) -> Result<(), ServeFault>
+    ensures answered { OnOk result (AreAnswered P.goes P.stops (P.most player.old)
+        (W.contents out.old) (W.contents out.new) player.old player.new (lines_of script.now)) }
+    ensures stopped { IfErr result (StopsIn P.goes P.stops (P.most player.old)
+        (W.contents out.old) (W.contents out.new) player.old player.new script.now) }
+{
+    let mut line = LineBuffer::new();
+    serve_bytes(player, script, &mut line, out)?;
+    answer_line(player, &line, out)
 }
 
 // Reads some bytes, or none at the end. An interrupted read is tried again.
@@ -109,28 +124,28 @@ fn read_more<S: LineSource<W>, W: Write>(
 // Answers each line that these bytes end, and holds what stands behind the last of them.
 fn serve_bytes<P: Player, W: Write>(
     player: &mut P,
-    size: PacketSize,
     bytes: &[u8],
     line: &mut LineBuffer,
     out: &mut W,
 ) -> Result<(), ServeFault>
-    requires packets { P.most player.old ≡ bytes_of size }
     ensures goes_on { OnOk result ((was : Option (List ℕ)) (first : P.row.Denot) (read : List ℕ)
-        → HasServed P.goes P.stops (bytes_of size) was (W.contents out.old) first player.old
+        → HasServed P.goes P.stops (P.most first) was (W.contents out.old) first player.old
         line.old.bytes.items line.old.number read
-        → HasServed P.goes P.stops (bytes_of size) was (W.contents out.new) first player.new
+        → HasServed P.goes P.stops (P.most first) was (W.contents out.new) first player.new
         line.new.bytes.items line.new.number (read ++ bytes.now)) }
     ensures stops { IfErr result (λ fault.
         (was : Option (List ℕ)) (first : P.row.Denot) (read more : List ℕ)
-        → HasServed P.goes P.stops (bytes_of size) was (W.contents out.old) first player.old
+        → HasServed P.goes P.stops (P.most first) was (W.contents out.old) first player.old
         line.old.bytes.items line.old.number read
-        → StopsIn P.goes P.stops (bytes_of size) was (W.contents out.new) first player.new
+        → StopsIn P.goes P.stops (P.most first) was (W.contents out.new) first player.new
         (read ++ bytes.now ++ more) fault) }
 {
+    // A longer line is none of a script for any size of packets.
+    let _size = player.longest_packet();
     let mut at = 0;
     'lines: while let Some(end) = line_end(&bytes[at..]) {
         line.hold(&bytes[at..at + end])?;
-        answer_line(player, size, line, out)?;
+        answer_line(player, line, out)?;
         line.begin_next();
         at += end + 1;
     }
@@ -147,17 +162,16 @@ fn line_end(bytes: &[u8]) -> Option<usize>
 // Plays the line that is held, and writes the line of each answer.
 fn answer_line<P: Player, W: Write>(
     player: &mut P,
-    size: PacketSize,
     line: &LineBuffer,
     out: &mut W,
 ) -> Result<(), ServeFault>
-    requires packets { P.most player.old ≡ bytes_of size }
-    ensures answered { OnOk result (IsAnswered P.goes P.stops (bytes_of size) (W.contents out.old)
-        (W.contents out.new) player.old player.new line.now.bytes.items) }
-    ensures stopped { IfErr result (IsLineStopped P.goes P.stops (bytes_of size)
+    ensures answered { OnOk result (IsAnswered P.goes P.stops (P.most player.old)
+        (W.contents out.old) (W.contents out.new) player.old player.new line.now.bytes.items) }
+    ensures stopped { IfErr result (IsLineStopped P.goes P.stops (P.most player.old)
         (W.contents out.old) (W.contents out.new) player.old player.new line.now.bytes.items
         line.now.number) }
 {
+    let size = player.longest_packet();
     let Some(asked) = read_line(ScriptKind::OneLife, size, line.as_slice()) else {
         return Err(ServeFault::Line(line.number()));
     };

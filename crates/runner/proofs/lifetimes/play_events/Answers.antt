@@ -1,4 +1,4 @@
-use Rattle.std.proofs.Common.{◌≡◌, ◌∷◌, [], ◌++◌, ◌∙◌, ap, sym, subst, append_assoc, append-nil, List, ℕ}
+use Rattle.std.proofs.Common.{◌≡◌, ◌∷◌, [], ◌++◌, ◌∙◌, ap, sym, subst, append_assoc, append-nil, List, ℕ, refl}
 use Rattle.std.specs.Prelude.{flat_map}
 use Rattle.std.proofs.lemmas.List.Concat.{flat_map-cons}
 use Rattle.std.proofs.lemmas.List.Elements.{All-rest}
@@ -10,7 +10,7 @@ use Rattle.spec.specs.Lives.{Action}
 use Rattle.runner.specs.Events.{events_of}
 use Rattle.runner.specs.Lifetimes.{comes}
 use Rattle.runner.proofs.LifeActions.{tells-none, tells-more, breaks-more}
-use Rattle.runner.proofs.Within.{first_within}
+use Rattle.runner.proofs.Within.{next_within}
 use Rattle.runner.proofs.lifetimes.play_events.Goals as goal
 
 -- what all events do, where these have come, this one comes, and these are left
@@ -35,8 +35,8 @@ pub play_event-requires : goal.play_event-requires
 play_event-requires g c =
     let stays = ap (λ (d : Device). d.packet_size) c.loop-event.invariant.so_far.2.acted.goes_on.device_stays in
     subst (λ (most : ℕ). IsWithin most c.in-Some.event) (sym stays)
-    (first_within c.args.lives.now.device.packet_size c.in-Some.event (events_of c.next.new.self)
-    (events_of c.loop-event.event-iterator) c.in-Some.ensures.steps c.loop-event.invariant.within)
+    (next_within c.args.lives.now.device.packet_size [] _ _ (events_of c.next.new.self) c.in-Some.event refl
+    c.in-Some.ensures.steps c.loop-event.invariant.within)
 
 pub loop-event-preserved : goal.loop-event-preserved
 loop-event-preserved g c =

@@ -32,17 +32,15 @@ pub returns-in-Cut-clause-played : goal.returns-in-Cut-clause-played
 returns-in-Cut-clause-played g c =
     let kept = c.in-Cut.kept in
     let spelled = rw c.in-Cut.ensures at c.read_line.ensures.spelled in (
-      rw (sym c.cut.ensures.room) at c.requires.room,
       cuts (is_kept kept) ∷ [],
       line_acts (bytes_of c.args.size) c.args.line.now (Cut kept) spelled.0,
-      tells-silently (g.W.Write.contents c.args.out.now) c.cut.ensures.acted refl,
+      tells-silently (g.W.Write.contents c.args.out.now) c.cut.ensures refl,
     )
 
 pub returns-in-Fuse-clause-played : goal.returns-in-Fuse-clause-played
 returns-in-Fuse-clause-played g c =
     let writes = c.in-Fuse.writes in
     let spelled = rw c.in-Fuse.ensures at c.read_line.ensures.spelled in (
-      c.requires.room,
       arms writes ∷ [],
       line_acts (bytes_of c.args.size) c.args.line.now (Fuse writes) spelled.0,
       tells-silently (g.W.Write.contents c.args.out.now)
@@ -53,7 +51,6 @@ pub returns-in-Fail-clause-played : goal.returns-in-Fail-clause-played
 returns-in-Fail-clause-played g c =
     let call = c.in-Fail.call in
     let spelled = rw c.in-Fail.ensures at c.read_line.ensures.spelled in (
-      c.requires.room,
       fails call ∷ [],
       line_acts (bytes_of c.args.size) c.args.line.now (Fail call) spelled.0,
       tells-silently (g.W.Write.contents c.args.out.now)
@@ -64,7 +61,6 @@ pub returns-in-Ok-clause-played : goal.returns-in-Ok-clause-played
 returns-in-Ok-clause-played g c =
     let asked = c.unwrap.result in
     let spelled = rw c.unwrap.ensures at c.read_line.ensures.spelled in (
-      c.requires.room,
       flat_map comes (events_of asked),
       event_line_acts (bytes_of c.args.size) c.args.line.now asked c.in_default.not-Fuse c.in_default.not-Fail c.in_default.not-Cut
           spelled.0,

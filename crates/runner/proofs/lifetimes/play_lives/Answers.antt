@@ -13,7 +13,6 @@ loop-line-init g c =
     let same = ap parts_left c.into_iter-line-iterator.ensures.into_iter_gives ∙ c.lines-line-items.ensures in
     record {
       left = rw same c.requires.good;
-      room = c.requires.room;
       so_far = lines-none (g.W.Write.contents c.args.out.now) c.args.lives same;
     }
 
@@ -21,23 +20,20 @@ pub play_line-requires : goal.play_line-requires
 play_line-requires g c =
     let left = rw c.in-Some.ensures.steps at c.loop-line.invariant.left in
     let stays = ap (λ (d : Device). d.packet_size) c.loop-line.invariant.so_far.tells.acted.goes_on.device_stays in
-    record { good = left 0 [] (omega arith); room = c.loop-line.invariant.room; packets = stays ∙ c.requires.packets }
+    record { good = left 0 [] (omega arith); packets = stays ∙ c.requires.packets }
 
 pub loop-line-preserved : goal.loop-line-preserved
 loop-line-preserved g c =
     let here = c.in-Ok.ensures.played in
     record {
       left = All-rest (IsScriptLine Lives (bytes_of c.args.size)) _ _ _ c.in-Some.ensures.steps c.loop-line.invariant.left;
-      room = here.0;
-      so_far = lines-more c.loop-line.invariant.so_far c.in-Some.ensures.steps here.2 here.3;
+      so_far = lines-more c.loop-line.invariant.so_far c.in-Some.ensures.steps here.1 here.2;
     }
 
 pub returns-in-Err-clause-broken : goal.returns-in-Err-clause-broken
 returns-in-Err-clause-broken g c =
     let here = c.in-Err.ensures.broken in
-    lines-break c.loop-line.invariant.so_far c.in-Some.ensures.steps here.1 here.2
-    (All-rest (IsScriptLine Lives (bytes_of c.args.size)) _ _ _ c.in-Some.ensures.steps c.loop-line.invariant.left)
-    (sym c.into_medium.ensures)
+    lines-break c.loop-line.invariant.so_far c.in-Some.ensures.steps here.1 here.2 (sym c.into_medium.ensures)
 
 pub returns-clause-played : goal.returns-clause-played
 returns-clause-played g c = lines-all c.loop-line.invariant.so_far c.in-None.ensures.steps.0 (sym c.into_medium-2.ensures)

@@ -1,5 +1,4 @@
-use Rattle.std.proofs.Common.{◌≤◌}
-use Rattle.std.specs.Prelude.{All, vec_capacity}
+use Rattle.std.specs.Prelude.{All}
 use Rattle.spec.specs.Packets.{bytes_of}
 use Rattle.runner.specs.declared.line.ScriptKind.TheVariants.{Lives}
 use Rattle.runner.specs.Left.{parts_left}
@@ -11,7 +10,6 @@ use Rattle.runner.proofs.lifetimes.play_lives.Given as goal
 abbrev pub invariant-loop-line : goal.invariant-loop-line
 invariant-loop-line g l = record {
   left : All (IsScriptLine Lives (bytes_of l.size)) (parts_left l.line-iterator);
-  room : 64 ≤ vec_capacity l.numbers;
   so_far : ArePlayedTo (bytes_of l.size) (g.W.Write.contents l.fn.out) (g.W.Write.contents l.out) l.fn.lives (lines_of l.script)
       (parts_left l.line-iterator) l.lives;
 }

@@ -8,8 +8,7 @@ use Rattle.spec.specs.Packets.{bytes_of}
 use Rattle.spec.specs.declared.packet_size.PacketSize.{PacketSize}
 use Rattle.spec.specs.declared.packet_size.PacketSize.TheVariants.{Full64, High512}
 use Rattle.runner.proofs.Options.{if_err}
-use Rattle.runner.proofs.ToldEvents.{most_stays}
-use Rattle.runner.proofs.ServedLines.{served-part, served-line, stops-ended, stops-long}
+use Rattle.runner.proofs.ServedLines.{served-packets, served-part, served-line, stops-ended, stops-long}
 use Rattle.runner.proofs.serve.serve_bytes.Goals as goal
 
 regroup : (read a p r more : List ℕ) → (read ++ (a ++ (p ++ 10 ∷ r))) ++ more ≡ ((read ++ a) ++ p) ++ 10 ∷ (r ++ more)
@@ -41,9 +40,9 @@ last_part : (read bytes : List ℕ) (at : ℕ) → read ++ bytes ≡ (read ++ ta
 last_part read bytes at =
     ap (λ (l : List ℕ). read ++ l) (sym (take-append-drop at bytes)) ∙ sym (append_assoc read (take at bytes) (drop at bytes))
 
-small : (size : PacketSize) → bytes_of size ≤ 512
-small Full64 = omega arith
-small High512 = omega arith
+small : {most : ℕ} (size : PacketSize) → bytes_of size ≡ most → most ≤ 512
+small Full64 is = omega arith
+small High512 is = omega arith
 
 -- the bytes of the line that ends
 part_is : (bytes : List ℕ) (at end : ℕ) → take (at + end - at) (drop at bytes) ≡ take end (drop at bytes)
@@ -55,7 +54,6 @@ end_in bytes at end is = rw (take_rest bytes at) at is
 pub lines-init : goal.lines-init
 lines-init g c = record {
   within = omega arith;
-  packets = c.requires.packets;
   goes_on = λ was first read so. rw (append-nil read) so;
 }
 
@@ -69,7 +67,8 @@ returns-in_err-hold-clause-stops g c =
     let p = err_from_is_err_and c.from_residual.result c.from_residual.ensures.1 in
     rw (p.1, p.2, long.0) (λ was first read more so. rw (cut_at read bytes more at end ends)
     (stops-long g.met.P.Player.laws (c.lines.invariant.goes_on was first read so) (take end (drop at bytes))
-    (10 ∷ (drop (suc end) (drop at bytes) ++ more)) (small c.args.size) ends.before long.1))
+    (10 ∷ (drop (suc end) (drop at bytes) ++ more))
+    (small c.longest_packet-size.result (c.longest_packet-size.ensures ∙ served-packets g.met.P.Player.laws so)) ends.before long.1))
 
 pub returns-in_err-answer_line-clause-stops : goal.returns-in_err-answer_line-clause-stops
 returns-in_err-answer_line-clause-stops g c =
@@ -98,7 +97,6 @@ lines-preserved g c =
     let answered = c.in_ok-answer_line.ensures.answered in
     record {
       within = omega (arith, ends.within, length-drop at bytes, c.lines.invariant.within);
-      packets = most_stays laws answered.2 ∙ c.lines.invariant.packets;
       goes_on = λ was first read so. served-line laws
           (served-part laws (c.lines.invariant.goes_on was first read so) c.hold.new.self.bytes.items (take end (drop at bytes))
           ends.before stands c.in_ok-hold.ensures.number refl)
@@ -118,6 +116,7 @@ returns g c =
       stops = if_err c.hold-2.result (λ fault too_long was first read more so.
           let long = rw (take_rest bytes at) at too_long in
           rw (long.0, ap (λ (l : List ℕ). l ++ more) (last_part read bytes at))
-          (stops-long laws (c.lines.invariant.goes_on was first read so) (drop at bytes) more (small c.args.size) unended long.1))
+          (stops-long laws (c.lines.invariant.goes_on was first read so) (drop at bytes) more
+          (small c.longest_packet-size.result (c.longest_packet-size.ensures ∙ served-packets laws so)) unended long.1))
           c.hold-2.ensures.too_long;
     }

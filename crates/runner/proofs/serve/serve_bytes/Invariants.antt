@@ -1,5 +1,4 @@
-use Rattle.std.proofs.Common.{◌≡◌, ◌≤◌, ◌-◌, ◌++◌, ℕ, List, Option, take, length}
-use Rattle.spec.specs.Packets.{bytes_of}
+use Rattle.std.proofs.Common.{◌≤◌, ◌-◌, ◌++◌, ℕ, List, Option, take, length}
 use Rattle.runner.specs.Served.{HasServed}
 use Rattle.runner.proofs.serve.serve_bytes.Given as goal
 
@@ -11,10 +10,10 @@ invariant-lines g l =
     let contents = g.W.Write.contents in
     record {
       within : l.at ≤ length l.bytes;
-      packets : g.P.Player.most l.player ≡ bytes_of l.size;
       goes_on : (was : Option (List ℕ)) (first : g.row.P.Denot) (read : List ℕ)
-          → HasServed goes stops (bytes_of l.size) was (contents l.fn.out) first l.fn.player l.fn.line.bytes.items l.fn.line.number read
-          → HasServed goes stops (bytes_of l.size) was (contents l.out) first l.player l.line.bytes.items l.line.number
+          → HasServed goes stops (g.P.Player.most first) was (contents l.fn.out) first l.fn.player l.fn.line.bytes.items
+          l.fn.line.number read
+          → HasServed goes stops (g.P.Player.most first) was (contents l.out) first l.player l.line.bytes.items l.line.number
           (read ++ take l.at l.bytes);
     }
 

@@ -1,11 +1,10 @@
-use Rattle.std.proofs.Common.{◌++◌, ◌∙◌, [], take, sym, rules}
+use Rattle.std.proofs.Common.{◌++◌, [], take, rules}
 use Rattle.std.proofs.KnownBytes.{Consumes-nil, Consumes-trans}
 use Rattle.std.proofs.lemmas.Result.{err_from_is_err_and, on_ok_weaker}
 use Rattle.std.specs.Io.KnownBytes.{IsAtEnd}
-use Rattle.spec.specs.Packets.{bytes_of}
 use Rattle.runner.proofs.Options.{if_err}
 use Rattle.runner.proofs.ServedLines.{taken-none, taken-nothing, served-none}
-use Rattle.runner.proofs.ServedLines.{served-packets, served-all, served-unread, stopped-last, stopped-in}
+use Rattle.runner.proofs.ServedLines.{served-all, served-unread, stopped-last, stopped-in}
 use Rattle.runner.proofs.serve.serve_player.Goals as goal
 
 pub reads-init : goal.reads-init
@@ -14,8 +13,7 @@ reads-init g c = record {
     [],
     Consumes-nil (g.S.LineSource.left c.args.source.now),
     rw (c.new-line.ensures.bytes, c.new-line.ensures.number)
-        (served-none g.met.P.Player.laws g.P.Player.stops (bytes_of c.longest_packet-size.result)
-        (g.W.Write.contents c.args.out.now) c.args.player.now),
+        (served-none g.met.P.Player.laws g.P.Player.stops (g.W.Write.contents c.args.out.now) c.args.player.now),
   );
 }
 
@@ -23,19 +21,8 @@ pub read_more-requires : goal.read_more-requires
 read_more-requires g c later none =
     let so = c.reads.invariant.so_far in
     let left = g.S.LineSource.left in
-    let asks = rw (← c.longest_packet-size.ensures) at c.requires.asks in
-    asks later _ _ so.0 (taken-nothing (left c.args.source.now) (left c.reads.source) (left later) so.0 so.1 none)
+    c.requires.asks later _ _ so.0 (taken-nothing (left c.args.source.now) (left c.reads.source) (left later) so.0 so.1 none)
     (served-unread g.met.P.Player.laws so.2)
-
-pub answer_line-requires : goal.answer_line-requires
-answer_line-requires g c = record {
-  packets = served-packets g.met.P.Player.laws c.reads.invariant.so_far.2 ∙ sym c.longest_packet-size.ensures;
-}
-
-pub serve_bytes-requires : goal.serve_bytes-requires
-serve_bytes-requires g c = record {
-  packets = served-packets g.met.P.Player.laws c.reads.invariant.so_far.2 ∙ sym c.longest_packet-size.ensures;
-}
 
 pub returns-then-count-eq0 : goal.returns-then-count-eq0
 returns-then-count-eq0 g c =
@@ -47,12 +34,12 @@ returns-then-count-eq0 g c =
     let taken = taken-none (left c.args.source.now) (left c.reads.source) (left c.read_more.new.source) so.0 c.read_more.new.chunk
     c.in_ok-count.count so.1 took.0 c.if-count-eq0.true in
     let end : IsAtEnd (left c.read_more.new.source) = took.1 c.if-count-eq0.true (search rules) in
-    rw (← c.longest_packet-size.ensures) (record {
+    record {
       served = on_ok_weaker c.answer_line.result (served-all laws so.2 out c.answer_line.new.player _ _ taken end)
           c.answer_line.ensures.answered;
       stopped = if_err c.answer_line.result (stopped-last laws so.2 out c.answer_line.new.player _ _ taken end)
           c.answer_line.ensures.stopped;
-    })
+    }
 
 pub returns-in_err-serve_bytes-clause-stopped : goal.returns-in_err-serve_bytes-clause-stopped
 returns-in_err-serve_bytes-clause-stopped g c =
@@ -61,8 +48,8 @@ returns-in_err-serve_bytes-clause-stopped g c =
     let left = g.S.LineSource.left in
     let chunk = take c.in_ok-count.count c.read_more.new.chunk in
     let p = err_from_is_err_and c.from_residual-in_err-serve_bytes.result c.from_residual-in_err-serve_bytes.ensures.1 in
-    rw (p.1, p.2, ← c.longest_packet-size.ensures)
-    (stopped-in g.P.Player.goes g.P.Player.stops (bytes_of c.longest_packet-size.result) (contents c.args.out.now)
+    rw (p.1, p.2)
+    (stopped-in g.P.Player.goes g.P.Player.stops (g.P.Player.most c.args.player.now) (contents c.args.out.now)
     (contents c.serve_bytes.new.out) c.args.player.now c.serve_bytes.new.player (left c.args.source.now)
     (left c.read_more.new.source) (so.0 ++ chunk)
     (Consumes-trans (left c.args.source.now) (left c.reads.source) (left c.read_more.new.source) so.0 chunk so.1
@@ -76,7 +63,7 @@ returns-in_err-count-clause-stopped g c =
     let left = g.S.LineSource.left in
     let failed = c.in_err-count.ensures.bytes in
     let p = err_from_is_err_and c.from_residual.result c.from_residual.ensures.1 in
-    rw (p.1, p.2, failed.0, ← c.longest_packet-size.ensures) (
+    rw (p.1, p.2, failed.0) (
       so.0,
       taken-nothing (left c.args.source.now) (left c.reads.source) (left c.read_more.new.source) so.0 so.1 failed.1,
       served-unread g.met.P.Player.laws so.2,
@@ -99,4 +86,4 @@ reads-preserved g c =
 pub returns-clause-stopped : goal.returns-clause-stopped
 returns-clause-stopped g c =
     let so = c.reads.invariant.so_far in
-    rw (← c.longest_packet-size.ensures) (so.0, so.1, served-unread g.met.P.Player.laws so.2)
+    (so.0, so.1, served-unread g.met.P.Player.laws so.2)

@@ -1,6 +1,5 @@
 use Rattle.std.proofs.Common.{ℕ, List}
 use Rattle.std.specs.Io.KnownBytes.{Consumes}
-use Rattle.spec.specs.Packets.{bytes_of}
 use Rattle.runner.specs.Served.{HasServed}
 use Rattle.runner.proofs.serve.serve_player.Given as goal
 
@@ -8,7 +7,6 @@ use Rattle.runner.proofs.serve.serve_player.Given as goal
 abbrev pub invariant-reads : goal.invariant-reads
 invariant-reads g l = record {
   so_far : (read : List ℕ) × Consumes (g.S.LineSource.left l.fn.source) (g.S.LineSource.left l.source) read
-      × HasServed g.P.Player.goes g.P.Player.stops (bytes_of l.size) (g.W.Write.contents l.fn.out) (g.W.Write.contents l.out) l.fn.player
-      l.player
-      l.line.bytes.items l.line.number read;
+      × HasServed g.P.Player.goes g.P.Player.stops (g.P.Player.most l.fn.player) (g.W.Write.contents l.fn.out)
+      (g.W.Write.contents l.out) l.fn.player l.player l.line.bytes.items l.line.number read;
 }

@@ -1,42 +1,38 @@
-use Rattle.std.proofs.Common.{inl}
+use Rattle.std.proofs.Common.{◌≡◌, ap, inl}
 use Rattle.spec.specs.Packets.{bytes_of}
-use Rattle.runner.specs.OutcomeOfLives.{ArePlayed}
-use Rattle.runner.proofs.NoScript.{of_lives}
+use Rattle.bot_machine.specs.LivesValue.{LivesValue}
+use Rattle.runner.specs.declared.line.ScriptKind.TheVariants.{Lives}
+use Rattle.runner.proofs.NoScript.{unplayed}
 use Rattle.runner.proofs.Options.{if_ok, if_err, match_result}
-use Rattle.runner.proofs.SeveralLives.{until}
+use Rattle.runner.proofs.SeveralLives.{first_over, are_played, are_refused, taken_up_to}
 use Rattle.runner.proofs.sim.sim_script.Goals as goal
 
-pub play_on_sim-requires-clause-good : goal.play_on_sim-requires-clause-good
-play_on_sim-requires-clause-good g c = rw (← c.as_slice.ensures.value) at c.in-Ok.ensures.good
+pub play_lives-requires : goal.play_lives-requires
+play_lives-requires g c = record {
+  good = rw (← c.as_slice.ensures.value) at c.in-Ok.ensures.good;
+  packets = ap (λ (l : LivesValue). l.device.packet_size) c.new_with-lives.ensures.value;
+}
 
-pub returns-in-Ok : goal.returns-in-Ok
-returns-in-Ok g c =
+pub returns : goal.returns
+returns g c =
     let most = bytes_of c.args.size in
-    let left = g.R.Read.remaining c.args.script.now in
-    let was = g.W.Write.contents c.args.out.now in
-    let now = g.W.Write.contents c.play_on_sim.new.out in
+    let same : c.new_with-lives.result ≡ first_over most c.args.medium = rw c.disk_identity.ensures at c.new_with-lives.ensures.value in
     let read = rw (← c.as_slice.ensures.value) at c.in-Ok.ensures.read in
-    let played = c.play_on_sim.ensures.moves left read in
-    let refused = c.play_on_sim.ensures.moves_until left read in
+    let good = rw (← c.as_slice.ensures.value) at c.in-Ok.ensures.good in
+    let played = c.play_lives.ensures in
     record {
-      promise = if_ok c.play_on_sim.result (λ after (all : ArePlayed most left was now c.args.medium after). all.promise) played;
-      moves = played;
-      promise_until = if_err c.play_on_sim.result (λ error. until most left was now c.args.medium error.medium error.fault) refused;
-      moves_until = refused;
-      taken = match_result c.play_on_sim.result (λ medium. c.in-Ok.ensures.taken) (λ error taken. taken)
-          (c.play_on_sim.ensures.taken left (g.R.Read.remaining c.read_script.new.script) c.in-Ok.ensures.taken);
+      played = if_ok c.play_lives.result
+          (λ after all. are_played most c.args.medium c.requires _ _ _ _ read good after (rw same at all)) played.played;
+      refused = if_err c.play_lives.result
+          (λ error up_to. are_refused most c.args.medium c.requires _ _ _ _ read good error.fault error.medium (rw same at up_to))
+          played.broken;
+      taken = match_result c.play_lives.result (λ medium. c.in-Ok.ensures.taken)
+          (λ error broken. inl (taken_up_to most _ _ _ _ error _ _ broken c.in-Ok.ensures.taken)) played.broken;
     }
 
 pub returns-in-Err : goal.returns-in-Err
-returns-in-Err g c =
-    let most = bytes_of c.args.size in
-    let left = g.R.Read.remaining c.args.script.now in
-    let text = g.W.Write.contents c.args.out.now in
-    let refused = of_lives most left text c.args.medium c.in-Err.fault c.in-Err.ensures.refused in
-    record {
-      promise = tt;
-      moves = tt;
-      promise_until = until most left text text c.args.medium c.args.medium c.in-Err.fault refused;
-      moves_until = refused;
-      taken = inl c.in-Err.ensures.taken;
-    }
+returns-in-Err g c = record {
+  played = tt;
+  refused = unplayed Lives (bytes_of c.args.size) _ _ c.args.medium _ _ c.in-Err.fault c.in-Err.ensures.refused;
+  taken = inl c.in-Err.ensures.taken;
+}

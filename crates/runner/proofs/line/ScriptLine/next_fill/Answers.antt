@@ -48,7 +48,7 @@ packets-more size count byte taken some is =
     ∙ sym (packets_by most (count - taken) byte))
 
 pub returns-then-count-eq0 : goal.returns-then-count-eq0
-returns-then-count-eq0 c = (rw (c.if-count-eq0.true, packets-none c.args.size c.args.byte) refl, rw c.requires refl)
+returns-then-count-eq0 c = (rw (c.if-count-eq0.true, packets-none c.args.size c.args.byte) refl, refl)
 
 pub returns : goal.returns
 returns c =
