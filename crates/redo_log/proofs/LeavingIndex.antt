@@ -8,8 +8,7 @@ use Rattle.std.proofs.lemmas.List.{drop_more, take_more_set, drop-set-lt, append
 use Rattle.std.proofs.lemmas.List.{length-set, get_or_default}
 use Rattle.std.proofs.lemmas.List.Elements.{filter-append, filter_more, All-from_get_or, Contains-get_or}
 use Rattle.journal.proofs.Wholeness.{other_slot}
-use Rattle.redo_log.specs.declared.index.Copied.{Copied}
-use Rattle.redo_log.specs.Value.{IsNewest}
+use Rattle.redo_log.specs.{declared.index.Copied.Copied, Value.IsNewest}
 use Rattle.redo_log.specs.Index.{IsIndex, is_outside, AreOutside, MayLeave, StandsAt}
 use Rattle.redo_log.proofs.SortedIndex.{blank, look_found, All-drop_from}
 

@@ -1,10 +1,8 @@
 -- What is true of every log, as a caller sees it, how its records come and go, and the calls of the record under way.
 use Rattle.std.proofs.Common.{◌≡◌, ◌⊎◌, ℕ, ◌+◌, ◌-◌, ◌%◌, ◌<◌, List, [], ◌∷◌, ◌++◌, length, drop, sym, ◌∙◌, arith, rules, ◌≢◌, suc, ◌*◌}
 use Rattle.std.proofs.Common.{◌≤◌, get_or, refl, ap, zero, Result}
-use Rattle.std.proofs.Math.ListN.{set}
-use Rattle.std.proofs.Math.Seq.{set-append_seam}
+use Rattle.std.proofs.{Math.ListN.set, Math.Seq.set-append_seam, lemmas.Bool.Decides.nat_tests}
 use Rattle.std.proofs.Math.Nat.{mod-add-mod, mod-eq-sub-mod, mod-eq_of_lt, mul-le-mul_left}
-use Rattle.std.proofs.lemmas.Bool.Decides.{nat_tests}
 use Rattle.std.specs.Prelude.{All, sum_by, true, ◌^◌}
 use Rattle.arrayvec.specs.ArrayVec.{ArrayVec}
 use Rattle.journal.specs.Places.{limit_of, first_home, sectors_of, Shape}
@@ -15,26 +13,16 @@ use Rattle.redo_log.specs.Shown.{AreInside, needed_at, value_at, IsRecord, IsSiz
 use Rattle.redo_log.specs.Shown.{flushed_at}
 use Rattle.std.proofs.lemmas.List.{length-map, map_push, get_or_past, get_or-map}
 use Rattle.std.proofs.lemmas.List.Sums.{sum_by-cons, sum_by-append, sum_by-le}
-use Rattle.journal.specs.Formats.{shape_of, layout_of}
-use Rattle.journal.specs.declared.super_sector.Super.{Super}
-use Rattle.journal.proofs.Formats.{sectors_are}
-use Rattle.redo_log.specs.declared.log.Log.TheInside.{Inside}
+use Rattle.journal.specs.{Formats.shape_of, Formats.layout_of, declared.super_sector.Super.Super, declared.log_format.LogFormat.LogFormat}
+use Rattle.journal.specs.{Layout.Layout, Record.entries_of, Record.Entry}
+use Rattle.journal.proofs.{Formats.sectors_are, BatchEntries.length_of_batch}
+use Rattle.redo_log.specs.{declared.log.Log.TheInside.Inside, Halfway.IsFlushDue, Halfway.IsNextCall, Steps.LeavesLog}
 use Rattle.redo_log.specs.Held.{needed_of, made_of, turned_of, View, HoldsView, MayLeave}
-use Rattle.journal.specs.declared.log_format.LogFormat.{LogFormat}
-use Rattle.journal.specs.Layout.{Layout}
-use Rattle.redo_log.specs.Halfway.{IsFlushDue, IsNextCall}
-use Rattle.medium.specs.declared.medium_call.Call.{Call}
+use Rattle.medium.specs.{declared.medium_call.Call.Call, Medium.State, Medium.Passes, Medium.LooksOnly, Moments.LeavesOnly}
+use Rattle.medium.specs.{Moments.SparesFrom, declared.fault.MediumFault.MediumFault, Sent.sent, declared.medium_call.Call.TheVariants.Read}
+use Rattle.medium.specs.{declared.medium_call.Call.TheVariants.Write, declared.medium_call.Call.TheVariants.Flush}
 use Rattle.medium.specs.Performed.{fault_of, IsWithin, ReadsBefore, sends_of, flushes_of}
-use Rattle.medium.specs.Medium.{State, Passes, LooksOnly}
-use Rattle.medium.specs.Moments.{LeavesOnly, SparesFrom}
-use Rattle.medium.proofs.Moments.{weaker}
-use Rattle.medium.specs.declared.fault.MediumFault.{MediumFault}
-use Rattle.journal.specs.Record.{entries_of, Entry}
-use Rattle.journal.proofs.BatchEntries.{length_of_batch}
-use Rattle.redo_log.specs.Steps.{LeavesLog}
-use Rattle.medium.specs.Sent.{sent}
-use Rattle.medium.proofs.CallsSent.{read_sends, write_sends, flush_sends}
-use Rattle.medium.specs.declared.medium_call.Call.TheVariants.{Read, Write, Flush}
+use Rattle.medium.proofs.{Moments.weaker, CallsSent.read_sends, CallsSent.write_sends, CallsSent.flush_sends}
 use Rattle.medium.specs.declared.fault.MediumFault.TheVariants as fault
 
 needed_at_one : (ahead : Ahead) (head behind left : ℕ) → needed_at ahead head behind left ≡ 1

@@ -2,29 +2,20 @@
 use Rattle.std.proofs.Common.{subst, ◌≡◌, ◌≢◌, ◌⊎◌, inl, inr, ⊎_elim, ℕ, ◌+◌, ◌-◌, ◌<◌, ◌≤◌, List, [], ◌∷◌, length, get_or, drop, refl, sym}
 use Rattle.std.proofs.Common.{◌∙◌, length-drop, add-zero, true, false, map, slice_index, drop-cons, arith, rules, Some, None, Option}
 use Rattle.std.proofs.Common.{MatchOption, Result, Ok, Err, OnOk}
-use Rattle.std.proofs.lemmas.Bool.{cases_eq, cases_lt}
-use Rattle.std.proofs.lemmas.List.{drop-map, length-map}
-use Rattle.std.proofs.lemmas.Result.{on_ok_weaker}
-use Rattle.std.proofs.Math.ListN.{get_or-map}
+use Rattle.std.proofs.{lemmas.Bool.cases_eq, lemmas.Bool.cases_lt, lemmas.List.drop-map, lemmas.List.length-map, lemmas.Result.on_ok_weaker}
+use Rattle.std.proofs.{Math.ListN.get_or-map}
 use Rattle.medium.specs.Medium.{State, Image, Holds, Gains, Only, Stays, IsSound, Passes}
 use Rattle.medium.specs.Moments.{EachCut, LeavesOnly, IsQuiet}
-use Rattle.medium.specs.declared.fault.MediumFault.{MediumFault}
+use Rattle.medium.specs.{declared.fault.MediumFault.MediumFault, declared.medium_call.Call.Call, Sent.sent}
 use Rattle.medium.specs.declared.fault.MediumFault.TheVariants as fault
-use Rattle.medium.specs.declared.medium_call.Call.{Call}
 use Rattle.medium.specs.declared.medium_call.Call.TheVariants.{Write, Flush}
 use Rattle.medium.specs.Performed.{IsWithin, ReadsBefore, IsDone, Performed, fault_of}
-use Rattle.medium.specs.Sent.{sent}
-use Rattle.medium.proofs.SparedSectors.{spared_joined}
-use Rattle.medium.proofs.SectorsRead.{looks_joined}
+use Rattle.medium.proofs.{SparedSectors.spared_joined, SectorsRead.looks_joined}
 use Rattle.medium.proofs.Moments.{each_write, each_flush, content_has, quiet_call, quiet_leaves, joined_same}
-use Rattle.journal.specs.Places.{sectors_of, first_home}
-use Rattle.journal.specs.Sectors.{IsHead}
-use Rattle.journal.specs.Record.{Entry, numbers_of}
-use Rattle.journal.specs.Formats.{layout_of, IsWhole}
+use Rattle.journal.specs.{Places.sectors_of, Places.first_home, Sectors.IsHead, Record.Entry, Record.numbers_of, Formats.layout_of}
+use Rattle.journal.specs.{Formats.IsWhole}
 use Rattle.journal.specs.Staged.{IsHomed, with_less, View as ImageView}
-use Rattle.journal.proofs.SectorsRead.{begun_is}
-use Rattle.journal.proofs.Formats.{laws_of, most_is}
-use Rattle.journal.proofs.Wholeness.{records-hide}
+use Rattle.journal.proofs.{SectorsRead.begun_is, Formats.laws_of, Formats.most_is, Wholeness.records-hide}
 use Rattle.journal.proofs.Engine.{IsWholeIn-same, IsKept, kept_home, kept_head}
 use Rattle.redo_log.specs.Value.{LogValue, Ahead, CanPass, IsAway, IsSentHome, of_oldest, ahead_of, settled, next_calls}
 use Rattle.redo_log.specs.Value.{next_sends, next_turn_flushes}

@@ -3,19 +3,20 @@ use Rattle.std.proofs.Common.{◌≡◌, ◌≢◌, ◌⊎◌, inl, ℕ, ◌+◌
 use Rattle.std.proofs.Common.{length-append, inr, ◌*◌, get_or, Bool, true, false, map, Result, OnOk}
 use Rattle.std.proofs.lemmas.List.{nil_from_length, map-append, get_or_append_left}
 use Rattle.medium.specs.Medium.{State, Image, CutLeaves, IsSound, Holds, Gains}
-use Rattle.medium.specs.Moments.{EachCut, LeavesOnly}
+use Rattle.medium.specs.{Moments.EachCut, Moments.LeavesOnly, declared.fault.MediumFault.MediumFault}
+use Rattle.medium.specs.{declared.medium_call.Call.TheVariants.Write, declared.medium_call.Call.TheVariants.Flush, Performed.IsDone}
+use Rattle.medium.specs.{Performed.IsWithin, Performed.Performed, declared.medium_call.Call.Call}
 use Rattle.medium.proofs.Moments.{updated_elsewhere, shrunk, one_call, each_write, each_flush}
 use Rattle.spec.specs.Blocks.{Array}
-use Rattle.journal.specs.Places.{Shape, sectors_of, first_home}
-use Rattle.journal.specs.Format2.{firsts_of}
+use Rattle.journal.specs.{Places.Shape, Places.sectors_of, Places.first_home, Format2.firsts_of, Standing.Keeps, Standing.IsOurs}
+use Rattle.journal.specs.{Layout.Layout, Layout.part_at, Layout.IsRecordOf, Formats.layout_of}
 use Rattle.journal.specs.Record.{Entry, with_blocks, entries_of, numbers_of}
-use Rattle.journal.specs.Standing.{Keeps, IsOurs}
-use Rattle.journal.proofs.BatchEntries.{numbers_of_batch, length_of_batch, sized_batch}
+use Rattle.journal.proofs.{BatchEntries.numbers_of_batch, BatchEntries.length_of_batch, BatchEntries.sized_batch, Formats.laws_of}
 use Rattle.journal.proofs.Engine.{rests_found, Guarded-lost, Guarded-write, Stored-write, other_written, Stored-durable, carries_below}
-use Rattle.journal.proofs.Formats.{laws_of}
 use Rattle.redo_log.specs.Value.{LogValue, HasRoom, IsCovered, retire_steps_of, behind_oldest, idle_from, begun, died, settled, IsBatch}
 use Rattle.redo_log.specs.Value.{steps_of, steps_for, IsStepped}
-use Rattle.redo_log.specs.Shown.{flush_of}
+use Rattle.redo_log.specs.{Shown.flush_of, declared.progress.Progress.Progress, declared.progress.Progress.TheVariants.More}
+use Rattle.redo_log.specs.{declared.progress.Progress.TheVariants.Durable, Halfway.IsNextCall, Halfway.IsFlushDue, Steps.StepCalled}
 use Rattle.redo_log.specs.Held.{View, resting_view, IsStored, IsGuarded, HasNoRecord, with_begun, made_of, turned_of, needed_of, MayLeave}
 use Rattle.redo_log.specs.Held.{Safe, with_passed, image_view, HoldsView, with_record, view_stepped, written_of, HasDurable, HasHead}
 use Rattle.redo_log.specs.Held.{AreHome}
@@ -27,18 +28,7 @@ use Rattle.redo_log.proofs.HeldLog.{Stores-stays, count, under_count, going_held
 use Rattle.redo_log.proofs.HeldLog.{guard_logged, guard_leaves, safe_here, counts_of, many, stands_then, stands_now, goes_on}
 use Rattle.redo_log.proofs.HeldLog.{record_entries, before_home, durable_kept, dead_held}
 pub use Rattle.redo_log.proofs.HeldLog.{quiet_held, put_head, home_is}
-use Rattle.std.proofs.lemmas.Result.{on_ok_weaker}
-use Rattle.std.proofs.lemmas.Bool.{cases_eq, cases_lt}
-use Rattle.medium.specs.declared.fault.MediumFault.{MediumFault}
-use Rattle.journal.specs.Layout.{Layout, part_at, IsRecordOf}
-use Rattle.journal.specs.Formats.{layout_of}
-use Rattle.redo_log.specs.declared.progress.Progress.{Progress}
-use Rattle.redo_log.specs.declared.progress.Progress.TheVariants.{More, Durable}
-use Rattle.redo_log.specs.Halfway.{IsNextCall, IsFlushDue}
-use Rattle.medium.specs.declared.medium_call.Call.TheVariants.{Write, Flush}
-use Rattle.medium.specs.Performed.{IsDone, IsWithin, Performed}
-use Rattle.medium.specs.declared.medium_call.Call.{Call}
-use Rattle.redo_log.specs.Steps.{StepCalled}
+use Rattle.std.proofs.{lemmas.Result.on_ok_weaker, lemmas.Bool.cases_eq, lemmas.Bool.cases_lt}
 
 -- a new log holds a medium that has its head and its blocks at home, and whose log is fresh
 pub idle_holds : (shape : Shape) (next : ℕ) (array : Array) (ours : Bool) (m : State) → sectors_of shape ≤ m.size

@@ -4,19 +4,15 @@ use Rattle.std.specs.Prelude.{◌≡◌, ◌≢◌, ℕ, ◌+◌, ◌<◌, List,
 use Rattle.std.specs.Prelude.{slice_index, get_or, Option, Some, None, ◌⊎◌, ◌≤◌}
 use Rattle.medium.specs.Medium.{State, LooksOnly, Sets, Gains}
 use Rattle.medium.specs.Moments.{LeavesOnly, SparesFrom, StaysWithin}
-use Rattle.medium.specs.declared.fault.MediumFault.{MediumFault}
-use Rattle.medium.specs.declared.medium_call.Call.{Call}
+use Rattle.medium.specs.{declared.fault.MediumFault.MediumFault, declared.medium_call.Call.Call}
 use Rattle.medium.specs.declared.medium_call.Call.TheVariants.{Read, Write, Flush}
 use Rattle.medium.specs.Performed.{IsWithin, ReadsBefore, Performed, sends_of, flushes_of}
 use Rattle.journal.specs.Places.{first_data_of, first_home, sectors_of, Shape}
 use Rattle.journal.specs.Layout.{slot_at, Layout, part_at}
-use Rattle.journal.specs.Formats.{layout_of}
-use Rattle.journal.specs.Sectors.{IsHead}
-use Rattle.journal.specs.Record.{Entry, begun_with}
+use Rattle.journal.specs.{Formats.layout_of, Sectors.IsHead, Record.Entry, Record.begun_with}
 use Rattle.redo_log.specs.Value.{LogValue, died, of_oldest, IsSentHome, IsAway, CanPass, first_kept}
 use Rattle.redo_log.specs.Held.{View, HoldsView, MayLeave, turned_of}
-use Rattle.redo_log.specs.Steps.{LeavesLog, IsOn, HoldsCounted}
-use Rattle.redo_log.specs.Shown.{written_at}
+use Rattle.redo_log.specs.{Steps.LeavesLog, Steps.IsOn, Steps.HoldsCounted, Shown.written_at}
 
 -- a flush comes next: the early parts are written, or all
 abbrev pub IsFlushDue : Layout → ℕ → ℕ → Type 0

@@ -2,25 +2,21 @@
 use Rattle.std.specs.Prelude.{◌≡◌, ℕ, ◌+◌, ◌-◌, ◌*◌, ◌^◌, ◌<◌, ◌≤◌, ◌↔◌, Bool, true, false, List}
 use Rattle.std.specs.Prelude.{[], IsTrue, if◌then◌else◌, Result, Ok, is_ok, IsOk, IfOk, IfErr, OnOk}
 use Rattle.std.specs.Prelude.{OnErr, MatchResult}
-use Rattle.medium.specs.Medium.{State, LooksOnly}
+use Rattle.medium.specs.{Medium.State, Medium.LooksOnly, Sent.SendsUpTo}
+use Rattle.medium.specs.{declared.fault.MediumFault.MediumFault}
+use Rattle.medium.specs.{declared.fault.MediumFault.TheVariants.Flush}
+use Rattle.medium.specs.{declared.medium_call.Call.Call, Performed.IsWithin, Performed.Performed}
 use Rattle.medium.specs.Moments.{EachCut, LeavesOnly, SparesFrom, IsQuiet}
-use Rattle.medium.specs.Sent.{SendsUpTo}
-use Rattle.medium.specs.declared.fault.MediumFault.{MediumFault}
-use Rattle.medium.specs.declared.fault.MediumFault.TheVariants.{Flush}
-use Rattle.journal.specs.Places.{first_home, sectors_of}
-use Rattle.journal.specs.Format2.{firsts_of}
-use Rattle.journal.specs.Record.{Entry, entries_of}
-use Rattle.redo_log.specs.declared.fault.LogFault.{LogFault}
+use Rattle.journal.specs.{Places.first_home, Places.sectors_of, Format2.firsts_of, Record.Entry}
+use Rattle.journal.specs.{Record.entries_of}
+use Rattle.redo_log.specs.{declared.fault.LogFault.LogFault, declared.progress.Progress.Progress}
+use Rattle.redo_log.specs.{declared.progress.Progress.TheVariants.Durable}
 use Rattle.redo_log.specs.declared.fault.LogFault.TheVariants.{Medium, StampsUsedUp}
-use Rattle.redo_log.specs.declared.progress.Progress.{Progress}
-use Rattle.redo_log.specs.declared.progress.Progress.TheVariants.{Durable}
 use Rattle.redo_log.specs.Value.{LogValue, died, begun, most_steps, most_retire_steps, IsStepped}
 use Rattle.redo_log.specs.Value.{Owes, IsAway, IsSentHome, IsRetireStepped, FlushesUpTo}
 use Rattle.redo_log.specs.Value.{next_step_flushes}
 use Rattle.redo_log.specs.Held.{View, HoldsView, MayLeave, HasDurable, with_record, view_stepped}
 use Rattle.redo_log.specs.Held.{view_retired}
-use Rattle.medium.specs.declared.medium_call.Call.{Call}
-use Rattle.medium.specs.Performed.{IsWithin, Performed}
 
 -- a step that answers Ok did this, and else the medium refused a call, and the log is dead
 pub record AnswersStep {X : Type 0} (Done : X → Type 0) (result : Result X LogFault)

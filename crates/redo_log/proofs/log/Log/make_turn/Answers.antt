@@ -1,8 +1,6 @@
 use Rattle.std.proofs.Common.{Ok, ◌∙◌, ◌≡◌, arith, rules}
-use Rattle.redo_log.specs.Steps.{IsOn}
-use Rattle.redo_log.specs.Value.{of_oldest}
-use Rattle.redo_log.proofs.RecordSteps.{within_more}
-use Rattle.redo_log.proofs.RetireTurns.{two_counts, two_leave, refused_counts}
+use Rattle.redo_log.specs.{Steps.IsOn, Value.of_oldest}
+use Rattle.redo_log.proofs.{RecordSteps.within_more, RetireTurns.two_counts, RetireTurns.two_leave, RetireTurns.refused_counts}
 use Rattle.redo_log.proofs.log.Log.make_turn.Goals as goal
 
 pub make-requires : goal.make-requires

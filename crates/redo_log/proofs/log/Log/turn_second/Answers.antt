@@ -1,5 +1,4 @@
-use Rattle.redo_log.proofs.RecordSteps.{log_is}
-use Rattle.redo_log.proofs.RetireTurns.{tells_second}
+use Rattle.redo_log.proofs.{RecordSteps.log_is, RetireTurns.tells_second}
 use Rattle.redo_log.proofs.log.Log.turn_second.Goals as goal
 
 pub returns : goal.returns
