@@ -25,14 +25,10 @@ use Rattle.medium.specs.Performed.{fault_of, IsWithin, ReadsBefore, sends_of, fl
 use Rattle.medium.proofs.{Moments.weaker, CallsSent.read_sends, CallsSent.write_sends, CallsSent.flush_sends}
 use Rattle.medium.specs.declared.fault.MediumFault.TheVariants as fault
 
-needed_at_one : (ahead : Ahead) (head behind left : ℕ) → needed_at ahead head behind left ≡ 1
-    → (left ≡ 1) ⊎ ((left ≡ 2) × (ahead.home ≡ head) × (ahead.before < behind))
-needed_at_one ahead head behind left e = grind (arith, nat_tests, e)
-
 -- where one is needed, one is left, or two whose flush was made
 pub needed_one : (log : LogValue) → needed_of log ≡ 1
     → (of_oldest log ≡ 1) ⊎ ((of_oldest log ≡ 2) × (log.ahead.home ≡ log.head) × (log.ahead.before < log.head + length log.waiting))
-needed_one log = needed_at_one log.ahead log.head (log.head + length log.waiting) (of_oldest log)
+needed_one log e = grind (arith, nat_tests, e)
 
 -- two are left, and the flush was made
 pub needed_covered : (log : LogValue) → IsCovered log → needed_of log ≡ needed_of (settled log)

@@ -1,34 +1,20 @@
 -- `of` makes the empty struct, with the numbers that its clause names. Assumes `Logic`.
-use mathlib.Core.Path.{refl}
-use mathlib.Core.List.{[], ◌∷◌}
+use mathlib.Core.{Path.refl, List.[], List.◌∷◌}
 use Rattle.std.proofs.Common.{◌<◌, ◌^◌, length}
 use seplogic.Ra.Ura.{Ura}
-use mir.Val.{Val, vstruct, vnil}
-use base.Logic.{SProp, ent, emp, via, fst∗}
-use base.Fml.{Fml}
-use prog.Memory.{Memory}
-use prog.Routine.{Routine}
-use prog.Wp.{Calls, Loops, WpFn, Tables}
+use mir.{Val.Val, Val.vstruct, Val.vnil, Syntax.named}
+use base.{Logic.SProp, Logic.ent, Logic.emp, Logic.via, Logic.fst∗, Fml.Fml}
+use prog.{Memory.Memory, Routine.Routine, Wp.Calls, Wp.Loops, Wp.WpFn, Wp.Tables}
 use types.Logic.{Logic}
-use contract.Lifetimes.{Lfts, Shares}
-use contract.Monad.{Fun}
-use contract.Running.{tables, tables_of}
+use contract.{Lifetimes.Lfts, Lifetimes.Shares, Monad.Fun, Running.tables, Running.tables_of}
 use sound.WpLaws.{WpFn-mono}
 use types.Kit.{‵, raw, ◌$◌, ◌∵◌, !, qed, move, suffices, done}
-use types.Run.{no_more, returns, enter}
-use types.Part.{agg}
+use types.{Run.no_more, Run.returns, Run.enter, Part.agg}
 use types.ByLocal.{alloc_all, pass_all, free_all, look_at, sets}
-use denote.Exit.{yes}
-use denote.RattleType.{owns}
-use denote.Builtin.{u64}
-use denote.Slice.{slice_val, shr_slice_vals, shr_slice_Tells}
-use denote.Shadow.{pure_i}
-use denote.Signature.{plain, types_at}
-use denote.Triple.Entry.{on_entry, alive, Args}
-use denote.Triple.Spec.{Meets, triple_of}
-use denote.Triple.Table.{entered}
+use denote.{Exit.yes, RattleType.owns, Builtin.u64, Slice.slice_val, Slice.shr_slice_vals, Slice.shr_slice_Tells, Shadow.pure_i}
+use denote.{Signature.plain, Signature.types_at, Triple.Entry.on_entry, Triple.Entry.alive, Triple.Entry.Args, Triple.Spec.Meets}
+use denote.{Triple.Spec.triple_of, Triple.Table.entered}
 use denote.Triple.Walked.{says, Stays, walk_of, Walks, ends_at, walked, walk_Meets, stay_none_slice, Goes-none_slice}
-use mir.Syntax.{named}
 use Rattle.redo_log.specs.contracts.begun.BegunNumbers.of.Key.{name as key}
 use Rattle.redo_log.specs.contracts.begun.BegunNumbers.of as f
 use Rattle.redo_log.proofs.begun.BegunNumbers.of.Statement as stated
