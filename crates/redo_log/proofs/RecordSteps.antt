@@ -6,12 +6,12 @@ use Rattle.std.proofs.Math.Nat.{mod-add-mod, mod-eq-sub-mod, mod-eq_of_lt, mul-l
 use Rattle.std.specs.Prelude.{All, sum_by, true, ◌^◌}
 use Rattle.arrayvec.specs.ArrayVec.{ArrayVec}
 use Rattle.journal.specs.Places.{limit_of, first_home, sectors_of, Shape}
-use Rattle.redo_log.specs.Value.{none_ahead, retire_steps_of, Ahead, LogValue, HasRoom, most_retire_steps, steps_of, behind_oldest}
+use Rattle.redo_log.specs.Value.{none_ahead, retire_steps_of, LogValue, HasRoom, most_retire_steps, steps_of, behind_oldest}
 use Rattle.redo_log.specs.Value.{of_oldest, steps_for, most_steps, next_sends, turns_sends, sends_of_oldest, most_retire_sends}
 use Rattle.redo_log.specs.Value.{step_flushes, next_step_flushes, IsCovered, settled}
-use Rattle.redo_log.specs.Shown.{AreInside, needed_at, value_at, IsRecord, IsSized, lists_of, shown, Invariant, flush_of, written_at}
+use Rattle.redo_log.specs.Shown.{AreInside, value_at, IsRecord, IsSized, lists_of, shown, Invariant, flush_of, written_at}
 use Rattle.redo_log.specs.Shown.{flushed_at}
-use Rattle.std.proofs.lemmas.List.{length-map, map_push, get_or_past, get_or-map}
+use Rattle.std.proofs.lemmas.List.{length-map, map_push, get_or_past}
 use Rattle.std.proofs.lemmas.List.Sums.{sum_by-cons, sum_by-append, sum_by-le}
 use Rattle.journal.specs.{Formats.shape_of, Formats.layout_of, declared.super_sector.Super.Super, declared.log_format.LogFormat.LogFormat}
 use Rattle.journal.specs.{Layout.Layout, Record.entries_of, Record.Entry}
@@ -106,19 +106,6 @@ log_is i is inv =
     let record_is : 0 < (shown i).steps_left → IsRecord (shown i).shape (i.head + length (shown i).waiting) i.under_way.numbers =
     λ some. grind (arith, inv.each, many_lists i.waiting.items) in
     rw (← is) (grind (arith, inv.each, many_lists i.waiting.items, record_is, sizes_sized i.sizes))
-
--- the oldest record, where one waits, is the first one, and so many turns of it are made and left
-pub turns_made : (i : Inside) → Invariant i → {front : ArrayVec ℕ} → 0 < length i.waiting.items
-    → front ≡ get_or i.waiting.items 0 front → AreInside (shape_of i.sizes) front.items
-    × (get_or (lists_of i.waiting.items) 0 [] ≡ front.items) × (turned_of (shown i) ≡ i.turned)
-    × (of_oldest (shown i) ≡ length front.items + 2 - i.turned)
-turns_made i inv {front} some is =
-    let f : ArrayVec ℕ → List ℕ = λ r. r.items in
-    let many = many_lists i.waiting.items in
-    let first : get_or (lists_of i.waiting.items) 0 [] ≡ front.items =
-    get_or-map f i.waiting.items 0 front [] some ∙ ap f (sym is) in
-    let each = rw first at (inv.each 0 [] (omega (arith, some, many))) in
-    grind (arith, inv.oldest, first, many, each)
 
 -- ---- the oldest record, as others come and go
 

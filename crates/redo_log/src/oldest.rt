@@ -16,7 +16,6 @@ use medium::{Call, Medium, MediumFault};
 impl Log {
     // The first call of the next turn of the oldest durable record, a flush where none waits, and
     // in the sector what it writes.
-    #[tactic(auto, using(crate::proofs::RecordSteps::turns_made))]
     fn first_call(&self, sector: &mut [u8; 512]) -> Call
         ensures { IsFirst self.now result sector.new }
     {
@@ -36,7 +35,6 @@ impl Log {
     }
 
     // The call after it, if there is one. The sector is the one that the first call left.
-    #[tactic(auto, using(crate::proofs::RecordSteps::turns_made))]
     fn second_call(&self, sector: &mut [u8; 512]) -> Option<Call>
         ensures { IsSecond self.now sector.old result sector.new }
     {
