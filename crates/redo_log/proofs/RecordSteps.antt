@@ -6,18 +6,17 @@ use Rattle.std.proofs.Math.Nat.{mod-add-mod, mod-eq-sub-mod, mod-eq_of_lt, mul-l
 use Rattle.std.specs.Prelude.{All, sum_by, true, ◌^◌}
 use Rattle.arrayvec.specs.ArrayVec.{ArrayVec}
 use Rattle.journal.specs.Places.{limit_of, first_home, sectors_of, Shape}
-use Rattle.redo_log.specs.Value.{none_ahead, retire_steps_of, LogValue, HasRoom, most_retire_steps, steps_of, behind_oldest}
-use Rattle.redo_log.specs.Value.{of_oldest, steps_for, most_steps, next_sends, turns_sends, sends_of_oldest, most_retire_sends}
-use Rattle.redo_log.specs.Value.{step_flushes, next_step_flushes, IsCovered, settled}
-use Rattle.redo_log.specs.Shown.{AreInside, value_at, IsRecord, IsSized, lists_of, shown, Invariant, flush_of, written_at}
-use Rattle.redo_log.specs.Shown.{flushed_at}
+use Rattle.redo_log.specs.Value.{none_ahead, retire_steps_of, LogValue, HasRoom, most_retire_steps, steps_of, behind_oldest, of_oldest}
+use Rattle.redo_log.specs.Value.{steps_for, most_steps, next_sends, turns_sends, sends_of_oldest, most_retire_sends, step_flushes}
+use Rattle.redo_log.specs.Value.{next_step_flushes, IsCovered, settled}
+use Rattle.redo_log.specs.Shown.{AreInside, value_at, IsRecord, IsSized, lists_of, shown, Invariant, flush_of, written_at, flushed_at}
+use Rattle.redo_log.specs.Held.{needed_of, made_of, turned_of, View, HoldsView, MayLeave}
+use Rattle.redo_log.specs.{declared.log.Log.TheInside.Inside, Halfway.IsFlushDue, Halfway.IsNextCall, Steps.LeavesLog}
 use Rattle.std.proofs.lemmas.List.{length-map, map_push, get_or_past}
 use Rattle.std.proofs.lemmas.List.Sums.{sum_by-cons, sum_by-append, sum_by-le}
 use Rattle.journal.specs.{Formats.shape_of, Formats.layout_of, declared.super_sector.Super.Super, declared.log_format.LogFormat.LogFormat}
 use Rattle.journal.specs.{Layout.Layout, Record.entries_of, Record.Entry}
 use Rattle.journal.proofs.{Formats.sectors_are, BatchEntries.length_of_batch}
-use Rattle.redo_log.specs.{declared.log.Log.TheInside.Inside, Halfway.IsFlushDue, Halfway.IsNextCall, Steps.LeavesLog}
-use Rattle.redo_log.specs.Held.{needed_of, made_of, turned_of, View, HoldsView, MayLeave}
 use Rattle.medium.specs.{declared.medium_call.Call.Call, Medium.State, Medium.Passes, Medium.LooksOnly, Moments.LeavesOnly}
 use Rattle.medium.specs.{Moments.SparesFrom, declared.fault.MediumFault.MediumFault, Sent.sent, declared.medium_call.Call.TheVariants.Read}
 use Rattle.medium.specs.{declared.medium_call.Call.TheVariants.Write, declared.medium_call.Call.TheVariants.Flush}

@@ -1,9 +1,8 @@
 -- Each turn that retires the oldest durable record: what the log and its medium hold after it, and after each of its calls.
 use Rattle.std.proofs.Common.{subst, ◌≡◌, ◌≢◌, ◌⊎◌, inl, inr, ⊎_elim, ℕ, ◌+◌, ◌-◌, ◌<◌, ◌≤◌, List, [], ◌∷◌, length, get_or, drop, refl, sym}
 use Rattle.std.proofs.Common.{◌∙◌, length-drop, add-zero, true, false, map, slice_index, drop-cons, arith, rules, Some, None, Option}
-use Rattle.std.proofs.Common.{MatchOption, Result, Ok, Err, OnOk}
-use Rattle.std.proofs.{lemmas.Bool.cases_eq, lemmas.Bool.cases_lt, lemmas.List.drop-map, lemmas.List.length-map, lemmas.Result.on_ok_weaker}
-use Rattle.std.proofs.{Math.ListN.get_or-map}
+use Rattle.std.proofs.{Common.MatchOption, Common.Result, Common.Ok, Common.Err, Common.OnOk, lemmas.Bool.cases_eq, lemmas.Bool.cases_lt}
+use Rattle.std.proofs.{lemmas.List.drop-map, lemmas.List.length-map, lemmas.Result.on_ok_weaker, Math.ListN.get_or-map}
 use Rattle.medium.specs.Medium.{State, Image, Holds, Gains, Only, Stays, IsSound, Passes}
 use Rattle.medium.specs.Moments.{EachCut, LeavesOnly, IsQuiet}
 use Rattle.medium.specs.{declared.fault.MediumFault.MediumFault, declared.medium_call.Call.Call, Sent.sent}
@@ -17,13 +16,11 @@ use Rattle.journal.specs.{Formats.IsWhole}
 use Rattle.journal.specs.Staged.{IsHomed, with_less, View as ImageView}
 use Rattle.journal.proofs.{SectorsRead.begun_is, Formats.laws_of, Formats.most_is, Wholeness.records-hide}
 use Rattle.journal.proofs.Engine.{IsWholeIn-same, IsKept, kept_home, kept_head}
-use Rattle.redo_log.specs.Value.{LogValue, Ahead, CanPass, IsAway, IsSentHome, of_oldest, ahead_of, settled, next_calls}
-use Rattle.redo_log.specs.Value.{next_sends, next_turn_flushes}
+use Rattle.redo_log.specs.Value.{LogValue, Ahead, CanPass, IsAway, IsSentHome, of_oldest, ahead_of, settled, next_calls, next_sends}
 use Rattle.redo_log.specs.Held.{View, with_record, view_retired, made_of, turned_of, needed_of, image_view, MayLeave, Safe, AreHome}
-use Rattle.redo_log.specs.Held.{HasHead, IsGuarded, HoldsView}
-use Rattle.redo_log.specs.Steps.{CountsStep, LeavesLog, HoldsCounted}
 use Rattle.redo_log.specs.Halfway.{IsFirst, IsSecond, flushed, copy_of, home_of, brought, WritesOnly, HoldsHalf, TurnBegun, TurnEnded}
-use Rattle.redo_log.specs.Halfway.{TellsFirst, TellsSecond}
+use Rattle.redo_log.specs.{Value.next_turn_flushes, Held.HasHead, Held.IsGuarded, Held.HoldsView, Steps.CountsStep, Steps.LeavesLog}
+use Rattle.redo_log.specs.{Steps.HoldsCounted, Halfway.TellsFirst, Halfway.TellsSecond}
 use Rattle.redo_log.proofs.HeldLog.{moments_have, Stands, hides_behind, front, has_before, guard_logged, newest, with_newest, same_head}
 use Rattle.redo_log.proofs.HeldLog.{safe_here, guard_leaves, Stores-stays, many, named, count, under_count, stands_now, goes_on, counts_of}
 use Rattle.redo_log.proofs.HeldLog.{kept_is, retired_kept, shrunk_held, one_write, dead_held, quiet_held}

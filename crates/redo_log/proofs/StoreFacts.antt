@@ -14,12 +14,11 @@ use Rattle.journal.specs.Record.{Entry, with_blocks, entries_of, numbers_of}
 use Rattle.journal.proofs.{BatchEntries.numbers_of_batch, BatchEntries.length_of_batch, BatchEntries.sized_batch, Formats.laws_of}
 use Rattle.journal.proofs.Engine.{rests_found, Guarded-lost, Guarded-write, Stored-write, other_written, Stored-durable, carries_below}
 use Rattle.redo_log.specs.Value.{LogValue, HasRoom, IsCovered, retire_steps_of, behind_oldest, idle_from, begun, died, settled, IsBatch}
-use Rattle.redo_log.specs.Value.{steps_of, steps_for, IsStepped}
-use Rattle.redo_log.specs.{Shown.flush_of, declared.progress.Progress.Progress, declared.progress.Progress.TheVariants.More}
-use Rattle.redo_log.specs.{declared.progress.Progress.TheVariants.Durable, Halfway.IsNextCall, Halfway.IsFlushDue, Steps.StepCalled}
 use Rattle.redo_log.specs.Held.{View, resting_view, IsStored, IsGuarded, HasNoRecord, with_begun, made_of, turned_of, needed_of, MayLeave}
 use Rattle.redo_log.specs.Held.{Safe, with_passed, image_view, HoldsView, with_record, view_stepped, written_of, HasDurable, HasHead}
-use Rattle.redo_log.specs.Held.{AreHome}
+use Rattle.redo_log.specs.{Value.steps_of, Value.steps_for, Value.IsStepped, Shown.flush_of, declared.progress.Progress.Progress}
+use Rattle.redo_log.specs.{declared.progress.Progress.TheVariants.More, declared.progress.Progress.TheVariants.Durable, Halfway.IsNextCall}
+use Rattle.redo_log.specs.{Halfway.IsFlushDue, Steps.StepCalled, Held.AreHome}
 use Rattle.redo_log.proofs.RecordSteps.{steps_some, steps_are, due_or_not, all_written, early_written, part_written, needed_covered}
 use Rattle.redo_log.proofs.RecordSteps.{needed_one, made_is, none_made, IsLog, durable_of, durable_alone, durable_more, step_flushed}
 use Rattle.redo_log.proofs.RecordSteps.{leaves_log, within_more, one_sent, few_sends, reads_nothing}

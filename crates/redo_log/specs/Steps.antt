@@ -9,14 +9,13 @@ use Rattle.medium.specs.{declared.medium_call.Call.Call, Performed.IsWithin, Per
 use Rattle.medium.specs.Moments.{EachCut, LeavesOnly, SparesFrom, IsQuiet}
 use Rattle.journal.specs.{Places.first_home, Places.sectors_of, Format2.firsts_of, Record.Entry}
 use Rattle.journal.specs.{Record.entries_of}
-use Rattle.redo_log.specs.{declared.fault.LogFault.LogFault, declared.progress.Progress.Progress}
-use Rattle.redo_log.specs.{declared.progress.Progress.TheVariants.Durable}
 use Rattle.redo_log.specs.declared.fault.LogFault.TheVariants.{Medium, StampsUsedUp}
 use Rattle.redo_log.specs.Value.{LogValue, died, begun, most_steps, most_retire_steps, IsStepped}
 use Rattle.redo_log.specs.Value.{Owes, IsAway, IsSentHome, IsRetireStepped, FlushesUpTo}
-use Rattle.redo_log.specs.Value.{next_step_flushes}
 use Rattle.redo_log.specs.Held.{View, HoldsView, MayLeave, HasDurable, with_record, view_stepped}
-use Rattle.redo_log.specs.Held.{view_retired}
+use Rattle.redo_log.specs.{declared.fault.LogFault.LogFault, declared.progress.Progress.Progress}
+use Rattle.redo_log.specs.{declared.progress.Progress.TheVariants.Durable, Value.next_step_flushes}
+use Rattle.redo_log.specs.{Held.view_retired}
 
 -- a step that answers Ok did this, and else the medium refused a call, and the log is dead
 pub record AnswersStep {X : Type 0} (Done : X → Type 0) (result : Result X LogFault)

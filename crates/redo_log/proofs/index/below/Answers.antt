@@ -1,8 +1,6 @@
-use Rattle.std.proofs.Common.{take, arith, rules}
-use Rattle.std.proofs.lemmas.Bool.Decides.{nat_tests}
-use Rattle.std.proofs.lemmas.List.Sorted.{IsPartitionPoint-from_clause, IsPartitionedBy-ltb}
-use Rattle.std.specs.List.Sorted.{IsNonDecreasingBy}
-use Rattle.std.specs.Prelude.{nat_lt}
+use Rattle.std.proofs.{Common.take, Common.arith, Common.rules, lemmas.Bool.Decides.nat_tests}
+use Rattle.std.proofs.{lemmas.List.Sorted.IsPartitionPoint-from_clause, lemmas.List.Sorted.IsPartitionedBy-ltb}
+use Rattle.std.specs.{List.Sorted.IsNonDecreasingBy, Prelude.nat_lt}
 use Rattle.redo_log.proofs.index.below.Goals as goal
 
 pub returns : goal.returns
