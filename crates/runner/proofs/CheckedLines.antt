@@ -8,7 +8,6 @@ use Rattle.std.proofs.lemmas.List.Sums.{count_by-le-length}
 use Rattle.runner.specs.declared.line.ScriptKind.{ScriptKind}
 use Rattle.runner.specs.Line.{IsScriptLine}
 use Rattle.runner.specs.Lines.{lines_of}
-use Rattle.runner.specs.Script.{IsFirstBadLine}
 
 -- the first `number` lines were read, all of them of a script, and these are left
 pub record IsReadTo (kind : ScriptKind) (most : ℕ) (all left : List (List ℕ)) (number : ℕ) : Type 0 where
@@ -24,18 +23,6 @@ module _ (kind : ScriptKind) (most : ℕ) (all old left : List (List ℕ)) (line
     good = All-push (IsScriptLine kind most) so.before line so.good is_line;
     counted = omega (arith, length-append so.before (line ∷ []), so.counted);
     parts = so.parts ∙ ap (λ l. so.before ++ l) next ∙ sym (append_assoc so.before (line ∷ []) left);
-  }
-
-  pub bad-line : (number : ℕ) → IsReadTo kind most all old number → ¬ IsScriptLine kind most line
-      → IsFirstBadLine kind most (number + 1) all
-  bad-line number so bad = record {
-    before = so.before;
-    line = line;
-    after = left;
-    parts = so.parts ∙ ap (λ l. so.before ++ l) next;
-    good = so.good;
-    bad = bad;
-    counted = ap (λ n. n + 1) so.counted;
   }
 
 -- where no line is left, all were read
