@@ -1,7 +1,7 @@
 -- A machine whose disk is as it was but for its medium: calls leave the outbox, and are under way.
 use Rattle.std.proofs.Common.{◌≡◌, ◌⊎◌, ℕ, sym, ◌∙◌, ap, subst, inl, inr, arith, ◌≤◌, ◌+◌, ◌++◌, ◌∷◌, [], zero, suc, length, List}
 use Rattle.std.proofs.Common.{refl, append_assoc, length-append}
-use Rattle.window.specs.Window.{state_of, Window, mirror_of, take_first}
+use Rattle.window.specs.Window.{state_of, Window}
 use Rattle.spec.specs.Book.{Book}
 use Rattle.spec.specs.Rules.{UnitState}
 use Rattle.scsi_unit.specs.UnitValue.{state_of as unit_state}
@@ -12,14 +12,11 @@ use Rattle.disk_machine.specs.Room.{room_for}
 use Rattle.disk_machine.specs.Machine.{Machine, Finds, Keeps, IsCaughtUp, has_refused, carried, under_way}
 use Rattle.disk_machine.specs.Moves.{ServesAtRest, LeavesNoMore, WaitsForDevice, StaysSafe, is_behind}
 use Rattle.disk_machine.specs.declared.waiting.Waiting.TheVariants as waiting
-use Rattle.std.specs.Prelude.{Some}
-use Rattle.medium.specs.Writes.{sector_of}
-use Rattle.window.specs.OutboxMedium.{sent, first_of}
 use Rattle.window.specs.declared.call.DeviceCall.{DeviceCall}
-use Rattle.window.specs.declared.call.DeviceCall.TheVariants.{Write, Flush}
+use Rattle.window.specs.declared.call.DeviceCall.TheVariants.{Flush}
 use Rattle.window.specs.declared.ask.DeviceRead.{DeviceRead}
-use Rattle.store_calls.specs.Outbox.{without, writes_of, IsRun}
-use Rattle.store_calls.proofs.Handing.{taken_by}
+use Rattle.store_calls.proofs.Handing.{run_waits, some_first, some_go, taken_by}
+use Rattle.store_calls.proofs.Standing.{IsSentStill, same_sent}
 use Rattle.disk_machine.specs.Asking.{AsksFor, HandsOut}
 use Rattle.disk_machine.specs.Refused.{KeepsRest}
 use Rattle.disk_machine.specs.declared.lack.Lack.{Lack}
@@ -81,31 +78,6 @@ module _ (old new : Machine) (stands : Stands old new) where
 
 -- ---- calls leave the outbox
 
--- what was sent stays, however much of it has left the outbox
-pub record IsSentStill (old new : Window) : Type 0 where
-  pub opening : new.seen.told.opening ≡ old.seen.told.opening
-  pub sent : sent (mirror_of new) ≡ sent (mirror_of old)
-  pub size : (state_of new).size ≡ (state_of old).size
-  pub room : new.room ≡ old.room
-
-pub still : (w : Window) → IsSentStill w w
-still w = record { opening = refl; sent = refl; size = refl; room = refl }
-
-one_goes : (calls : List DeviceCall) (w : Window) → w.outbox ≡ calls → IsSentStill w (take_first calls w)
-one_goes [] w is = still w
-one_goes (call ∷ calls) w is = record {
-  opening = refl;
-  sent = append_assoc w.seen.told.taken (call ∷ []) calls ∙ ap (λ (l : List DeviceCall). w.seen.told.taken ++ l) (sym is);
-  size = refl;
-  room = refl;
-}
-
-pub some_go : (count : ℕ) (w : Window) → IsSentStill w (without count w)
-some_go zero w = still w
-some_go (suc count) w =
-    let before = some_go count w in
-    let last = one_goes (without count w).outbox (without count w) refl in record { opening = cc; sent = cc; size = cc; room = cc }
-
 -- a device that told no fewer done leaves no more
 pub leaves_no_more : (old new : Machine) → IsSentStill (medium_of old.disk) (medium_of new.disk) → carried old ≤ carried new
     → LeavesNoMore old new
@@ -135,7 +107,7 @@ sent_stands old new others fits same reaches = record {
 -- the disk stays, and the device told no fewer done
 pub stays : (old new : Machine) → new.disk ≡ old.disk → carried old ≤ carried new → Stands old new
 stays old new same reaches =
-    sent_stands old new (rw same refl) (λ book fits. rw same fits) (rw same (still (medium_of old.disk))) reaches
+    sent_stands old new (rw same refl) (λ book fits. rw same fits) (rw same (same_sent (medium_of old.disk))) reaches
 
 -- what is to be read changes nothing else
 pub reading_safe : (s : Machine) (lacks : Lack) → StaysSafe s (record s { lack = lacks })
@@ -159,26 +131,6 @@ handed_safe old new count hands le =
     (ap (λ (s : Machine). has_refused s.asked) hands.others ∙ sym (ap (λ (a : Asked). has_refused a) hands.free))
     (ap (λ (s : Machine). s.most) hands.others)
     (λ waits some. ap (λ (s : Machine). is_behind s.asked (medium_of s.disk).outbox) hands.others)
-
-some_first : (calls : List DeviceCall) (call : DeviceCall) → first_of calls ≡ Some call → 1 ≤ length calls
-some_first calls call is = grind (arith, is)
-
-length_of_writes : (count sector : ℕ) (bytes : List ℕ) → length (writes_of count sector bytes) ≡ count
-length_of_writes zero sector bytes = refl
-length_of_writes (suc count) sector bytes = omega (
-  arith,
-  length_of_writes count sector bytes,
-  length-append (writes_of count sector bytes) (Write (record { sector = sector + count; block = sector_of bytes count }) ∷ []),
-)
-
-run_waits : (old new : Window) (sector count : ℕ) (room filled : List ℕ) → IsRun old new sector count room filled
-    → count ≤ length old.outbox
-run_waits old new sector count room filled run = omega (
-  arith,
-  ap (λ (l : List DeviceCall). length l) run.writes,
-  length-append (writes_of count sector filled) new.outbox,
-  length_of_writes count sector filled,
-)
 
 -- a device that reads is as far behind as one that is at no call
 pub read_behind : (home : DeviceRead) (calls : List DeviceCall) → is_behind (asked.Read home) calls ≡ is_behind asked.Nothing calls

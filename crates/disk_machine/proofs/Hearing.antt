@@ -22,8 +22,9 @@ use Rattle.window.specs.declared.done_fault.DoneFault.{DoneFault}
 use Rattle.disk_machine.specs.declared.waiting.Waiting.{Waiting}
 use Rattle.disk_machine.specs.declared.waiting.Waiting.TheVariants as waiting
 use Rattle.disk_machine.proofs.Handing.{Stands, keeps_all, stays_safe}
-use Rattle.store_calls.proofs.Handing.{taken_by}
-use Rattle.disk_machine.proofs.Handing.{IsSentStill, some_go, leaves_no_more, sent_stands, stays, same_safe, read_behind}
+use Rattle.store_calls.proofs.Handing.{some_go, taken_by}
+use Rattle.store_calls.proofs.Standing.{IsSentStill}
+use Rattle.disk_machine.proofs.Handing.{leaves_no_more, sent_stands, stays, same_safe, read_behind}
 use Rattle.disk_machine.proofs.Events.{finds_same}
 
 -- ---- calls are carried out
@@ -115,7 +116,8 @@ AreRead s home bytes = AreHeld (device_so_far (medium_of s.disk)).content home.f
 -- where the disk took them the window has moved
 same_sent : (old new : Window) (first count : ℕ) → new ≡ moved old first count
     → IsSentStill old new × (new.seen.told.taken ≡ old.seen.told.taken)
-same_sent old new first count moves = rw moves (record { opening = refl; sent = refl; size = refl; room = refl }, refl)
+same_sent old new first count moves = rw moves
+    (record { opening = refl; sent = refl; size = refl; left = λ t image left. left; room = refl; near = refl }, refl)
 
 -- where it took none of them it is as it was
 not_taken : (old new : Disk) (first : ℕ) (bytes : List ℕ) → Sees old first bytes new false → new ≡ old

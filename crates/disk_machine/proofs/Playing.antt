@@ -16,7 +16,8 @@ use Rattle.disk_machine.specs.Packets.{PlaysOut, waits_for, SendsIn, AnswersSetu
 use Rattle.window.specs.declared.asked.Asked.{Asked}
 use Rattle.disk_machine.specs.declared.waiting.Waiting.{Waiting}
 use Rattle.disk_machine.specs.declared.waiting.Waiting.TheVariants as waiting
-use Rattle.disk_machine.proofs.Handing.{leaves_no_more, still, keeps_all}
+use Rattle.store_calls.proofs.Standing.{left_on, same_sent}
+use Rattle.disk_machine.proofs.Handing.{leaves_no_more, keeps_all}
 use Rattle.window.specs.Window.{Window, state_of}
 use Rattle.spec.specs.Book.{Book}
 use Rattle.spec.specs.Conversation.{Conversation}
@@ -58,7 +59,9 @@ module _ {work : Work} (old new : Machine) (event : Event) (answer : Answer) (pl
         opening = plays.follows.opening_stays;
         sent = λ i. plays.follows.taken_stays i ++ (plays.faulted dead).0 i;
         size = plays.step.elapses.size_stays;
+        left = left_on _ _ plays.follows.since plays.follows.opening_stays plays.follows.asked;
         room = plays.follows.room_stays;
+        near = plays.follows.near_stays;
       }) (omega (arith, ap (λ (a : Asked). under_way a) same, ap (λ (l : List DeviceCall). length l) plays.follows.taken_stays)),
       (plays.faulted dead).1,
     );
@@ -150,7 +153,7 @@ module _ {work : Work} (old new : Machine) (event : Event) (answer : Answer) (pl
   quiet_leaves book fits rests =
       let same : medium_of new.disk ≡ medium_of old.disk = ap (λ u. u.store.medium) (plays.step.rests book fits rests) in
       leaves_no_more old new
-      (rw same (still (medium_of old.disk)))
+      (rw same (same_sent (medium_of old.disk)))
       (omega (arith, ap (λ (w : Window). length w.seen.told.taken) same, ap (λ (s : Machine). under_way s.asked) others))
 
 -- a request

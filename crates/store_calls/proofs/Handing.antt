@@ -2,12 +2,11 @@
 use Rattle.std.proofs.Common.{◌≡◌, ◌≤◌, ◌<◌, ◌+◌, ◌++◌, ◌∷◌, [], ℕ, zero, suc, length, List, refl, sym, ◌∙◌, ap, arith}
 use Rattle.std.proofs.Common.{append_assoc, length-append}
 use Rattle.std.specs.Prelude.{Some, None}
-use Rattle.medium.specs.Moments.{IsUnchanged}
 use Rattle.medium.specs.Writes.{sector_of}
-use Rattle.window.specs.OutboxMedium.{sent, first_of}
+use Rattle.window.specs.OutboxMedium.{first_of}
 use Rattle.window.specs.declared.call.DeviceCall.{DeviceCall}
 use Rattle.window.specs.declared.call.DeviceCall.TheVariants.{Write, Flush}
-use Rattle.window.specs.Window.{Window, state_of, mirror_of, take_first}
+use Rattle.window.specs.Window.{Window, take_first}
 use Rattle.blocks.specs.StoreValue.{Cached, layout_of}
 use Rattle.window.specs.declared.ask.DeviceAsk.{DeviceAsk}
 use Rattle.window.specs.declared.ask.DeviceAsk.TheVariants as ask
@@ -18,51 +17,32 @@ use Rattle.store_calls.specs.Serving.{StaysSafe}
 use Rattle.store_calls.specs.StoreMachine.{Machine, under_way, is_behind}
 use Rattle.window.specs.declared.asked.Asked.{Asked}
 use Rattle.window.specs.declared.asked.Asked.TheVariants as asked
-use Rattle.store_calls.proofs.Standing.{IsSentStill, Stands, stays_safe, store_stays, nothing_changes}
+use Rattle.store_calls.proofs.Standing.{IsSentStill, Stands, same_sent, stays_safe, store_stays, nothing_changes}
 
-one_goes : (calls : List DeviceCall) (w : Window) → w.outbox ≡ calls → sent (mirror_of (take_first calls w)) ≡ sent (mirror_of w)
-one_goes [] w is = refl
-one_goes (call ∷ calls) w is =
-    append_assoc w.seen.told.taken (call ∷ []) calls ∙ ap (λ (l : List DeviceCall). w.seen.told.taken ++ l) (sym is)
-
-sent_stays : (count : ℕ) (w : Window) → sent (mirror_of (without count w)) ≡ sent (mirror_of w)
-sent_stays zero w = refl
-sent_stays (suc count) w = one_goes (without count w).outbox (without count w) refl ∙ sent_stays count w
-
-opening_one : (calls : List DeviceCall) (w : Window) → (take_first calls w).seen.told.opening ≡ w.seen.told.opening
-opening_one [] w = refl
-opening_one (call ∷ calls) w = refl
-
-opening_stays : (count : ℕ) (w : Window) → (without count w).seen.told.opening ≡ w.seen.told.opening
-opening_stays zero w = refl
-opening_stays (suc count) w = opening_one (without count w).outbox (without count w) ∙ opening_stays count w
-
-room_one : (calls : List DeviceCall) (w : Window) → (take_first calls w).room ≡ w.room
-room_one [] w = refl
-room_one (call ∷ calls) w = refl
-
-room_stays : (count : ℕ) (w : Window) → (without count w).room ≡ w.room
-room_stays zero w = refl
-room_stays (suc count) w = room_one (without count w).outbox (without count w) ∙ room_stays count w
-
-near_one : (calls : List DeviceCall) (w : Window) → (take_first calls w).near ≡ w.near
-near_one [] w = refl
-near_one (call ∷ calls) w = refl
-
-near_stays : (count : ℕ) (w : Window) → (without count w).near ≡ w.near
-near_stays zero w = refl
-near_stays (suc count) w = near_one (without count w).outbox (without count w) ∙ near_stays count w
-
--- as many calls left it
-pub some_go : (count : ℕ) (old new : Window) → new ≡ without count old → IsUnchanged (state_of old) (state_of new) → IsSentStill old new
-some_go count old new gone same = record {
-  opening = ap (λ (w : Window). w.seen.told.opening) gone ∙ opening_stays count old;
-  sent = ap (λ (w : Window). sent (mirror_of w)) gone ∙ sent_stays count old;
-  size = same.size_stays;
-  left = same.left_grows;
-  room = ap (λ (w : Window). w.room) gone ∙ room_stays count old;
-  near = ap (λ (w : Window). w.near) gone ∙ near_stays count old;
+one_goes : (calls : List DeviceCall) (w : Window) → w.outbox ≡ calls → IsSentStill w (take_first calls w)
+one_goes [] w is = same_sent w
+one_goes (call ∷ calls) w is = record {
+  opening = refl;
+  sent = append_assoc w.seen.told.taken (call ∷ []) calls ∙ ap (λ (l : List DeviceCall). w.seen.told.taken ++ l) (sym is);
+  size = refl;
+  left = λ t image left. record { at = left.at; later = left.later; past = left.past; cut = left.cut };
+  room = refl;
+  near = refl;
 }
+
+-- so many calls leave the outbox
+pub some_go : (count : ℕ) (w : Window) → IsSentStill w (without count w)
+some_go zero w = same_sent w
+some_go (suc count) w =
+    let before = some_go count w in
+    let last = one_goes (without count w).outbox (without count w) refl in record {
+      opening = cc;
+      sent = cc;
+      size = cc;
+      left = λ t image left. last.left t image (before.left t image left);
+      room = cc;
+      near = cc;
+    }
 
 one_fewer : (calls : List DeviceCall) (w : Window) → w.outbox ≡ calls → 0 < length calls
     → length (take_first calls w).outbox + 1 ≡ length w.outbox
@@ -81,7 +61,7 @@ pub taken_by : (count : ℕ) (w : Window) → count ≤ length w.outbox
 taken_by count w le = omega (
   arith,
   fewer_wait count w le,
-  ap (λ (l : List DeviceCall). length l) (sent_stays count w),
+  ap (λ (l : List DeviceCall). length l) (some_go count w).sent,
   length-append (without count w).seen.told.taken (without count w).outbox,
   length-append w.seen.told.taken w.outbox,
 )
@@ -89,7 +69,7 @@ taken_by count w le = omega (
 -- calls that left the outbox are under way
 handed_stands : (old new : Machine) (count : ℕ) → HandsOut old count new → count ≤ length old.store.medium.outbox → Stands old new
 handed_stands old new count hands le = record {
-  sent = some_go count old.store.medium new.store.medium hands.gone hands.untouched.unchanged;
+  sent = rw hands.gone (some_go count old.store.medium);
   reaches = omega (
     arith,
     ap (λ (a : Asked). under_way a) hands.free,
@@ -103,8 +83,7 @@ handed_stands old new count hands le = record {
 }
 
 pub some_first : (calls : List DeviceCall) (call : DeviceCall) → first_of calls ≡ Some call → 1 ≤ length calls
-some_first [] call is = cc
-some_first (first ∷ calls) call is = omega arith
+some_first calls call is = grind (arith, is)
 
 pub none_first : (calls : List DeviceCall) → first_of calls ≡ None → calls ≡ []
 none_first [] is = refl

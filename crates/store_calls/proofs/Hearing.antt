@@ -32,7 +32,7 @@ counted_safe old count was = stays_safe old (carried_out old) (store_stays old (
 given_up_stands : (old new : Machine) (count : ℕ) → old.asked ≡ asked.Calls count → EndsRefused old count new → Stands old new
 given_up_stands old new count was given_up =
     let gone = given_up.refused.emptied.medium in record {
-      sent = some_go (length old.store.medium.outbox) old.store.medium new.store.medium gone given_up.refused.unchanged;
+      sent = rw gone (some_go (length old.store.medium.outbox) old.store.medium);
       reaches = omega (
         arith,
         ap (λ (a : Asked). under_way a) was,
