@@ -4,31 +4,16 @@ use Rattle.std.proofs.Common.{subst, arith, append_assoc, length-append, Some, N
 use Rattle.std.proofs.lemmas.Bool.{cases_lt, false≢true}
 use Rattle.std.proofs.lemmas.List.{take-append-le, append-nil}
 use Rattle.medium.specs.Medium.{Image, CutLeaves}
-use Rattle.window.specs.Device.{durable, after}
-use Rattle.window.specs.OutboxMedium.{sent}
-use Rattle.window.specs.Parts.{AreCarriedOut}
-use Rattle.window.specs.Story.{given}
-use Rattle.window.specs.declared.call.DeviceCall.{DeviceCall}
-use Rattle.window.specs.Window.{state_of, mirror_of}
-use Rattle.spec.specs.Blocks.{Write}
-use Rattle.spec.specs.Book.{Book}
-use Rattle.spec.specs.Conversation.{Conversation}
-use Rattle.spec.specs.Rules.{UnitState}
-use Rattle.spec.specs.UnitConversation.{UnitStep, write_of_event}
-use Rattle.spec.specs.declared.event.Event.{Event}
-use Rattle.spec.specs.declared.event.Answer.{Answer}
-use Rattle.scsi_unit.specs.Background.{Work}
-use Rattle.scsi_unit.specs.Books.{MayFind, FoundWith}
-use Rattle.scsi_unit.specs.Laws.{IsSameLife}
+use Rattle.window.specs.{Device.{durable, after}, OutboxMedium.sent, Parts.AreCarriedOut, Story.given, declared.call.DeviceCall.DeviceCall}
+use Rattle.window.specs.{Window.{state_of, mirror_of}, declared.asked.Asked.Asked}
+use Rattle.spec.specs.{Blocks.Write, Book.Book, Conversation.Conversation, Rules.UnitState, UnitConversation.{UnitStep, write_of_event}}
+use Rattle.spec.specs.{declared.event.Event.Event, declared.event.Answer.Answer}
+use Rattle.scsi_unit.specs.{Background.Work, Books.{MayFind, FoundWith}, Laws.IsSameLife}
 use Rattle.scsi_unit.specs.Serving as serving
-use Rattle.bot_machine.specs.Disk.{FitsDisk, over}
-use Rattle.bot_machine.specs.Promising.{PromisesNone}
-use Rattle.bot_machine.specs.BookLaws.{GrowsBy}
+use Rattle.bot_machine.specs.{Disk.{FitsDisk, over}, Promising.PromisesNone, BookLaws.GrowsBy}
 use Rattle.bot_machine.proofs.BookLaws.{book_laws}
-use Rattle.disk_machine.specs.Plays.{medium_of, PlaysBy}
-use Rattle.disk_machine.specs.Machine.{Machine, MayLeave, Finds, Keeps, has_refused, under_way, carried, promising}
-use Rattle.disk_machine.specs.Moves.{ServesEvent}
-use Rattle.window.specs.declared.asked.Asked.{Asked}
+use Rattle.disk_machine.specs.{Plays.{medium_of, PlaysBy}, Machine.{Machine, MayLeave, Finds, Keeps, has_refused, under_way, carried}}
+use Rattle.disk_machine.specs.{Machine.promising, Moves.ServesEvent}
 use Rattle.disk_machine.specs.declared.waiting.Waiting.TheVariants as waiting
 use Rattle.disk_machine.proofs.Handing.{KeepsAll}
 

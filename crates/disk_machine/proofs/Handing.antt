@@ -1,28 +1,18 @@
 -- A machine whose disk is as it was but for its medium: calls leave the outbox, and are under way.
 use Rattle.std.proofs.Common.{◌≡◌, ◌⊎◌, ℕ, sym, ◌∙◌, ap, subst, inl, inr, arith, ◌≤◌, ◌+◌, ◌++◌, ◌∷◌, [], zero, suc, length, List}
 use Rattle.std.proofs.Common.{refl, append_assoc, length-append}
-use Rattle.window.specs.Window.{state_of, Window}
-use Rattle.spec.specs.Book.{Book}
-use Rattle.spec.specs.Rules.{UnitState}
+use Rattle.window.specs.{Window.{state_of, Window}, declared.call.DeviceCall.DeviceCall, declared.call.DeviceCall.TheVariants.Flush}
+use Rattle.window.specs.{declared.ask.DeviceRead.DeviceRead, declared.ask.DeviceAsk.DeviceAsk, declared.asked.Asked.Asked}
+use Rattle.spec.specs.{Book.Book, Rules.UnitState}
 use Rattle.scsi_unit.specs.UnitValue.{state_of as unit_state}
 use Rattle.scsi_unit.specs.Background.{is_dead}
 use Rattle.bot_machine.specs.Disk.{FitsDisk, IsRearmed}
-use Rattle.disk_machine.specs.Plays.{Disk, medium_of, layout_on}
-use Rattle.disk_machine.specs.Room.{room_for}
-use Rattle.disk_machine.specs.Machine.{Machine, Finds, Keeps, IsCaughtUp, has_refused, carried, under_way}
-use Rattle.disk_machine.specs.Moves.{ServesAtRest, LeavesNoMore, WaitsForDevice, StaysSafe, is_behind}
+use Rattle.disk_machine.specs.{Plays.{Disk, medium_of, layout_on}, Room.room_for, Machine.{Machine, Finds, Keeps, IsCaughtUp, has_refused}}
+use Rattle.disk_machine.specs.{Machine.{carried, under_way}, Moves.{ServesAtRest, LeavesNoMore, WaitsForDevice, StaysSafe, is_behind}}
+use Rattle.disk_machine.specs.{Asking.{AsksFor, HandsOut}, Refused.KeepsRest, declared.lack.Lack.Lack}
 use Rattle.disk_machine.specs.declared.waiting.Waiting.TheVariants as waiting
-use Rattle.window.specs.declared.call.DeviceCall.{DeviceCall}
-use Rattle.window.specs.declared.call.DeviceCall.TheVariants.{Flush}
-use Rattle.window.specs.declared.ask.DeviceRead.{DeviceRead}
-use Rattle.store_calls.proofs.Handing.{run_waits, some_first, some_go, taken_by}
-use Rattle.store_calls.proofs.Standing.{IsSentStill, same_sent}
-use Rattle.disk_machine.specs.Asking.{AsksFor, HandsOut}
-use Rattle.disk_machine.specs.Refused.{KeepsRest}
-use Rattle.disk_machine.specs.declared.lack.Lack.{Lack}
-use Rattle.window.specs.declared.ask.DeviceAsk.{DeviceAsk}
+use Rattle.store_calls.proofs.{Handing.{run_waits, some_first, some_go, taken_by}, Standing.{IsSentStill, same_sent}}
 use Rattle.window.specs.declared.ask.DeviceAsk.TheVariants as ask
-use Rattle.window.specs.declared.asked.Asked.{Asked}
 use Rattle.window.specs.declared.asked.Asked.TheVariants as asked
 
 pub record Stands (old new : Machine) : Type 0 where

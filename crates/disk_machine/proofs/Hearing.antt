@@ -3,29 +3,21 @@ use Rattle.std.proofs.Common.{◌≡◌, ◌≢◌, ◌⊎◌, ◌≤◌, ◌/�
 use Rattle.std.proofs.Common.{ap, subst, arith}
 use Rattle.std.specs.Prelude.{Result}
 use Rattle.std.proofs.lemmas.Bool.{false≢true}
-use Rattle.window.specs.declared.call.DeviceCall.{DeviceCall}
-use Rattle.window.specs.Window.{Window, state_of, moved, device_so_far}
+use Rattle.window.specs.{declared.call.DeviceCall.DeviceCall, Window.{Window, state_of, moved, device_so_far}}
+use Rattle.window.specs.{declared.ask.DeviceRead.DeviceRead, declared.asked.Asked.Asked, declared.done_fault.DoneFault.DoneFault}
 use Rattle.medium.specs.Inlet.{AreHeld}
 use Rattle.spec.specs.Book.{Book}
 use Rattle.scsi_unit.specs.UnitValue.{state_of as unit_state}
-use Rattle.window.specs.declared.ask.DeviceRead.{DeviceRead}
 use Rattle.store_calls.specs.Outbox.{without}
-use Rattle.disk_machine.specs.Plays.{Disk, medium_of, layout_on, Sees}
-use Rattle.disk_machine.specs.Room.{room_for}
+use Rattle.disk_machine.specs.{Plays.{Disk, medium_of, layout_on, Sees}, Room.room_for, Asking.{counted, waits_behind, read_over}}
+use Rattle.disk_machine.specs.{Asking.{IsGivenUp, IsShownTo, IsDone, IsHonest}, Machine.{Machine, has_refused, under_way, carried}}
+use Rattle.disk_machine.specs.{Moves.{ServesAtRest, StaysSafe, is_behind}, declared.waiting.Waiting.Waiting}
 use Rattle.scsi_unit.specs.Background.{is_dead}
-use Rattle.disk_machine.specs.Asking.{counted, waits_behind, read_over, IsGivenUp, IsShownTo, IsDone, IsHonest}
-use Rattle.disk_machine.specs.Machine.{Machine, has_refused, under_way, carried}
-use Rattle.disk_machine.specs.Moves.{ServesAtRest, StaysSafe, is_behind}
-use Rattle.window.specs.declared.asked.Asked.{Asked}
 use Rattle.window.specs.declared.asked.Asked.TheVariants as asked
-use Rattle.window.specs.declared.done_fault.DoneFault.{DoneFault}
-use Rattle.disk_machine.specs.declared.waiting.Waiting.{Waiting}
 use Rattle.disk_machine.specs.declared.waiting.Waiting.TheVariants as waiting
-use Rattle.disk_machine.proofs.Handing.{Stands, keeps_all, stays_safe}
-use Rattle.store_calls.proofs.Handing.{some_go, taken_by}
-use Rattle.store_calls.proofs.Standing.{IsSentStill}
-use Rattle.disk_machine.proofs.Handing.{leaves_no_more, sent_stands, stays, same_safe, read_behind}
-use Rattle.disk_machine.proofs.Events.{finds_same}
+use Rattle.disk_machine.proofs.{Handing.{Stands, keeps_all, stays_safe, leaves_no_more, sent_stands, stays, same_safe, read_behind}}
+use Rattle.disk_machine.proofs.{Events.finds_same}
+use Rattle.store_calls.proofs.{Handing.{some_go, taken_by}, Standing.IsSentStill}
 
 -- ---- calls are carried out
 

@@ -2,27 +2,19 @@
 use Rattle.std.specs.Prelude.{Some}
 use Rattle.std.proofs.Common.{◌≡◌, ◌⊎◌, ◌<◌, ◌≤◌, ◌+◌, ◌∙◌, ℕ, zero, suc, Bool, true, false, List, [], inl, inr, ap, sym, subst, arith, ◌-◌}
 use Rattle.std.proofs.Common.{◌*◌, ◌/◌, ◌++◌, length, take, drop, min, add-one, length-drop}
-use Rattle.spec.specs.Book.{Book}
-use Rattle.spec.specs.Rules.{checked}
+use Rattle.spec.specs.{Book.Book, Rules.checked, declared.event.Answer.Answer}
 use Rattle.spec.specs.declared.event.Event.TheVariants as event
 use Rattle.spec.specs.declared.event.Answer.TheVariants as answer
-use Rattle.scsi_unit.specs.Background.{Work, Settle, Ahead, WriteBack, TellsWork, is_dead, steps_left}
-use Rattle.scsi_unit.specs.UnitValue.{IsOfSize}
-use Rattle.bot_machine.specs.Disk.{over}
-use Rattle.bot_machine.specs.Promising.{PromisesNone}
+use Rattle.scsi_unit.specs.{Background.{Work, Settle, Ahead, WriteBack, TellsWork, is_dead, steps_left}, UnitValue.IsOfSize}
+use Rattle.bot_machine.specs.{Disk.over, Promising.PromisesNone}
 use Rattle.bot_machine.proofs.UnitLaws.{ahead_fewer, both_empty, plain_quiet}
 use Rattle.window.specs.Window.{state_of}
-use Rattle.disk_machine.specs.Plays.{Disk, medium_of, PlaysBy, StepsWhile}
-use Rattle.disk_machine.specs.Refusals.{HasWritten, IsQuietPacket}
-use Rattle.disk_machine.specs.PuttingOff.{MayGoOn, TellsNext, WritesOn}
+use Rattle.disk_machine.specs.{Plays.{Disk, medium_of, PlaysBy, StepsWhile}, Refusals.{HasWritten, IsQuietPacket}, PuttingOff.MayGoOn}
+use Rattle.disk_machine.specs.{PuttingOff.{TellsNext, WritesOn}, Codes.code_of, Machine.Machine, Packets.{TakesOne, TakesOut, SendsIn}}
+use Rattle.disk_machine.specs.{Transfers.{HasPacket, packet_at, TakesFirst, SendsFirst}}
 use Rattle.std.proofs.lemmas.List.{take_min, take_all, drop_all, append-nil, length-take}
 use Rattle.std.proofs.Math.Nat.{mul-le-mul_right, div-mul-le_self}
 use borrow.Rule.Slice.PartMut.{put_mid}
-use Rattle.spec.specs.declared.event.Answer.{Answer}
-use Rattle.disk_machine.specs.Codes.{code_of}
-use Rattle.disk_machine.specs.Machine.{Machine}
-use Rattle.disk_machine.specs.Packets.{TakesOne, TakesOut, SendsIn}
-use Rattle.disk_machine.specs.Transfers.{HasPacket, packet_at, TakesFirst, SendsFirst}
 
 -- a store that lives behind a step lived before it
 still_live : (old new : Disk) → (is_dead old.unit.store.cached ≡ true → is_dead new.unit.store.cached ≡ true)

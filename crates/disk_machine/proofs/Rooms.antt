@@ -5,38 +5,22 @@ use Rattle.std.specs.Prelude.{Option}
 use Rattle.std.specs.List.{list_all}
 use Rattle.std.proofs.lemmas.Bool.{cases_Bool}
 use Rattle.std.proofs.lemmas.List.{append-nil, nil_from_length}
-use Rattle.journal.specs.Places.{Shape}
-use Rattle.journal.specs.Sectors.{IsSuper}
-use Rattle.medium.specs.Sent.{sent}
+use Rattle.journal.specs.{Places.Shape, Sectors.IsSuper}
+use Rattle.medium.specs.{Sent.sent, Writes.sector_of}
 use Rattle.medium.specs.declared.fault.MediumFault.TheVariants as kind
-use Rattle.medium.specs.Writes.{sector_of}
-use Rattle.window.specs.Story.{given}
-use Rattle.window.specs.declared.call.DeviceCall.{DeviceCall}
-use Rattle.window.specs.Window.{Window, fresh, state_of, is_in_sight, ComesAfter, IsServed}
-use Rattle.window.specs.WindowLaws.{is_sound, comes_after_itself}
-use Rattle.window.specs.Looks.{near_in_sight, none_refused, none_missed, none_kept_out}
-use Rattle.scsi_unit.specs.Background.{Work}
-use Rattle.scsi_unit.specs.Calls.{SendsOneBatch}
-use Rattle.scsi_unit.specs.Reading.{first_home_of}
-use Rattle.scsi_unit.specs.Starting.{blocks_of}
-use Rattle.spec.specs.Book.{Book, opened}
+use Rattle.window.specs.{Story.given, declared.call.DeviceCall.DeviceCall, Window.{Window, fresh, state_of, is_in_sight, ComesAfter}}
+use Rattle.window.specs.{Window.IsServed, WindowLaws.{is_sound, comes_after_itself}, Looks.{near_in_sight, none_refused, none_missed}}
+use Rattle.window.specs.{Looks.none_kept_out}
+use Rattle.scsi_unit.specs.{Background.Work, Calls.SendsOneBatch, Reading.first_home_of, Starting.blocks_of, StartFaults.StartFault}
+use Rattle.spec.specs.{Book.{Book, opened}, Exchange.{in_answer, after_in}, declared.event.Event.Event, declared.event.Answer.Answer}
 use Rattle.bot_machine.proofs.OutPackets.{token}
-use Rattle.spec.specs.Exchange.{in_answer, after_in}
-use Rattle.bot_machine.specs.Device.{Device}
-use Rattle.bot_machine.specs.Disk.{IsStepBy}
+use Rattle.bot_machine.specs.{Device.Device, Disk.IsStepBy, Opening.{IsOpened, IsNotOpened, StartLeaves, LeavesMedium}, Reading.ReadsAt}
 use Rattle.recovery.specs.declared.start_fault.StartFault.TheVariants as fault
-use Rattle.scsi_unit.specs.StartFaults.{StartFault}
-use Rattle.bot_machine.specs.Opening.{IsOpened, IsNotOpened, StartLeaves, LeavesMedium}
-use Rattle.bot_machine.specs.Reading.{ReadsAt}
-use Rattle.spec.specs.declared.event.Event.{Event}
 use Rattle.spec.specs.declared.event.Event.TheVariants as event
-use Rattle.spec.specs.declared.event.Answer.{Answer}
-use Rattle.disk_machine.specs.Plays.{Disk, medium_of, layout_on, Foresees, Plays, PlaysBy, EndsIn}
-use Rattle.disk_machine.specs.Refusals.{HasRoomFor, HasRoomOnce, IsQuietPacket, MakesOneBatch, IsRoomy, HoldsLog, SeesHome}
-use Rattle.disk_machine.specs.Refusals.{HoldsImageLog}
+use Rattle.disk_machine.specs.{Plays.{Disk, medium_of, layout_on, Foresees, Plays, PlaysBy, EndsIn}, Refusals.{HasRoomFor, HasRoomOnce}}
+use Rattle.disk_machine.specs.{Refusals.{IsQuietPacket, MakesOneBatch, IsRoomy, HoldsLog, SeesHome, HoldsImageLog}, Room.room_for}
 use Rattle.store_calls.proofs.Served.{start_refuses}
 use Rattle.store_calls.proofs.StartedStore as started
-use Rattle.disk_machine.specs.Room.{room_for}
 use Rattle.window.proofs.Kept.{opened_front}
 
 -- a book of the disk's size

@@ -1,11 +1,8 @@
 -- What the device is to read before a READ of the host lacks it.
 use Rattle.std.specs.Prelude.{◌≡◌, ℕ, Bool, true, false, []}
 use Rattle.window.specs.Window.{state_of}
-use Rattle.scsi_unit.specs.Reading.{AreHome}
-use Rattle.scsi_unit.specs.UnitValue.{unit_limit}
-use Rattle.disk_machine.specs.Plays.{Disk, medium_of}
-use Rattle.disk_machine.specs.Machine.{Machine}
-use Rattle.disk_machine.specs.Moves.{StaysSafe}
+use Rattle.scsi_unit.specs.{Reading.AreHome, UnitValue.unit_limit}
+use Rattle.disk_machine.specs.{Plays.{Disk, medium_of}, Machine.Machine, Moves.StaysSafe}
 use Rattle.window.specs.declared.asked.Asked.TheVariants as asked
 use Rattle.disk_machine.specs.declared.lack.Lack.TheVariants as lack
 

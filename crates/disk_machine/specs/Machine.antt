@@ -2,21 +2,15 @@
 -- handed while packets come.
 use Rattle.std.specs.Prelude.{◌≡◌, ◌⊎◌, ℕ, ◌+◌, ◌-◌, ◌≤◌, Bool, true, false, List, [], length, take}
 use Rattle.medium.specs.Medium.{Image, CutLeaves}
-use Rattle.window.specs.Device.{durable, after}
-use Rattle.window.specs.OutboxMedium.{sent}
-use Rattle.window.specs.Parts.{AreCarriedOut}
-use Rattle.window.specs.declared.call.DeviceCall.{DeviceCall}
-use Rattle.window.specs.Window.{state_of, mirror_of}
-use Rattle.spec.specs.Blocks.{Write}
-use Rattle.spec.specs.Book.{Book, with_write}
-use Rattle.spec.specs.Rules.{UnitState}
+use Rattle.window.specs.{Device.{durable, after}, OutboxMedium.sent, Parts.AreCarriedOut}
+use Rattle.window.specs.{declared.call.DeviceCall.DeviceCall, Window.{state_of, mirror_of}}
+use Rattle.window.specs.{declared.asked.Asked.Asked}
+use Rattle.spec.specs.{Blocks.Write, Book.{Book, with_write}, Rules.UnitState}
 use Rattle.scsi_unit.specs.Books.{MayFind}
 use Rattle.scsi_unit.specs.UnitValue.{state_of as unit_state}
 use Rattle.bot_machine.specs.Disk.{FitsDisk}
-use Rattle.disk_machine.specs.Plays.{medium_of}
-use Rattle.window.specs.declared.asked.Asked.{Asked}
+use Rattle.disk_machine.specs.{Plays.medium_of, declared.machine.DiskMachine.DiskMachine}
 use Rattle.window.specs.declared.asked.Asked.TheVariants as asked
-use Rattle.disk_machine.specs.declared.machine.DiskMachine.{DiskMachine}
 use Rattle.disk_machine.specs.declared.waiting.Waiting.TheVariants as waiting
 
 -- a disk, how many calls may wait in its outbox when a packet is taken, what the device was asked

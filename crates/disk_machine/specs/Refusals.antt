@@ -2,20 +2,16 @@
 -- read of a sector that is not in sight.
 use Rattle.std.specs.Prelude.{⊤, ◌⊎◌, ℕ, ◌+◌, ◌≤◌, List, length}
 use Rattle.journal.specs.Places.{first_home}
-use Rattle.spec.specs.Book.{Book}
-use Rattle.spec.specs.declared.event.Event.{Event}
+use Rattle.spec.specs.{Book.Book, declared.event.Event.Event}
 use Rattle.spec.specs.declared.event.Event.TheVariants as event
-use Rattle.scsi_unit.specs.Background.{IsWritten, IsPrepared}
-use Rattle.scsi_unit.specs.Calls.{most_sends_of}
-use Rattle.scsi_unit.specs.UnitValue.{IsOfSize}
-use Rattle.bot_machine.specs.Disk.{over}
-use Rattle.bot_machine.specs.Promising.{PromisesNone, QuietIn}
+use Rattle.scsi_unit.specs.{Background.{IsWritten, IsPrepared}, Calls.most_sends_of}
+use Rattle.scsi_unit.specs.{UnitValue.IsOfSize}
+use Rattle.bot_machine.specs.{Disk.over, Promising.{PromisesNone, QuietIn}}
 -- handed on: that no call was refused from one moment to another, and in a start
 pub use Rattle.store_calls.specs.Rooms.{RefusesNothing, HasRoomToStart, HoldsImageLog}
 pub use Rattle.store_calls.specs.Rooms.{StartRefusesNothing}
-use Rattle.disk_machine.specs.Room.{most_sent, room_for}
-use Rattle.disk_machine.specs.Seen.{Disk, medium_of, layout_on}
-use Rattle.disk_machine.specs.Wanted.{WantsNone}
+use Rattle.disk_machine.specs.{Room.{most_sent, room_for}, Seen.{Disk, medium_of, layout_on}}
+use Rattle.disk_machine.specs.{Wanted.WantsNone}
 
 -- ---- an event
 

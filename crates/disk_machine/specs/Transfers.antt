@@ -1,10 +1,8 @@
 -- Whole transfers of a host: the packets of an endpoint, one after the other.
 use Rattle.std.specs.Prelude.{◌≡◌, ◌≢◌, ◌⊎◌, ℕ, zero, suc, ◌+◌, ◌*◌, ◌<◌, ◌≤◌, ◌==◌, ◌++◌, List}
 use Rattle.std.specs.Prelude.{length, take, drop, if◌then◌else◌}
-use Rattle.disk_machine.specs.Codes.{BAD_LENGTH}
-use Rattle.disk_machine.specs.Plays.{Disk, SendsPacket}
-use Rattle.disk_machine.specs.Machine.{Machine}
-use Rattle.disk_machine.specs.Packets.{TakesOut, SendsIn}
+use Rattle.disk_machine.specs.{Codes.BAD_LENGTH, Plays.{Disk, SendsPacket}, Machine.Machine}
+use Rattle.disk_machine.specs.{Packets.{TakesOut, SendsIn}}
 
 -- ---- to Bulk-Out
 

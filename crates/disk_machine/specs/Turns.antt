@@ -2,21 +2,17 @@
 use Rattle.std.specs.Prelude.{◌≡◌, ◌⊎◌, ◌++◌, ℕ, zero, suc, ◌*◌, Bool, false, List, [], ◌∷◌}
 use Rattle.std.specs.Prelude.{drop}
 use Rattle.std.proofs.Common.{inl, inr}
-use Rattle.spec.specs.Rules.{UnitState}
-use Rattle.spec.specs.Conversation.{Conversation}
-use Rattle.spec.specs.UnitConversation.{UnitStep, UnitRun}
-use Rattle.spec.specs.declared.event.Event.{Event}
+use Rattle.spec.specs.{Rules.UnitState, Conversation.Conversation, UnitConversation.UnitStep}
+use Rattle.spec.specs.{UnitConversation.UnitRun, declared.event.Event.Event}
+use Rattle.spec.specs.{declared.event.Answer.Answer}
 use Rattle.spec.specs.declared.event.Event.TheVariants as event
-use Rattle.spec.specs.declared.event.Answer.{Answer}
 use Rattle.spec.specs.declared.event.Answer.TheVariants as answer
 use Rattle.bot_machine.specs.Faulting.{faulted_over}
-use Rattle.disk_machine.specs.Idling.{HasGoneAhead, HasStepped, WorksAtRest}
-use Rattle.disk_machine.specs.Machine.{Machine}
-use Rattle.disk_machine.specs.Packets.{TakesOne, TakesOut, SendsIn}
-use Rattle.disk_machine.specs.Plays.{Disk}
-use Rattle.disk_machine.specs.PuttingOff.{WaitsForSteps, WaitsForCalls}
-use Rattle.disk_machine.specs.Transfers.{packet_at, TakesFirst, EndsTaking, TakesTransfer, SendsAt}
-use Rattle.disk_machine.specs.Transfers.{SendsFirst, EndsSending, SendsTransfer, SendsInto}
+use Rattle.disk_machine.specs.{Idling.{HasGoneAhead, HasStepped, WorksAtRest}, Machine.Machine}
+use Rattle.disk_machine.specs.{Packets.{TakesOne, TakesOut, SendsIn}, Plays.Disk}
+use Rattle.disk_machine.specs.{PuttingOff.{WaitsForSteps, WaitsForCalls}, Transfers.packet_at}
+use Rattle.disk_machine.specs.{Transfers.{TakesFirst, EndsTaking, TakesTransfer, SendsAt}}
+use Rattle.disk_machine.specs.{Transfers.{SendsFirst, EndsSending, SendsTransfer, SendsInto}}
 use Rattle.window.specs.declared.asked.Asked.{Asked}
 use Rattle.window.specs.declared.asked.Asked.TheVariants as asked
 

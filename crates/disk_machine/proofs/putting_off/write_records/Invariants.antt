@@ -1,5 +1,4 @@
-use Rattle.disk_machine.specs.PuttingOff.{MayGoOn}
-use Rattle.disk_machine.specs.Plays.{StepsWhile}
+use Rattle.disk_machine.specs.{PuttingOff.MayGoOn, Plays.StepsWhile}
 use Rattle.disk_machine.proofs.putting_off.write_records.Given as goal
 
 -- `_made` steps were made

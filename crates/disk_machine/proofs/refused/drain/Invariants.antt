@@ -1,7 +1,6 @@
 use Rattle.std.proofs.Common.{◌≡◌}
 use Rattle.store_calls.specs.Outbox.{without}
-use Rattle.disk_machine.specs.Plays.{medium_of}
-use Rattle.disk_machine.specs.Refused.{KeepsRest}
+use Rattle.disk_machine.specs.{Plays.medium_of, Refused.KeepsRest}
 use Rattle.disk_machine.proofs.refused.drain.Given as goal
 
 -- `_gone` calls left the outbox

@@ -1,10 +1,8 @@
 -- What was emptied is told that the device refused.
 use Rattle.std.proofs.Common.{◌≡◌, sym, ◌∙◌, ap}
 use Rattle.window.specs.Window.{Window}
-use Rattle.bot_machine.specs.Disk.{IsRearmed, over}
-use Rattle.bot_machine.specs.Faulting.{faulted_disk}
-use Rattle.disk_machine.specs.Plays.{Disk, medium_of}
-use Rattle.disk_machine.specs.Refused.{IsDrained}
+use Rattle.bot_machine.specs.{Disk.{IsRearmed, over}, Faulting.faulted_disk}
+use Rattle.disk_machine.specs.{Plays.{Disk, medium_of}, Refused.IsDrained}
 use Rattle.disk_machine.proofs.refused.refuse.Goals as goal
 
 -- the disk with another medium, faulted

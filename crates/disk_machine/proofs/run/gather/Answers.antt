@@ -1,6 +1,5 @@
 use Rattle.std.proofs.Common.{sym, ◌∙◌, ap, refl}
-use Rattle.window.specs.OutboxMedium.{first_of}
-use Rattle.window.specs.Window.{Window}
+use Rattle.window.specs.{OutboxMedium.first_of, Window.Window}
 use Rattle.store_calls.proofs.OutboxTaken.{more}
 use Rattle.disk_machine.specs.Plays.{medium_of}
 use Rattle.disk_machine.proofs.Handing.{none_yet, one_more}

@@ -1,6 +1,5 @@
 use Rattle.store_calls.specs.Outbox.{IsRun}
-use Rattle.disk_machine.specs.Plays.{medium_of}
-use Rattle.disk_machine.specs.Refused.{KeepsRest}
+use Rattle.disk_machine.specs.{Plays.medium_of, Refused.KeepsRest}
 use Rattle.disk_machine.proofs.run.gather.Given as goal
 
 -- `at` writes were handed out

@@ -1,7 +1,5 @@
 use Rattle.std.proofs.Common.{inr, refl, sym, ◌∙◌, ap, Some}
-use Rattle.window.specs.OutboxMedium.{first_of}
-use Rattle.window.specs.declared.call.DeviceCall.{DeviceCall}
-use Rattle.window.specs.Window.{Window}
+use Rattle.window.specs.{OutboxMedium.first_of, declared.call.DeviceCall.DeviceCall, Window.Window}
 use Rattle.store_calls.proofs.Handing.{none_first}
 use Rattle.disk_machine.proofs.machine.DiskMachine.ask_in_order.Goals as goal
 

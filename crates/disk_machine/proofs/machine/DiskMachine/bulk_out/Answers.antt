@@ -1,11 +1,9 @@
 use Rattle.std.proofs.Common.{◌≡◌, ◌≤◌, length, ◌∙◌, inl, inr, refl, sym, arith}
 use Rattle.std.proofs.lemmas.Bool.{false≢true}
-use Rattle.disk_machine.specs.Packets.{HoldsBack}
-use Rattle.disk_machine.specs.PuttingOff.{IsPromise, PutsOff}
-use Rattle.disk_machine.proofs.Playing.{out_serves}
-use Rattle.disk_machine.proofs.Handing.{reading_safe}
+use Rattle.disk_machine.specs.{Packets.HoldsBack, PuttingOff.{IsPromise, PutsOff}}
+use Rattle.disk_machine.proofs.{Playing.out_serves, Handing.reading_safe, machine.DiskMachine.bulk_out.Goals.Else-holds_back}
+use Rattle.disk_machine.proofs.{machine.DiskMachine.bulk_out.Goals.{Else-put_off, After-promises-promises}}
 use Rattle.disk_machine.proofs.machine.DiskMachine.bulk_out.Goals as goal
-use Rattle.disk_machine.proofs.machine.DiskMachine.bulk_out.Goals.{Else-holds_back, Else-put_off, After-promises-promises}
 
 free : (c : Else-holds_back) → ¬ HoldsBack c.args.self.now
 free c held = false≢true (sym c.if-holds_back.false ∙ c.holds_back.ensures.1 held)

@@ -2,14 +2,10 @@ use Rattle.std.specs.Prelude.{None}
 use Rattle.std.proofs.Common.{◌∙◌, inl, inr, refl, sym, arith}
 use Rattle.std.proofs.lemmas.Bool.{cases_Bool, false≢true}
 use Rattle.std.proofs.lemmas.List.{nil_from_length}
-use Rattle.disk_machine.specs.Plays.{medium_of}
-use Rattle.disk_machine.specs.PuttingOff.{TellsNext, WaitsForSteps}
-use Rattle.disk_machine.specs.Refusals.{IsQuietPacket}
-use Rattle.disk_machine.proofs.PacketLaws.{plain_is_quiet, some_made, steps_fewer}
-use Rattle.disk_machine.proofs.Rooms.{some_book}
-use Rattle.disk_machine.proofs.Playing.{made_goes_on}
+use Rattle.disk_machine.specs.{Plays.medium_of, PuttingOff.{TellsNext, WaitsForSteps}, Refusals.IsQuietPacket}
+use Rattle.disk_machine.proofs.{PacketLaws.{plain_is_quiet, some_made, steps_fewer}, Rooms.some_book, Playing.made_goes_on}
+use Rattle.disk_machine.proofs.{machine.DiskMachine.put_off.Goals.Else-is_quiet}
 use Rattle.disk_machine.proofs.machine.DiskMachine.put_off.Goals as goal
-use Rattle.disk_machine.proofs.machine.DiskMachine.put_off.Goals.{Else-is_quiet}
 
 -- the packet asks for writes
 loud : (c : Else-is_quiet) → ¬ IsQuietPacket c.args.self.now.disk c.args.packet.now

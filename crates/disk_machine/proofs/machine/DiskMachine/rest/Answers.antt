@@ -2,17 +2,12 @@
 use Rattle.std.proofs.Common.{◌≡◌, ◌≤◌, inl, true, length, arith, ap, length-append}
 use Rattle.std.specs.Prelude.{List}
 use Rattle.medium.specs.Moments.{EachCut}
-use Rattle.window.specs.OutboxMedium.{sent}
-use Rattle.window.specs.declared.call.DeviceCall.{DeviceCall}
-use Rattle.window.specs.Window.{Window, state_of, mirror_of, ComesAfter}
-use Rattle.window.specs.WindowLaws.{is_sound, comes_after_itself}
+use Rattle.window.specs.{OutboxMedium.sent, declared.call.DeviceCall.DeviceCall, Window.{Window, state_of, mirror_of, ComesAfter}}
+use Rattle.window.specs.{WindowLaws.{is_sound, comes_after_itself}}
 use Rattle.spec.specs.Book.{Book}
 use Rattle.scsi_unit.specs.Books.{MayFind}
 use Rattle.bot_machine.specs.Disk.{FitsDisk}
-use Rattle.disk_machine.specs.Parts.{CoversParts}
-use Rattle.disk_machine.specs.Plays.{medium_of}
-use Rattle.disk_machine.specs.Machine.{Machine, Keeps, IsCaughtUp}
-use Rattle.disk_machine.specs.Moves.{ServesAtRest, BeginsBehind}
+use Rattle.disk_machine.specs.{Parts.CoversParts, Plays.medium_of, Machine.{Machine, Keeps, IsCaughtUp}, Moves.{ServesAtRest, BeginsBehind}}
 use Rattle.disk_machine.proofs.machine.DiskMachine.rest.Goals as goal
 
 module _ (s : Machine) (parts : (new : Window) → ComesAfter (medium_of s.disk) new → CoversParts (medium_of s.disk) new)

@@ -1,9 +1,8 @@
 use Rattle.std.proofs.Common.{◌∙◌, ◌*◌, ℕ, inr, ap, sym, arith}
-use Rattle.disk_machine.specs.Packets.{TakesOut}
-use Rattle.disk_machine.specs.Transfers.{HasPacket, packet_at}
-use Rattle.disk_machine.proofs.PacketLaws.{size_stays, next_taken, taken_more, refused}
+use Rattle.disk_machine.specs.{Packets.TakesOut, Transfers.{HasPacket, packet_at}}
+use Rattle.disk_machine.proofs.{PacketLaws.{size_stays, next_taken, taken_more, refused}}
+use Rattle.disk_machine.proofs.{machine.DiskMachine.take_transfer.Goals.After-bulk_out-code}
 use Rattle.disk_machine.proofs.machine.DiskMachine.take_transfer.Goals as goal
-use Rattle.disk_machine.proofs.machine.DiskMachine.take_transfer.Goals.{After-bulk_out-code}
 
 -- the packet of this number is taken
 taken : (c : After-bulk_out-code) → TakesOut c.loop-number.self
