@@ -1,5 +1,6 @@
 -- The first sectors that are read hold the log.
-use Rattle.std.proofs.Common.{◌≡◌, ◌<◌, ◌≤◌, ◌*◌, ◌∙◌, min, ℕ, List, [], ◌∷◌, Result, Ok, Err, IfOk, IfErr, MatchResult, length, sym, subst, ap, arith}
+use Rattle.std.proofs.Common.{◌≡◌, ◌<◌, ◌≤◌, ◌*◌, ◌∙◌, min, ℕ, List, [], ◌∷◌, Result, Ok, Err, IfOk}
+use Rattle.std.proofs.Common.{IfErr, MatchResult, length, sym, subst, ap, arith}
 use Rattle.medium.specs.Writes.{sector_of}
 use Rattle.journal.specs.Places.{Shape, first_home}
 use Rattle.journal.specs.Sectors.{IsSuper}

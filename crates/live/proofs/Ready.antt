@@ -24,7 +24,8 @@ use Rattle.spec.specs.declared.event.Event.TheVariants as event
 use Rattle.spec.specs.declared.event.Answer.{Answer}
 use Rattle.device_file.specs.Asked.{Told}
 use Rattle.live.specs.FileWindows.{Carries}
-use Rattle.live.specs.Missing.{DiskOn, medium_of, window_of, AreMissing, Wants, WantsNone}
+use Rattle.live.specs.Missing.{DiskOn, medium_of, window_of, Wants, WantsNone}
+use Rattle.window.specs.Sight.{AreMissing}
 use Rattle.live.specs.Playing.{SeesRead, Prepares, PlaysReady, MissesNothing}
 use Rattle.live.specs.Ready.{room_of, RefusesNone, KeepsAll, IsReadyToStart, HasRoomToStart, layout_on, IsReady, SeesHome}
 use Rattle.live.proofs.Rooms.{enough}
@@ -167,13 +168,13 @@ module _ {D : Type 0} where
       cc
 
   module _ (told : D → Told) (holds : D → ℕ → List ℕ → Type 0) (refuses : D → ℕ → ℕ → Type 0) where
-    taken_if : (old new : DiskOn D) (home : HomeSectors) (first count : ℕ) → IsReady old → AreMissing (window_of old) home first count
+    taken_if : (old new : DiskOn D) (home : HomeSectors) (first count : ℕ) → IsReady old → AreMissing (window_of old) home.first home.count first count
         → (sees : SeesRead told holds refuses old first count new) → sees.taken ≡ true
     taken_if old new home first count ready missing sees = sees.shown.shown.fits.1 (
       omega (arith, sees.whole),
       omega (arith, sees.whole, missing.few, ready.span),
       omega (arith, missing.begin),
-      omega (arith, sees.whole, missing.on_file, size_most (window_of old)),
+      omega (arith, sees.whole, missing.on_device, size_most (window_of old)),
     )
 
     ready_shown : (old new : DiskOn D) (first count : ℕ) → SeesRead told holds refuses old first count new → IsReady old → IsReady new

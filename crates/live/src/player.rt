@@ -11,9 +11,7 @@ use bot_machine::{Answer, Disk, Event, PacketSize, answer_to};
 use device_file::{DeviceFile, FileFault};
 use runner::Player;
 use std::marker::Model;
-use window::device_laws;
-
-const SECTOR: usize = 512;
+use window::{SECTOR, device_laws};
 
 /// The most bytes that one packet has read of a file: 240 sectors of 512.
 pub const TRANSFER: usize = 122_880;
@@ -99,10 +97,11 @@ fn prepare_packet<D: DeviceFile>(disk: &mut Disk<FileWindow<D>>, bytes: &mut [u8
     requires { length bytes.old ≡ 122880 }
     ensures { PreparesPacket D.told D.holds D.refuses disk.old packet.now disk.new }
 {
-    let Some((first, count)) = missing_for(disk, packet) else {
+    let Some(read) = missing_for(disk, packet) else {
         return;
     };
-    show_read(disk, first, count, &mut bytes[..count as usize * SECTOR]);
+    let to = &mut bytes[..read.count as usize * SECTOR];
+    show_read(disk, read.first, read.count, to);
 }
 
 // Makes the disk ready for an event.
