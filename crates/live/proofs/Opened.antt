@@ -4,16 +4,12 @@ use Rattle.std.proofs.Common.{subst}
 use Rattle.std.specs.Prelude.{Option, Some, None, nat_le}
 use Rattle.std.proofs.lemmas.Bool.{cases_Bool, leb-true, leb-false}
 use Rattle.medium.specs.Writes.{sector_of}
-use Rattle.journal.specs.Places.{Shape}
-use Rattle.journal.specs.Sectors.{IsSuper}
-use Rattle.journal.specs.Formats.{shape_of}
-use Rattle.journal.specs.declared.super_sector.Super.{Super}
+use Rattle.journal.specs.{Places.Shape, Sectors.IsSuper, Formats.shape_of, declared.super_sector.Super.Super}
 use Rattle.journal.proofs.SectorNumbers.{IsSuper-one}
 use Rattle.window.specs.Window.{Window, state_of, fresh}
 use Rattle.window.proofs.Kept.{opened_length, opened_front}
 use Rattle.device_file.specs.First.{SpellsSuper, near_of}
-use Rattle.live.specs.Ready.{IsReadyToStart, HasRoomToStart}
-use Rattle.live.specs.Starting.{IsWindowOf, room_for}
+use Rattle.live.specs.{Ready.{IsReadyToStart, HasRoomToStart}, Starting.{IsWindowOf, room_for}}
 
 module _ (sectors : ℕ) (bytes device : List ℕ) (some : 0 < sectors) where
   abbrev over : ℕ → Window

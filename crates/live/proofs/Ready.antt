@@ -3,31 +3,22 @@ use Rattle.std.proofs.Common.{◌≡◌, ◌⊎◌, ◌<◌, ◌≤◌, ◌+◌,
 use Rattle.std.specs.Prelude.{Option, Some, None}
 use Rattle.std.proofs.lemmas.Bool.{cases_Bool, cases_lt}
 use Rattle.medium.specs.Sent.{sent}
-use Rattle.journal.specs.Places.{Shape}
-use Rattle.journal.specs.Standing.{HasShape}
+use Rattle.journal.specs.{Places.Shape, Standing.HasShape}
 use Rattle.journal.proofs.SectorNumbers.{IsSuper-one}
 use Rattle.window.specs.Story as story
-use Rattle.spec.specs.declared.case.Case.{Case}
-use Rattle.spec.specs.declared.case.Case.TheVariants.{C5, C6}
-use Rattle.spec.specs.declared.wrapper.Cbw.{Cbw}
+use Rattle.spec.specs.{declared.case.Case.Case, declared.case.Case.TheVariants.{C5, C6}, declared.wrapper.Cbw.Cbw}
+use Rattle.spec.specs.{declared.event.Event.Event, declared.event.Answer.Answer}
 use Rattle.bot_machine.proofs.Wrappers.{one_wrapper}
-use Rattle.window.specs.Window.{Window, state_of, is_in_sight, ComesAfter, IsServed}
-use Rattle.window.specs.Looks.{near_in_sight, shown_in_sight, none_refused, none_kept_out}
-use Rattle.scsi_unit.specs.Reading.{first_home_of}
-use Rattle.scsi_unit.specs.declared.reading.HomeSectors.{HomeSectors}
-use Rattle.bot_machine.specs.Device.{Device}
-use Rattle.bot_machine.specs.Disk.{IsStep, IsRearmed}
-use Rattle.bot_machine.specs.Opening.{IsOpened}
-use Rattle.bot_machine.specs.Reading.{ReadsHome, ReadsAt, sectors_in, sectors_for}
-use Rattle.spec.specs.declared.event.Event.{Event}
+use Rattle.window.specs.{Window.{Window, state_of, is_in_sight, ComesAfter, IsServed}, Looks.{near_in_sight, shown_in_sight, none_refused}}
+use Rattle.window.specs.{Looks.none_kept_out, Sight.AreMissing}
+use Rattle.scsi_unit.specs.{Reading.first_home_of, declared.reading.HomeSectors.HomeSectors}
+use Rattle.bot_machine.specs.{Device.Device, Disk.{IsStep, IsRearmed}, Opening.IsOpened, Reading.{ReadsHome, ReadsAt, sectors_in}}
+use Rattle.bot_machine.specs.{Reading.sectors_for}
 use Rattle.spec.specs.declared.event.Event.TheVariants as event
-use Rattle.spec.specs.declared.event.Answer.{Answer}
 use Rattle.device_file.specs.Asked.{Told}
-use Rattle.live.specs.FileWindows.{Carries}
-use Rattle.live.specs.Missing.{DiskOn, medium_of, window_of, Wants, WantsNone}
-use Rattle.window.specs.Sight.{AreMissing}
-use Rattle.live.specs.Playing.{SeesRead, Prepares, PlaysReady, MissesNothing}
-use Rattle.live.specs.Ready.{room_of, RefusesNone, KeepsAll, IsReadyToStart, HasRoomToStart, layout_on, IsReady, SeesHome}
+use Rattle.live.specs.{FileWindows.Carries, Missing.{DiskOn, medium_of, window_of, Wants, WantsNone}, Playing.{SeesRead, Prepares}}
+use Rattle.live.specs.{Playing.{PlaysReady, MissesNothing}, Ready.{room_of, RefusesNone, KeepsAll, IsReadyToStart, HasRoomToStart}}
+use Rattle.live.specs.{Ready.{layout_on, IsReady, SeesHome}}
 use Rattle.live.proofs.Rooms.{enough}
 
 -- what a disk keeps of being ready while calls wait
@@ -168,7 +159,8 @@ module _ {D : Type 0} where
       cc
 
   module _ (told : D → Told) (holds : D → ℕ → List ℕ → Type 0) (refuses : D → ℕ → ℕ → Type 0) where
-    taken_if : (old new : DiskOn D) (home : HomeSectors) (first count : ℕ) → IsReady old → AreMissing (window_of old) home.first home.count first count
+    taken_if : (old new : DiskOn D) (home : HomeSectors) (first count : ℕ) → IsReady old
+        → AreMissing (window_of old) home.first home.count first count
         → (sees : SeesRead told holds refuses old first count new) → sees.taken ≡ true
     taken_if old new home first count ready missing sees = sees.shown.shown.fits.1 (
       omega (arith, sees.whole),

@@ -5,29 +5,20 @@ use Rattle.std.specs.Prelude.{Option, Some, None, IfSome}
 use Rattle.std.specs.declared.io.ErrorKind.{ErrorKind}
 use Rattle.std.specs.declared.io.ErrorKind.TheVariants as causes
 use Rattle.medium.specs.declared.file_call.Access.TheVariants.{Change}
-use Rattle.window.specs.declared.call.DeviceCall.{DeviceCall}
-use Rattle.window.specs.declared.call.DeviceCall.TheVariants.{Write, Flush}
-use Rattle.device_file.specs.Outbox.{EndIn, kind_of}
+use Rattle.window.specs.{declared.call.DeviceCall.DeviceCall, declared.call.DeviceCall.TheVariants.{Write, Flush}}
+use Rattle.device_file.specs.{Outbox.{EndIn, kind_of}, Asked.Told, FileValue.{FileValue, IsOpened}, declared.fault.FileCall.FileCall}
+use Rattle.device_file.specs.{declared.fault.FileFault.FileFault, declared.opening.OpenFault.OpenFault}
 use Rattle.bot_machine.specs.StartFaults.{StartFault}
 use Rattle.bot_machine.specs.StartFaults as start
-use Rattle.device_file.specs.Asked.{Told}
-use Rattle.device_file.specs.FileValue.{FileValue, IsOpened}
-use Rattle.device_file.specs.declared.fault.FileCall.{FileCall}
 use Rattle.device_file.specs.declared.fault.FileCall.TheVariants as call
-use Rattle.device_file.specs.declared.fault.FileFault.{FileFault}
-use Rattle.device_file.specs.declared.opening.OpenFault.{OpenFault}
 use Rattle.device_file.specs.declared.opening.OpenFault.TheVariants as opening
 use Rattle.console.proofs.Statuses.{file_refused, start_refused}
 use Rattle.console.specs.Status.{status_at, status_of_fault}
-use Rattle.runner.specs.Live.{IsLiveLine}
-use Rattle.runner.specs.Served.{IsStoppedBy}
-use Rattle.runner.specs.declared.player.ServeFault.{ServeFault}
+use Rattle.runner.specs.{Live.IsLiveLine, Served.IsStoppedBy, declared.player.ServeFault.ServeFault}
 use Rattle.runner.specs.declared.player.ServeFault.TheVariants as serve
-use Rattle.live.specs.Missing.{DiskOn, medium_of}
-use Rattle.live.specs.Playing.{AnswersThrough, IsUnanswered}
-use Rattle.live.specs.Program.{IsUnopened, IsUnasked, IsLiveRefusedFor, IsLiveStopped}
-use Rattle.live.specs.Status.{status_of, refusal_of_open, refusal_of_serving}
-use Rattle.live.specs.declared.refusal.Refusal.{Refusal}
+use Rattle.live.specs.{Missing.{DiskOn, medium_of}, Playing.{AnswersThrough, IsUnanswered}, Program.{IsUnopened, IsUnasked}}
+use Rattle.live.specs.{Program.{IsLiveRefusedFor, IsLiveStopped}, Status.{status_of, refusal_of_open, refusal_of_serving}}
+use Rattle.live.specs.{declared.refusal.Refusal.Refusal}
 use Rattle.live.specs.declared.refusal.Refusal.TheVariants as refused
 
 -- a status is at most 5, and that of a refusal is never 0

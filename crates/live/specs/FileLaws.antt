@@ -1,14 +1,11 @@
 -- A disk over a file plays events.
 use Rattle.std.specs.Prelude.{◌≡◌, ℕ, suc, true, Bool, List, [], ◌∷◌, ◌++◌, length}
 use Rattle.std.proofs.Common.{inl, inr, refl, ap, ◌∙◌, subst}
-use Rattle.spec.specs.declared.event.Event.{Event}
+use Rattle.spec.specs.{declared.event.Event.Event, declared.event.Answer.Answer}
 use Rattle.spec.specs.declared.event.Event.TheVariants as event
-use Rattle.spec.specs.declared.event.Answer.{Answer}
 use Rattle.device_file.specs.Asked.{Told}
-use Rattle.runner.specs.Played.{packets_of}
-use Rattle.runner.specs.Players.{IsPlayer}
-use Rattle.live.specs.Missing.{DiskOn}
-use Rattle.live.specs.Playing.{Prepares, PreparesPacket, Plays, AnswersThrough}
+use Rattle.runner.specs.{Played.packets_of, Players.IsPlayer}
+use Rattle.live.specs.{Missing.DiskOn, Playing.{Prepares, PreparesPacket, Plays, AnswersThrough}}
 
 module _ {D : Type 0} (told : D → Told) (holds : D → ℕ → List ℕ → Type 0)
     (refuses : D → ℕ → ℕ → Type 0) where

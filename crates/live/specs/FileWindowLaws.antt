@@ -2,8 +2,7 @@
 use Rattle.std.proofs.Common.{◌≡◌, refl, ◌∙◌}
 use Rattle.medium.specs.Medium.{IsSound}
 use Rattle.window.specs.WindowLaws as window
-use Rattle.live.specs.declared.file.FileWindow.{FileWindow}
-use Rattle.live.specs.FileWindows.{state_of, GoesOn}
+use Rattle.live.specs.{declared.file.FileWindow.FileWindow, FileWindows.{state_of, GoesOn}}
 
 module _ {D : Type 0} where
   pub is_sound : (m : FileWindow D) → IsSound (state_of m)

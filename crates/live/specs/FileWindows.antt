@@ -2,12 +2,9 @@
 use Rattle.std.specs.Prelude.{◌≡◌, ℕ, Bool, true, false, List, [], Option, Some, None, IfSome}
 use Rattle.medium.specs.Medium.{State}
 use Rattle.window.specs.Window as window
-use Rattle.window.specs.Window.{Window, ComesAfter, IsShown}
-use Rattle.window.specs.declared.call.DeviceCall.{DeviceCall}
-use Rattle.device_file.specs.Asked.{Told}
-use Rattle.device_file.specs.InRuns.{AsksInRuns}
-use Rattle.device_file.specs.Outbox.{IsCarriedOut, EndIn}
-use Rattle.device_file.specs.declared.fault.FileFault.{FileFault}
+use Rattle.window.specs.{Window.{Window, ComesAfter, IsShown}, declared.call.DeviceCall.DeviceCall}
+use Rattle.device_file.specs.{Asked.Told, InRuns.AsksInRuns, Outbox.{IsCarriedOut, EndIn}}
+use Rattle.device_file.specs.{declared.fault.FileFault.FileFault}
 use Rattle.live.specs.declared.file.FileWindow.{FileWindow}
 
 -- content, sets and moments are those of the window

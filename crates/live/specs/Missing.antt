@@ -1,8 +1,7 @@
 -- Which sectors of a file a disk is to be shown before it takes a packet.
 use Rattle.std.specs.Prelude.{ℕ, List}
 use Rattle.scsi_unit.specs.declared.reading.HomeSectors.{HomeSectors}
-use Rattle.bot_machine.specs.DiskValue.{DiskValue}
-use Rattle.bot_machine.specs.Reading.{ReadsHome}
+use Rattle.bot_machine.specs.{DiskValue.DiskValue, Reading.ReadsHome}
 use Rattle.window.specs.{Sight.AreInSight, Sight.AreMissing, Window.Window}
 use Rattle.live.specs.declared.file.FileWindow.{FileWindow}
 

@@ -3,16 +3,13 @@ use Rattle.std.specs.Prelude.{◌≡◌, ◌⊎◌, ℕ, ◌*◌, ◌/◌, Bool,
 use Rattle.medium.specs.Inlet.{AreHeld}
 use Rattle.window.specs.Window.{Window, mirror_of, ComesAfter, CoversDevice, IsServed}
 use Rattle.window.specs.Parts as mirror
-use Rattle.spec.specs.Book.{Book}
+use Rattle.spec.specs.{Book.Book, declared.event.Event.Event, declared.event.Answer.Answer}
 use Rattle.bot_machine.specs.Disk.{FitsDisk, IsStep, IsRearmed}
-use Rattle.spec.specs.declared.event.Event.{Event}
 use Rattle.spec.specs.declared.event.Event.TheVariants as event
-use Rattle.spec.specs.declared.event.Answer.{Answer}
-use Rattle.device_file.specs.Asked.{Told}
-use Rattle.device_file.specs.Reads.{AreRead}
-use Rattle.live.specs.FileWindows.{state_of, is_well, GoesOn, Shows, Carries}
-use Rattle.live.specs.Missing.{DiskOn, medium_of, window_of, Wants, WantsNone}
-use Rattle.live.specs.Ready.{IsReady, SeesHome, RefusesNone, KeepsAll}
+use Rattle.device_file.specs.{Asked.Told, Reads.AreRead}
+use Rattle.live.specs.{FileWindows.{state_of, is_well, GoesOn, Shows, Carries}, Missing.DiskOn}
+use Rattle.live.specs.{Missing.{medium_of, window_of, Wants, WantsNone}, Ready.{IsReady, SeesHome}}
+use Rattle.live.specs.{Ready.{RefusesNone, KeepsAll}}
 
 -- a device that was handed what was sent until the first moment, and any first part of what was
 -- sent since, and has carried out any part of the writes behind its last flush

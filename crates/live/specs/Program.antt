@@ -2,17 +2,14 @@
 use Rattle.std.specs.Prelude.{◌≡◌, ◌⊎◌, ◌≤◌, ℕ, List, Option, Some, None, IfSome}
 use Rattle.std.specs.Io.KnownBytes.{Keeps}
 use Rattle.medium.specs.declared.file_call.Access.TheVariants.{Change}
-use Rattle.spec.specs.Packets.{bytes_of}
-use Rattle.spec.specs.declared.packet_size.PacketSize.{PacketSize}
+use Rattle.spec.specs.{Packets.bytes_of, declared.packet_size.PacketSize.PacketSize}
 use Rattle.console.specs.declared.words.ArgumentFault.{ArgumentFault}
 use Rattle.console.specs.declared.words.ArgumentFault.TheVariants as argument
-use Rattle.device_file.specs.Asked.{Told}
-use Rattle.device_file.specs.FileValue.{FileValue, GivesBlock, IsOpened}
-use Rattle.device_file.specs.declared.fault.FileFault.{FileFault}
+use Rattle.device_file.specs.{Asked.Told, FileValue.{FileValue, GivesBlock, IsOpened}}
+use Rattle.device_file.specs.{declared.fault.FileFault.FileFault}
 use Rattle.runner.specs.Live.{AreLiveWords, IsLiveLine}
-use Rattle.live.specs.Serving.{IsServedOn, IsNotServedOn}
-use Rattle.live.specs.Status.{refusal_of_argument}
-use Rattle.live.specs.declared.refusal.Refusal.{Refusal}
+use Rattle.live.specs.{Serving.{IsServedOn, IsNotServedOn}, Status.refusal_of_argument}
+use Rattle.live.specs.{declared.refusal.Refusal.Refusal}
 use Rattle.live.specs.declared.refusal.Refusal.TheVariants as refused
 
 -- what a file of the system was asked, and how many sectors it has

@@ -1,14 +1,11 @@
 -- Nothing that a disk asks of its window is refused: no write and no flush for want of room, and no
 -- read of a sector that is not in sight.
 use Rattle.std.specs.Prelude.{⊤, ◌≡◌, ◌⊎◌, ℕ, ◌≤◌, [], max}
-use Rattle.journal.specs.Standing.{HasShape}
-use Rattle.journal.specs.Places.{Shape, first_home}
-use Rattle.journal.specs.declared.log_format.LogFormat.{LogFormat}
+use Rattle.journal.specs.{Standing.HasShape, Places.{Shape, first_home}}
+use Rattle.journal.specs.{declared.log_format.LogFormat.LogFormat}
 use Rattle.medium.specs.Medium.{Image}
-use Rattle.recovery.specs.Calls.{most_start_sends}
-use Rattle.recovery.specs.Calls.{HoldsLog}
-use Rattle.scsi_unit.specs.Calls.{most_sends_of}
-use Rattle.scsi_unit.specs.Starting.{layout_of}
+use Rattle.recovery.specs.Calls.{most_start_sends, HoldsLog}
+use Rattle.scsi_unit.specs.{Calls.most_sends_of, Starting.layout_of}
 use Rattle.window.specs.Window.{Window, state_of, kept_out}
 use Rattle.spec.specs.declared.event.Event.{Event}
 use Rattle.spec.specs.declared.event.Event.TheVariants as event

@@ -2,13 +2,10 @@
 use Rattle.std.specs.Prelude.{◌≡◌, ◌⊎◌, ℕ, List, Option}
 use Rattle.std.specs.Io.KnownBytes.{Keeps}
 use Rattle.device_file.specs.Asked.{Told}
-use Rattle.runner.specs.Served.{IsServedBy, IsStoppedBy}
-use Rattle.runner.specs.declared.player.ServeFault.{ServeFault}
-use Rattle.live.specs.Missing.{DiskOn, medium_of}
-use Rattle.live.specs.Playing.{AnswersThrough, IsUnanswered}
-use Rattle.live.specs.Starting.{IsStartedOn, IsNotStartedOn}
-use Rattle.live.specs.Status.{refusal_of_serving}
-use Rattle.live.specs.declared.refusal.Refusal.{Refusal}
+use Rattle.runner.specs.{Served.{IsServedBy, IsStoppedBy}, declared.player.ServeFault.ServeFault}
+use Rattle.live.specs.{Missing.{DiskOn, medium_of}, Playing.{AnswersThrough, IsUnanswered}}
+use Rattle.live.specs.{Starting.{IsStartedOn, IsNotStartedOn}, Status.refusal_of_serving}
+use Rattle.live.specs.{declared.refusal.Refusal.Refusal}
 
 -- What a file was asked, what its reads gave, which of them it refused, how many sectors it has,
 -- and which bytes are thought to stand behind the first ones: whatever they are. Packets have at

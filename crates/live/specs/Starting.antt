@@ -4,24 +4,17 @@ use Rattle.medium.specs.Writes.{sector_of}
 use Rattle.journal.specs.declared.super_sector.Super.{Super}
 use Rattle.recovery.specs.Causes.{IsDeviceFault}
 use Rattle.window.specs.Window.{Window, CoversDevice, fresh}
-use Rattle.device_file.specs.Asked.{Told}
-use Rattle.device_file.specs.First.{IsUnopened, SpellsSuper}
-use Rattle.device_file.specs.Reads.{AreRead}
-use Rattle.device_file.specs.declared.fault.FileFault.{FileFault}
-use Rattle.device_file.specs.declared.opening.FirstSectors.{FirstSectors}
-use Rattle.device_file.specs.declared.opening.OpenFault.{OpenFault}
-use Rattle.live.specs.declared.file.FileWindow.{FileWindow}
-use Rattle.live.specs.FileWindows.{state_of, GoesOn, Carries, IsOver}
-use Rattle.bot_machine.specs.Device.{Device, Ahead}
-use Rattle.bot_machine.specs.Disk.{IsRearmed}
-use Rattle.bot_machine.specs.Opening.{IsOpened, IsNotOpened, StartLeaves}
-use Rattle.bot_machine.specs.StartFaults.{StartFault}
+use Rattle.device_file.specs.{Asked.Told, First.{IsUnopened, SpellsSuper}, Reads.AreRead}
+use Rattle.device_file.specs.{declared.fault.FileFault.FileFault}
+use Rattle.device_file.specs.{declared.opening.FirstSectors.FirstSectors}
+use Rattle.device_file.specs.{declared.opening.OpenFault.OpenFault}
+use Rattle.live.specs.{declared.file.FileWindow.FileWindow, FileWindows.{state_of, GoesOn, Carries}}
+use Rattle.live.specs.{FileWindows.IsOver, Missing.{DiskOn, medium_of, window_of}}
+use Rattle.live.specs.{Playing.CoversParts, Ready.{room_of, IsReady, RefusesNone}}
+use Rattle.live.specs.{Status.refusal_of_open, declared.refusal.Refusal.Refusal}
+use Rattle.bot_machine.specs.{Device.{Device, Ahead}, Disk.IsRearmed, Opening.IsOpened}
+use Rattle.bot_machine.specs.{Opening.{IsNotOpened, StartLeaves}, StartFaults.StartFault}
 use Rattle.runner.specs.Script.{device}
-use Rattle.live.specs.Missing.{DiskOn, medium_of, window_of}
-use Rattle.live.specs.Playing.{CoversParts}
-use Rattle.live.specs.Ready.{room_of, IsReady, RefusesNone}
-use Rattle.live.specs.Status.{refusal_of_open}
-use Rattle.live.specs.declared.refusal.Refusal.{Refusal}
 use Rattle.live.specs.declared.refusal.Refusal.TheVariants as refused
 
 -- The room over a file of `size` sectors, by its super: one call, where no disk can start.

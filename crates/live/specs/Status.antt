@@ -1,10 +1,10 @@
 -- Why an image file was not served to the end of the input, and the exit status.
 use Rattle.std.specs.Prelude.{ℕ, Option, Some, None}
-use Rattle.console.specs.Status.{status_of_fault, status_of_start}
-use Rattle.console.specs.declared.words.ArgumentFault.{ArgumentFault}
+use Rattle.console.specs.{Status.{status_of_fault, status_of_start}}
+use Rattle.console.specs.{declared.words.ArgumentFault.ArgumentFault}
 use Rattle.console.specs.declared.words.ArgumentFault.TheVariants as argument
-use Rattle.device_file.specs.declared.fault.FileFault.{FileFault}
-use Rattle.device_file.specs.declared.opening.OpenFault.{OpenFault}
+use Rattle.device_file.specs.{declared.fault.FileFault.FileFault}
+use Rattle.device_file.specs.{declared.opening.OpenFault.OpenFault}
 use Rattle.device_file.specs.declared.opening.OpenFault.TheVariants as opening
 use Rattle.runner.specs.declared.player.ServeFault.{ServeFault}
 use Rattle.runner.specs.declared.player.ServeFault.TheVariants as serve

@@ -1,6 +1,5 @@
 use Rattle.std.proofs.Common.{subst}
-use Rattle.live.specs.declared.file.FileWindow.{FileWindow}
-use Rattle.live.specs.Playing.{Foresees}
+use Rattle.live.specs.{declared.file.FileWindow.FileWindow, Playing.Foresees}
 use Rattle.live.proofs.player.foresee.Goals as goal
 
 pub returns : goal.returns

@@ -1,6 +1,5 @@
 use Rattle.std.proofs.Common.{◌∙◌, ap, sym}
-use Rattle.live.specs.FileWindows.{is_well}
-use Rattle.live.specs.declared.file.FileWindow.{FileWindow}
+use Rattle.live.specs.{FileWindows.is_well, declared.file.FileWindow.FileWindow}
 use Rattle.live.proofs.Ready.{misses_nothing, ready_prepared}
 use Rattle.live.proofs.player.play_event.Goals as goal
 

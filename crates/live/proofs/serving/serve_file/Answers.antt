@@ -2,12 +2,8 @@ use Rattle.std.proofs.Common.{◌≡◌, ◌∙◌, ℕ, List, inl, inr, refl, a
 use Rattle.std.proofs.KnownBytes.{Keeps-refl}
 use Rattle.spec.specs.Exchange.{Line}
 use Rattle.device_file.specs.Asked.{Told}
-use Rattle.runner.specs.Played.{packets_of}
-use Rattle.runner.specs.Served.{IsServedBy, IsStoppedBy}
-use Rattle.live.specs.Missing.{DiskOn}
-use Rattle.live.specs.Playing.{AnswersThrough, IsUnanswered}
-use Rattle.live.specs.Starting.{IsStartedOn}
-use Rattle.live.specs.Status.{refusal_of_serving}
+use Rattle.runner.specs.{Played.packets_of, Served.{IsServedBy, IsStoppedBy}}
+use Rattle.live.specs.{Missing.DiskOn, Playing.{AnswersThrough, IsUnanswered}, Starting.IsStartedOn, Status.refusal_of_serving}
 use Rattle.live.proofs.serving.serve_file.Goals as goal
 
 -- packets have as many bytes as the start was given

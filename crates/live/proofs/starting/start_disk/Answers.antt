@@ -1,7 +1,6 @@
 use Rattle.std.proofs.Common.{◌∙◌, inl, inr, refl}
 use Rattle.runner.proofs.Options.{if_ok, if_err}
-use Rattle.live.proofs.Ready.{ready_started}
-use Rattle.live.proofs.Rooms.{start_misses, by_image}
+use Rattle.live.proofs.{Ready.ready_started, Rooms.{start_misses, by_image}}
 use Rattle.live.proofs.starting.start_disk.Goals as goal
 
 pub returns-in-Err-clause-refused : goal.returns-in-Err-clause-refused

@@ -1,9 +1,7 @@
 use Rattle.std.proofs.Common.{inr, sym, subst}
 use Rattle.spec.specs.Packets.{bytes_of}
 use Rattle.live.proofs.Opened.{opened_ready}
-use Rattle.live.specs.Ready.{IsReadyToStart}
-use Rattle.live.specs.Missing.{DiskOn}
-use Rattle.live.specs.Starting.{IsStarted}
+use Rattle.live.specs.{Ready.IsReadyToStart, Missing.DiskOn, Starting.IsStarted}
 use Rattle.live.proofs.starting.start_on.Goals as goal
 
 pub start_disk-requires : goal.start_disk-requires
