@@ -48,7 +48,7 @@ stays disk (refused ∷ refusals) old new run = absurd run
 module _ (most : ℕ) (medium : Sim) (awaits : AwaitsLife medium) where
   fits : (limit : ℕ) (book : Book) → OpensOn (state_of medium) book → HasLimit (state_of medium).size limit (state_of medium).content
       → FitsLives (first_over most medium) (first_standing limit book)
-  fits = first_fits medium (device most) awaits.rests awaits.unfused
+  fits limit book opens has = first_fits medium (device most) limit book awaits.rests awaits.unfused opens has
 
   module _ (actions : List Action) (answers : List Answer) (new : LivesValue)
       (acted : Acted (first_over most medium) actions answers new) where
