@@ -9,7 +9,7 @@ use Rattle.cache.specs.{Blocks.over, Entries.map_of, Entries.Entries}
 use Rattle.cache.proofs.Arrays.{unlisted_empty}
 use Rattle.redo_log.specs.Value.{LogValue, Owes, retire_steps_of, CanPass, IsCovered, IsAway}
 use Rattle.redo_log.proofs.{HeldLog.many, StoreFacts.home_is, StoreFacts.blocks_guarded, StoreFacts.put_head}
-use Rattle.blocks.specs.{Settled.IsAtHome, Settled.IsSettled, OneBatch.SendsOneBatch, Written.IsWritten, Ahead.is_covered, Ahead.counted}
+use Rattle.blocks.specs.{Settled.IsAtHome, Settled.IsSettled, OneBatch.SendsOneBatch, Written.IsWritten, Ahead.is_covered}
 use Rattle.blocks.specs.{Prepared.RestsAhead, Work.IsAheadStep, Work.GoesOnAhead, Work.with_counted}
 use Rattle.blocks.specs.StoreValue.{Cached, layout_of, is_dead, steps_left, FitsBook, FitsBeside, active_of, transfer_limit, unwritten}
 use Rattle.blocks.proofs.{BookTurns.over_none, BookTurns.settles, LogTurns.nothing_left}
@@ -134,8 +134,5 @@ ahead_fewer before after old new step live idle some lives =
     let goes = step.goes refl live idle in
     elim (cases_Bool (is_covered old.log)) [
       | inl covered ↦ omega (arith, fewer_counted old idle covered, no_more_ahead before after (with_counted old) new goes lives)
-      | inr not ↦
-          let same : counted old.log ≡ old.log = rw not refl in
-          let on : GoesOnAhead before after old new = rw same at goes in
-          go_falls before after old new on (does_some old.log not some) lives
+      | inr not ↦ go_falls before after old new (rw not at goes) (does_some old.log not some) lives
     ]

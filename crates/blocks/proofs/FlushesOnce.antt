@@ -8,9 +8,9 @@ use Rattle.redo_log.specs.Value.{LogValue, CanPass, IsAway, IsStepped, IsRetireS
 use Rattle.redo_log.specs.declared.progress.Progress.{Progress}
 use Rattle.blocks.specs.{Ahead.counted, Ahead.ahead_room, Background.FreezesNext, Background.IsBackgroundStep, Background.SettlesFlush}
 use Rattle.blocks.specs.{Written.IsWritten, declared.work.Work.Work, Retiring.finished_with, Retiring.finished}
-use Rattle.blocks.specs.Headroom.{IsInOrder, RestsWithRoom, HasHeadroom, next_durable, FlushesOnce, IsSparing, AreSparing}
+use Rattle.blocks.specs.Headroom.{IsInOrder, RestsWithRoom, HasHeadroom, next_durable, IsSparing, AreSparing}
 use Rattle.blocks.specs.StoreValue.{Cached, is_dead, steps_left, unwritten, StoreValue, firsts_in, wants}
-use Rattle.blocks.specs.Work.{GoesOnAhead, IsAheadStep, IsWriteBackStep, MayWrite, SparesSlots, with_counted, RetiresNone, IsWork, WorksBy}
+use Rattle.blocks.specs.Work.{GoesOnAhead, IsAheadStep, IsWriteBackStep, MayWrite, SparesSlots, with_counted, RetiresNone, WorksBy}
 use Rattle.blocks.specs.Work.{DoesWork}
 use Rattle.blocks.specs.declared.work.Work.TheVariants.{Settle, Ahead, WriteBack}
 use Rattle.blocks.proofs.{EmptyBatches.written_live, Room.flushes_step, Room.steps_once, Headroom.order_more, Headroom.headroom_finished}
@@ -20,7 +20,7 @@ use Rattle.blocks.proofs.{Headroom.landed_begun, Headroom.headroom_stepped, Stea
 -- ---- whether a record is left to write
 
 pub written_or_not : (s : Cached) → IsWritten s ⊎ (IsWritten s → ⊥)
-written_or_not s = elim (cases_Bool (is_dead s)) [ inl dead ↦ inl (inl dead) | inr live ↦ written_live s live ]
+written_or_not s = grind (arith, cases_Bool (is_dead s), written_live s)
 
 pub live_to_write : (s : Cached) → ¬ IsWritten s → is_dead s ≡ false
 live_to_write s left = elim (cases_Bool (is_dead s)) [ inl dead ↦ absurd (left (inl dead)) | inr live ↦ live ]
@@ -74,16 +74,11 @@ rests_ahead before after old new goes live = grind (arith, nat_tests, goes)
 
 steps_ahead : (before after : State) (old new : Cached) → IsAheadStep true before after old new → RestsWithRoom old.log
     → is_dead new ≡ false → RestsWithRoom new.log × (new.log.next ≡ old.log.next)
-steps_ahead before after old new step r live = elim (cases_Bool (is_dead old)) [
-  | inl dead ↦ grind (arith, step.dead dead, r)
-  | inr alive ↦
-      let next : (counted old.log).next ≡ old.log.next = grind (arith, nat_tests) in
-      let counts = rests_counted old.log r in
-      elim (rests_ahead before after (with_counted old) new (step.goes refl alive r.order.idle) live) [
-        | inl stepped ↦ (rests_stepped (counted old.log) new.log counts stepped, grind (arith, stepped, next))
-        | inr same ↦ rw same (counts, next)
-      ]
-]
+steps_ahead before after old new step r live =
+    let next : (counted old.log).next ≡ old.log.next = grind (arith, nat_tests) in
+    let goes = λ (alive : is_dead old ≡ false).
+    rests_ahead before after (with_counted old) new (step.goes refl alive r.order.idle) live in
+    grind (arith, cases_Bool (is_dead old), step.dead, r, rests_counted old.log r, goes, next, rests_stepped (counted old.log) new.log)
 
 -- a store is known by its parts
 pub store_is : {M : Type 0} (s t : StoreValue M) → t.medium ≡ s.medium → t.cached ≡ s.cached → t.goes_ahead ≡ s.goes_ahead → t ≡ s
@@ -164,38 +159,24 @@ spared_back before after old new step head live = elim (written_or_not old) [
           | inl may ↦
               let b = step.begins left may in
               let some = next_some old new b.next (some_to_write old left) in
-              let rests = rests_spared new.frozen.numbers (firsts_in new.frozen) old.log r.order some (may.spares refl) in (
-                rw ((b.live live).1, landed_begun new.frozen.numbers (firsts_in new.frozen) old.log) rests,
-                grind (arith, b.unchanged, (b.live live).1),
-              )
+              let rests = rests_spared new.frozen.numbers (firsts_in new.frozen) old.log r.order some (may.spares refl) in
+              grind (arith, b, live, rests, landed_begun new.frozen.numbers (firsts_in new.frozen) old.log)
           | inr not ↦ spared_ahead before after old new (way_ahead before after old new step left idle r not) head live
         ]
   ]
 ]
 
-work_once : (work : Work) (ahead : Bool) (before after : State) (old new : Cached) → IsWork work ahead before after old new
-    → RetiresNone work ahead old → FlushesOnce ahead before after old new
-work_once Settle ahead before after old new is kind on head live = settles_once ahead before after old new is kind head live
-work_once Ahead ahead before after old new is kind on head live = (spared_ahead before after old new (rw on at is) head live).1
-work_once WriteBack ahead before after old new is kind on head live = (spared_back before after old new (rw on at is) head live).1
-
 -- a step of the work leaves headroom
 pub does_work : {M : Type 0} {state : M → State} {Follows : M → M → Type 0} {work : Work} {old new : StoreValue M}
     → WorksBy state Follows work old new → DoesWork state Follows work old new
-does_work {state = state} {work = work} {old = old} {new = new} made = record {
-  passes = made.passes;
-  order = made.order;
-  steps = made.steps;
-  active = made.active;
-  headroom = λ on head live. headroom_work work (state old.medium) (state new.medium) old.cached new.cached (rw on at made.order) head live;
-  once = work_once work _ _ _ _ _ made.order;
-}
-  where
-    headroom_work : (work : Work) (before after : State) (old new : Cached) → IsWork work true before after old new → HasHeadroom old.log
-        → is_dead new ≡ false → HasHeadroom new.log
-    headroom_work Settle before after old new is head live = headroom_stepped before after old new is head live
-    headroom_work Ahead before after old new is head live = (spared_ahead before after old new is head live).0
-    headroom_work WriteBack before after old new is head live = (spared_back before after old new is head live).0
+does_work {state = state} {work = Settle} {old = old} {new = new} made = grind (
+  arith,
+  made,
+  settles_once true (state old.medium) (state new.medium) old.cached new.cached,
+  headroom_stepped (state old.medium) (state new.medium) old.cached new.cached,
+)
+does_work {state = state} {work = Ahead} {old = old} {new = new} made = grind (arith, made, spared_ahead (state old.medium) (state new.medium) old.cached new.cached)
+does_work {state = state} {work = WriteBack} {old = old} {new = new} made = grind (arith, made, spared_back (state old.medium) (state new.medium) old.cached new.cached)
 
 -- ---- one call after another
 

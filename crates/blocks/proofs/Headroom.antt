@@ -121,7 +121,7 @@ headroom_stepped before after old new order head live =
     let idles : old.log.steps_left ≡ 0 → RestsWithRoom old.log = λ (idle : old.log.steps_left ≡ 0). grind (arith, head) in
     let alive : is_dead old ≡ false = grind (arith, cases_Bool (is_dead old), order.dead, live) in
     elim (cases_lt 0 old.log.steps_left) [
-      | inl some ↦ let step = (order.goes_on alive some).live live in rw (landed_stepped step.1 old.log new.log some step.2.log) head
+      | inl some ↦ grind (arith, order.goes_on alive some, live, head, landed_stepped)
       | inr few ↦ elim may [
         | inl begins ↦
             let b = order.begins alive begins in

@@ -1,5 +1,5 @@
 -- The limit that the image of a medium tells: it has one, and a start and a store leave it.
-use Rattle.std.proofs.Common.{◌≡◌, ◌+◌, ⊎_elim, ℕ, true, refl, sym, ◌∙◌, ap}
+use Rattle.std.proofs.Common.{arith, ◌≡◌, ℕ, true, refl, sym, ◌∙◌, ap}
 use Rattle.medium.specs.{Medium.State, Medium.Image, Moments.EachCut, Moments.LeavesOnly}
 use Rattle.medium.proofs.Moments.{weaker}
 use Rattle.journal.specs.Standing.{Stands}
@@ -27,10 +27,7 @@ limit_of_one before limit has image is =
     let was = has is.before is.allowed in
     let one = StandsFor-one _ _ _ _ _ _ _ _ _ was.stands is.was.stands in
     let limit_is : limit ≡ limit_of is.shape.format = was.limit_is ∙ ap (λ (s : Shape). limit_of s.format) one.0 in
-    ⊎_elim
-    (λ here. record { shape = is.shape; array = is.array; next = is.next; stands = here.stands; limit_is = limit_is })
-    (λ behind. record { shape = is.shape; array = is.array; next = is.next + 1; stands = behind.stands; limit_is = limit_is })
-    is.is
+    grind (arith, is, limit_is)
 
 -- a start, good or refused, leaves images of the limit that they had
 pub start_keeps_limit : (before after : State) (limit : ℕ) → StartLeaves before after → EachCut (IsOursForSome before.size) before
@@ -42,8 +39,4 @@ start_keeps_limit before after limit leaves ours has =
 pub cut_keeps_limit : (m : State) (cached : Cached) (book : Book) → FitsBook m cached book
     → book.ours ≡ true → EachCut (HasLimit m.size (transfer_limit cached)) m
 cut_keeps_limit m cached book fits ours image cut =
-    let log = cached.log in
-    ⊎_elim
-    (λ rest. record { shape = log.shape; array = _; next = _; stands = rest.stands; limit_is = refl })
-    (λ more. record { shape = log.shape; array = _; next = _; stands = more.1.stands; limit_is = refl })
-    (may_leave_ours m.size log fits.view image (fits.holds.leaves (fits.ours ∙ ours) image cut))
+    grind (arith, may_leave_ours m.size cached.log fits.view image (fits.holds.leaves (fits.ours ∙ ours) image cut))

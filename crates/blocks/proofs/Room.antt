@@ -16,20 +16,6 @@ use Rattle.blocks.specs.Ahead.{passed, sent_home, passed_calls, sent_calls, ahea
 
 -- ---- a count of calls, by how many each step makes
 
--- those of the steps that are left are those of the next one and of the others
-pub more_calls : (left : ℕ) → 0 < left → turns_calls left ≡ turn_calls left + turns_calls (left - 1)
-more_calls left some = grind (arith, nat_tests)
-
-pub more_sends : (left : ℕ) → 0 < left → turns_sends left ≡ turn_sends left + turns_sends (left - 1)
-more_sends left some = grind (arith, nat_tests)
-
-pub more_flushes : (left : ℕ) → 0 < left → turns_flushes left ≡ turn_flushes left + turns_flushes (left - 1)
-more_flushes left some = grind (arith, nat_tests)
-
--- the next one alone makes no more
-pub next_few : (left : ℕ) → turn_sends left ≤ turns_sends left
-next_few left = grind arith
-
 -- between two moments calls, writes and flushes were made as for these steps: all but so many that are left
 pub record Spends (left all : ℕ) (before after : State) : Type 0 where
   pub calls : after.calls + turns_calls left ≡ before.calls + turns_calls all
@@ -65,15 +51,13 @@ module _ {old mid : LogValue} {before between : State} (f : IsFull old mid) (mad
       → Retires old new before after
   retires_more {after = after} stepped calls sends flushes =
       let so_far = still_full in
-      let left = of_oldest mid in
-      let some : 0 < left = omega (arith, stepped.some) in
-      let spent : Spends (left - 1) (of_oldest old) before after =
-      grind (arith, so_far.1, calls, sends, flushes, more_calls left some, more_sends left some, more_flushes left some) in
+      let spent : Spends (of_oldest mid - 1) (of_oldest old) before after =
+      grind (arith, nat_tests, so_far.1, stepped.some, calls, sends, flushes) in
       grind (arith, nat_tests, so_far.0, stepped, spent)
 
   pub retires_refused : (after : State) → sent after ≤ sent between + turn_sends (of_oldest mid)
       → sent after ≤ sent before + turns_sends (of_oldest old)
-  retires_refused after sends = let so_far = still_full in omega (arith, so_far.1.sends, sends, next_few (of_oldest mid))
+  retires_refused after sends = grind (arith, still_full, sends)
 
 -- then there is room for one record: none is retired where a slot was free, and else the oldest
 pub retires_room : {old new : LogValue} {before after : State} → (HasRoom old → (new ≡ old) × (after ≡ before)) → HasRoom new

@@ -1,13 +1,13 @@
-use Rattle.std.proofs.{lemmas.Bool.cases_lt, lemmas.List.nil_from_length, lemmas.Result.on_ok_weaker, lemmas.Result.err_from_is_err_and}
-use Rattle.std.proofs.Common.{◌≡◌, ◌<◌, ◌≤◌, ◌+◌, ◌∙◌, [], length, ap, refl, sym, arith, true, false, rules}
+use Rattle.std.proofs.{lemmas.Bool.cases_lt, lemmas.List.nil_from_length, lemmas.Result.on_ok_weaker}
+use Rattle.std.proofs.Common.{◌≡◌, ◌<◌, ◌≤◌, ◌+◌, ◌∙◌, [], length, ap, sym, arith, true, false, rules}
 use Rattle.std.specs.Prelude.{OnOk}
 use Rattle.medium.specs.{Medium.State, Sent.sent, declared.fault.MediumFault.TheVariants.Flush}
 use Rattle.journal.specs.Places.{limit_of}
 use Rattle.redo_log.specs.Value.{begun, most_steps}
 use Rattle.redo_log.proofs.RecordSteps.{few_steps_for}
-use Rattle.blocks.specs.{OneBatch.SendsOneBatch, Retiring.finished, Retiring.RetiresForRoom, Steady.IsFilling, Steady.IsSteady}
-use Rattle.blocks.specs.StoreValue.{is_dead, firsts_in}
-use Rattle.blocks.proofs.{Steady.fills, Steady.stays_on, store.Store.finish.Given.Over, OneBatchSent.none_sent, OneBatchSent.record_sent}
+use Rattle.blocks.specs.{OneBatch.SendsOneBatch, Retiring.finished, Steady.IsFilling, Steady.IsSteady}
+use Rattle.blocks.specs.{StoreValue.is_dead, StoreValue.firsts_in, Sent.batch_sends}
+use Rattle.blocks.proofs.{Steady.fills, Steady.stays_on, store.Store.finish.Given.Over}
 use Rattle.blocks.proofs.{OneBatchSent.room_sent, Room.made_finished, Room.finishes_under_way, Room.finish_begun, Room.flushes_begun}
 use Rattle.blocks.proofs.TurnsJoined.{kept_paid, paid_then, paid_more, rested_paid}
 use Rattle.blocks.proofs.store.Store.finish.Goals.{After-make_ready}
@@ -26,14 +26,7 @@ returns-then-self g c =
     let listed : 0 < length old.frozen.numbers = rw (← c.self.view_is) (c.self.invariant.some begins) in
     let few : old.log.steps_left ≤ most_steps old.log.shape.format = rw (← c.self.view_is) c.self.invariant.few_steps in
     let finishing = finishes_under_way c.args.self.now.goes_ahead old.frozen.numbers (firsts_in old.frozen) old.log some in
-    let wrote = c.write_out.ensures in
-    record {
-      passes = paid_more wrote.passes (omega (arith, wrote.passes.sent, few));
-      batch = grind (arith, live, some, listed, finishing, wrote.answer, wrote.batch);
-      cost = grind (arith, some, wrote.exactly);
-      flushes = grind (arith, some, wrote.flushes);
-      one_batch = record_sent _ _ old.log _ (omega (arith, wrote.passes.sent, few));
-    }
+    grind (arith, live, some, listed, few, finishing, c.write_out.ensures)
 
 -- there is nothing to write
 pub returns-then-is_empty : goal.returns-then-is_empty
@@ -43,13 +36,9 @@ returns-then-is_empty g c =
     let idle : old.log.steps_left ≡ 0 =
     rw (← c.self.view_is) (c.self.invariant.rests (rw (← c.self.view_is) at live) c.if-self.false) in
     let empty : old.frozen.numbers ≡ [] = rw (← c.self.view_is) (c.is_empty.ensures.0 c.if-is_empty.true) in
-    record {
-      passes = rested_paid g.met.M.Medium.follows_itself g.met.M.Medium.sound;
-      batch = grind (arith, live, idle, empty);
-      cost = grind (arith, idle, empty);
-      flushes = grind (arith, idle, empty);
-      one_batch = none_sent _ _ _ _ refl;
-    }
+    let passes = rested_paid {Follows = g.M.Medium.follows} {sends = batch_sends old} {old = c.args.self.now} g.met.M.Medium.follows_itself
+    g.met.M.Medium.sound in
+    grind (arith, live, idle, empty, passes)
 
 -- room was made, for which nothing is sent where there is some
 made_room : (g : Over) (c : After-make_ready g) → {after : State}
@@ -73,14 +62,12 @@ returns-in_err-begin g c =
     let ready = c.make_ready.ensures in
     let begins = c.begin.ensures in
     let quiet = ap (λ m. sent (g.M.Medium.state m)) begins.keeps.medium in
+    let kept = kept_paid {Follows = g.M.Medium.follows} {sends = 0} g.met.M.Medium.follows_itself begins.keeps
+    (λ live. omega (arith, begins.begins.falls live)) in
     record {
-      passes = paid_then {last = 0} g.met.M.Medium.follows_through ready.passes c.in_ok-make_ready.ensures.answer
-          (kept_paid g.met.M.Medium.follows_itself begins.keeps (λ live. omega (arith, begins.begins.falls live)))
+      passes = paid_then g.met.M.Medium.follows_through ready.passes c.in_ok-make_ready.ensures.answer kept
           (omega (arith, ready.passes.sent, quiet));
-      batch =
-          let retires : RetiresForRoom c.args.self.now.goes_ahead c.args.self.now.cached.log c.begin.new.self.cached.log =
-          grind (arith, begins.begins.head, ready.room.retires) in
-          rw ((err_from_is_err_and c.from_residual-in_err-begin.result c.from_residual-in_err-begin.ensures.1).1) (search rules);
+      batch = grind (arith, begins.begins, begins.answer, ready.room, c.from_residual-in_err-begin.ensures, c.if-is_dead.false);
       cost = search rules;
       flushes = search rules;
       one_batch = made_room g (goal.at.returns-in_err-begin g c).After-make_ready (omega (arith, quiet));

@@ -50,34 +50,21 @@ returns-in_err-pass_head g c =
 pub returns-then-has_slots : goal.returns-then-has_slots
 returns-then-has_slots g c =
     let all = passes g (goal.at.returns-then-has_slots g c).After-pass_head in
+    let some = few g (goal.at.returns-then-has_slots g c).Else-needs_none_ahead in
     let slots : HasSlots 3 c.pass_head.new.self.cached.log = rw (← c.self.view_is) (c.has_slots.ensures.0 c.if-has_slots.true) in
-    let past = gone_past g (goal.at.returns-then-has_slots g c).In_ok-pass_head
-    (λ slots. few g (goal.at.returns-then-has_slots g c).Else-needs_none_ahead (inl slots)) in
-    record {
-      passes = paid_more all (omega (arith, all.sent));
-      going = grind (
-        arith,
-        nat_tests,
-        slots,
-        past,
-        c.in_ok-pass_head.ensures.answer,
-        c.count_flush.ensures.counts,
-        c.pass_head.ensures.way.stays,
-      );
-      rests = λ none. absurd (few g (goal.at.returns-then-has_slots g c).Else-needs_none_ahead none);
-    }
+    let past = gone_past g (goal.at.returns-then-has_slots g c).In_ok-pass_head (λ slots. some (inl slots)) in
+    let live = c.in_ok-pass_head.ensures.answer in
+    grind (arith, nat_tests, all, some, slots, past, live, c.count_flush.ensures.counts, c.pass_head.ensures.way.stays)
 
 pub returns : goal.returns
 returns g c =
     let first = passes g (goal.at.returns g c).After-pass_head in
     let last = c.go_home.ensures in
-    let past = gone_past g (goal.at.returns g c).In_ok-pass_head
-    (λ slots. few g (goal.at.returns g c).Else-needs_none_ahead (inl slots)) in
+    let some = few g (goal.at.returns g c).Else-needs_none_ahead in
+    let past = gone_past g (goal.at.returns g c).In_ok-pass_head (λ slots. some (inl slots)) in
     let short : HasSlots 3 c.pass_head.new.self.cached.log → ⊥ = λ (slots : HasSlots 3 c.pass_head.new.self.cached.log).
     grind (arith, c.has_slots.ensures, c.if-has_slots.false, c.self.view_is) in
-    record {
-      passes = paid_then g.met.M.Medium.follows_through first c.in_ok-pass_head.ensures.answer last.passes
-          (omega (arith, first.sent, last.passes.sent, ap (λ (shape : Shape). limit_of shape.format) first.turn.goes_on.layout_stays));
-      going = grind (arith, nat_tests, short, past, last.going, c.count_flush.ensures.counts, c.pass_head.ensures.way.stays);
-      rests = λ none. absurd (few g (goal.at.returns g c).Else-needs_none_ahead none);
-    }
+    let limit = ap (λ (shape : Shape). limit_of shape.format) first.turn.goes_on.layout_stays in
+    let all = paid_then {all = limit_of c.args.self.now.cached.log.shape.format + 1} g.met.M.Medium.follows_through first
+    c.in_ok-pass_head.ensures.answer last.passes (omega (arith, first.sent, last.passes.sent, limit)) in
+    grind (arith, nat_tests, all, some, short, past, last.going, c.count_flush.ensures.counts, c.pass_head.ensures.way.stays)

@@ -33,26 +33,15 @@ returns-in_err-bring_home g c =
     let so_far = c.loop-self.invariant in
     let first = so_far.passes (sent (g.M.Medium.state c.loop-self.self.medium)) (omega arith) in
     let brings = c.bring_home.ensures.way in
-    record {
-      passes = paid_then g.met.M.Medium.follows_through first so_far.live c.bring_home.ensures.passes
-          (few_home so_far.home (away g (goal.at.returns-in_err-bring_home g c).After-bring_home) brings.sent
-          (rw (← c.self.view_is) c.has_room-few.ensures.few));
-      going = grind (arith, c.in_err-bring_home.ensures.answer, brings, home_stays_head so_far.home, so_far.stays, so_far.flushed);
-    }
+    let few = few_home so_far.home (away g (goal.at.returns-in_err-bring_home g c).After-bring_home) brings.sent
+    (rw (← c.self.view_is) c.has_room-few.ensures.few) in
+    let passes = paid_then g.met.M.Medium.follows_through first so_far.live c.bring_home.ensures.passes few in
+    grind (arith, passes, c.in_err-bring_home.ensures.answer, brings, home_stays_head so_far.home, so_far.stays, so_far.flushed)
 
 pub returns : goal.returns
 returns g c =
     let so_far = c.loop-self.invariant in
     let home : IsAway c.loop-self.self.cached.log → ⊥ = λ away. false≢true (sym c.loop-self-test.false
     ∙ c.is_away.ensures.1 (rw (← c.self-in-loop-self.view_is) at away)) in
-    record {
-      passes = so_far.passes _ (all_sends so_far.home (rw (← c.self.view_is) c.has_room-few.ensures.few));
-      going = record {
-        log = λ alive. all_home so_far.home home;
-        calls = λ alive. all_costs so_far.home home;
-        flushed = so_far.flushed;
-        stays = so_far.stays;
-        head = omega (arith, home_stays_head so_far.home);
-        answer = so_far.live;
-      };
-    }
+    let passes = so_far.passes _ (all_sends so_far.home (rw (← c.self.view_is) c.has_room-few.ensures.few)) in
+    grind (arith, passes, all_home so_far.home home, all_costs so_far.home home, home_stays_head so_far.home, so_far)

@@ -1,6 +1,8 @@
 use Rattle.std.proofs.Common.{◌≡◌, ◌<◌, ◌-◌, true, false, arith}
+use Rattle.std.proofs.Common.{length}
+use Rattle.std.specs.Prelude.{All}
 use Rattle.redo_log.specs.Value.{HasRoom}
-use Rattle.blocks.proofs.{Room.still_room, Room.free_is, Room.full_is, TurnsJoined.paid_more}
+use Rattle.blocks.proofs.{Room.still_room, Room.free_is, Room.full_is}
 use Rattle.blocks.proofs.store.Store.make_ready.Goals as goal
 
 pub returns-then-has_room : goal.returns-then-has_room
@@ -8,16 +10,8 @@ returns-then-has_room g c =
     let old = c.args.self.now in
     let ahead : old.goes_ahead ≡ true = rw (← c.self.view_is) c.if-not-self.false in
     let room : HasRoom old.cached.log = rw (← c.self.view_is) (c.has_room.ensures.room.0 c.if-has_room.true) in
-    let going = c.go_ahead.ensures.going in
-    let free = free_is old.cached.log room.free in
-    record {
-      passes = paid_more c.go_ahead.ensures.passes (omega (arith, c.go_ahead.ensures.passes.sent));
-      answer = going.answer;
-      room = rw ahead (grind (arith, going, c.go_ahead.ensures.rests, still_room old.cached.log room, free));
-      cost = rw ahead (grind (arith, going.answer, going.calls, free));
-      flushed = grind (arith, going.answer, going.flushed, free);
-      blocks = λ on. rw (← c.self.view_is) c.has_room.ensures.owes.blocks;
-    }
+    let blocks : All (λ numbers. 0 < length numbers) old.cached.log.waiting = rw (← c.self.view_is) c.has_room.ensures.owes.blocks in
+    grind (arith, ahead, c.go_ahead.ensures, still_room old.cached.log room, free_is old.cached.log room.free, blocks)
 
 pub returns-then-not-self : goal.returns-then-not-self
 returns-then-not-self g c =
@@ -30,13 +24,5 @@ returns g c =
     let under_way = c.self.invariant.none_under_way (rw (← c.self.view_is) at c.requires.live) (rw (← c.self.view_is) at c.requires.idle) in
     let full : old.next - old.head < old.shape.slots → ⊥ = λ (free : old.next - old.head < old.shape.slots).
     grind (arith, c.self.view_is, under_way, c.requires.idle, c.has_room.ensures.room, c.if-has_room.false) in
-    let is = full_is old full in
-    let made = c.make_room-2.ensures in
-    record {
-      passes = made.passes;
-      answer = made.answer;
-      room = rw ahead (grind (arith, made.room, is));
-      cost = rw ahead (grind (arith, made.cost, is));
-      flushed = made.flushed;
-      blocks = λ on. rw (← c.self.view_is) c.has_room.ensures.owes.blocks;
-    }
+    let blocks : All (λ numbers. 0 < length numbers) old.waiting = rw (← c.self.view_is) c.has_room.ensures.owes.blocks in
+    grind (arith, ahead, c.make_room-2.ensures, full_is old full, blocks)

@@ -65,23 +65,22 @@ loop-self-preserved g c =
     }
 
 pub returns-in_err-retire : goal.returns-in_err-retire
-returns-in_err-retire g c = record {
-  passes =
-      let at = (goal.at.returns-in_err-retire g c).After-retire in
-      let old = c.args.self.now.cached.log in
-      let few : sends_of_oldest old ≤ most_retire_sends old.shape.format = rw (← c.self.view_is) c.has_room-few.ensures.few in
-      let after = g.M.Medium.state c.retire.new.self.medium in
-      let all = retires_refused (is_full g at) c.loop-self.invariant.retires after c.retire.ensures.retiring.sent in
-      step_passes g at (omega (arith, all, few));
-  answer = search rules;
-  room =
-      let died = c.retire.ensures.retiring.dies c.in_err-retire.ensures.answer.1 in
-      let room = was_full g (goal.at.returns-in_err-retire g c).After-retire in
-      grind (arith, died.is, c.loop-self.invariant, c.loop-self.invariant.retires.so_far, c.retire.ensures.retiring, room);
-  cost = search rules;
-  flushed = search rules;
-  blocks = λ on. absurd (false≢true on);
-}
+returns-in_err-retire g c =
+    let at = (goal.at.returns-in_err-retire g c).After-retire in
+    let old = c.args.self.now.cached.log in
+    let few : sends_of_oldest old ≤ most_retire_sends old.shape.format = rw (← c.self.view_is) c.has_room-few.ensures.few in
+    let after = g.M.Medium.state c.retire.new.self.medium in
+    let all = retires_refused (is_full g at) c.loop-self.invariant.retires after c.retire.ensures.retiring.sent in
+    let died = c.retire.ensures.retiring.dies c.in_err-retire.ensures.answer.1 in
+    let so_far = c.loop-self.invariant in
+    record {
+      passes = step_passes g at (omega (arith, all, few));
+      answer = search rules;
+      room = grind (arith, died.is, so_far, so_far.retires.so_far, c.retire.ensures.retiring, was_full g at);
+      cost = search rules;
+      flushed = search rules;
+      blocks = λ on. absurd (false≢true on);
+    }
 
 pub returns : goal.returns
 returns g c =
@@ -92,18 +91,5 @@ returns g c =
     let few : sends_of_oldest old ≤ most_retire_sends old.shape.format = rw (← c.self.view_is) c.has_room-few.ensures.few in
     let all = retires_room (λ had. let same = so_far.stays had in (ap (λ v. v.cached.log) same, ap (λ v. g.M.Medium.state v.medium) same))
     room so_far.retires in
-    record {
-      passes = so_far.passes _ (grind (arith, so_far.retires.so_far, few));
-      answer = search rules;
-      room = record {
-        retires = grind (arith, so_far.retires.so_far, so_far.stays);
-        room = room;
-        made = all.0;
-        quiet = λ had. ap (λ v. v.medium) (so_far.stays had);
-        active = so_far.active;
-        frozen = so_far.frozen;
-      };
-      cost = all.1;
-      flushed = all.2;
-      blocks = λ on. absurd (false≢true on);
-    }
+    let passes = so_far.passes (most_retire_sends old.shape.format) (grind (arith, so_far.retires.so_far, few)) in
+    grind (arith, passes, room, all, so_far, so_far.retires.so_far)

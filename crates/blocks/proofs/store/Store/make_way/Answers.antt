@@ -7,8 +7,7 @@ use Rattle.blocks.proofs.store.Store.make_way.Goals as goal
 pub returns-then-not-self : goal.returns-then-not-self
 returns-then-not-self g c =
     let off : c.args.self.now.goes_ahead ≡ false = rw (← c.self.view_is) c.if-not-self.true in
-    let made = c.retire.ensures in
-    record { passes = made.passes; way = rw off made.retiring; falls = made.counts.falls c.requires.waits; active = made.retiring.active }
+    grind (arith, off, c.retire.ensures, c.requires.waits)
 
 pub step_ahead-requires : goal.step_ahead-requires
 step_ahead-requires g c = record {
@@ -22,12 +21,8 @@ returns-then-may_go g c =
     let is = counted_store c.count_flush.ensures in
     let may = rw is at (c.may_go.ensures.0 c.if-may_go.true) in
     let goes = rw is at c.step_ahead.ensures.goes in
-    record {
-      passes = kept_then c.count_flush.ensures.keeps c.step_ahead.ensures.passes;
-      way = rw on (record { goes = λ some. goes; retires = λ none. absurd (none may) });
-      falls = λ live. let fewer = go_falls _ _ _ _ goes may live in omega (arith, fewer, (rw is at c.count_flush.ensures.counts).fewer);
-      active = goes.active;
-    }
+    let passes = kept_then c.count_flush.ensures.keeps c.step_ahead.ensures.passes in
+    grind (arith, on, may, goes, passes, go_falls _ _ _ _ goes may, (rw is at c.count_flush.ensures.counts).fewer)
 
 pub retire-requires-2 : goal.retire-requires-2
 retire-requires-2 g c = record {
@@ -41,13 +36,10 @@ returns g c =
     let log = c.count_flush.new.self.cached.log in
     let no : ¬ (CanPass log ⊎ IsAway log) = λ may. false≢true (sym c.if-may_go.false ∙ c.may_go.ensures.1 may) in
     let is = counted_store c.count_flush.ensures in
+    let none = rw is at no in
     let retiring = rw is at c.retire-2.ensures.retiring in
     let same = ap (λ (l : LogValue). length l.waiting) c.count_flush.ensures.counts.log in
-    record {
-      passes = kept_then c.count_flush.ensures.keeps c.retire-2.ensures.passes;
-      way = rw on (record { goes = λ some. absurd ((rw is at no) some); retires = λ not. retiring });
-      falls = λ live.
-          let waits : 0 < length log.waiting = grind (arith, nat_tests, c.requires.waits, same) in
-          omega (arith, c.retire-2.ensures.counts.falls waits live, c.count_flush.ensures.counts.fewer);
-      active = retiring.active;
-    }
+    let waits : 0 < length log.waiting = grind (arith, nat_tests, c.requires.waits, same) in
+    let falls = c.retire-2.ensures.counts.falls waits in
+    let passes = kept_then c.count_flush.ensures.keeps c.retire-2.ensures.passes in
+    grind (arith, on, none, retiring, falls, passes, c.count_flush.ensures.counts.fewer)

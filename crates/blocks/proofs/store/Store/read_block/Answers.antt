@@ -1,4 +1,4 @@
-use Rattle.std.proofs.Common.{◌∙◌, refl, arith, rules}
+use Rattle.std.proofs.Common.{refl, arith, rules}
 use Rattle.blocks.proofs.ReadCalls.{copy_keeps, newest_is, reads_newest, reads_one}
 use Rattle.blocks.proofs.SectorsRead.{none_read}
 use Rattle.blocks.proofs.store.Store.read_block.Goals as goal
@@ -12,15 +12,8 @@ returns-in-Some g c =
     let none = reads_newest s c.args.block c.in-Some.bytes.now held in
     let newest = newest_is m s c.args.block c.in-Some.bytes.now (omega (arith, c.requires.readable.inside)) held in
     let looks = none_read m m s c.args.block 1 refl in
-    record {
-      reads = record {
-        ok = λ book fits. c.copy_from_slice.ensures.after ∙ newest book fits;
-        err = search rules;
-        keeps = search rules;
-        cost = search (rules, arith, none);
-      };
-      next = c.in-Some.ensures.next;
-    }
+    let same = c.copy_from_slice.ensures.after in
+    search (rules, arith, none, newest)
 
 -- its copy in the log is read, or that is refused
 pub returns : goal.returns

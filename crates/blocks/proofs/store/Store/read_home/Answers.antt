@@ -1,21 +1,17 @@
-use Rattle.std.proofs.Common.{◌≡◌, ◌*◌, ◌/◌, ◌-◌, ◌+◌, length, ◌≤◌, ◌<◌, ℕ, List, [], ap, arith, rules}
+use Rattle.std.proofs.Common.{◌≡◌, ◌*◌, ◌/◌, ◌-◌, ◌+◌, length, ◌≤◌, ◌<◌, ℕ, List, ap, arith, rules}
 use Rattle.cache.specs.Entries.{Entries}
-use Rattle.redo_log.specs.Value.{LogValue, HasNoCopy}
 use Rattle.blocks.proofs.ReadCalls.{none_at, keeps_turn, all_read, keeps_more, calls_more, block_more}
 use Rattle.blocks.proofs.store.Store.read_home.Goals as goal
-
--- no record that waits has a copy where none waits
-no_copy : (log : LogValue) (b : ℕ) → log.waiting ≡ [] → HasNoCopy log b
-no_copy log b empty age waits = let none = ap (λ (w : List (List ℕ)). length w) empty in absurd (omega (arith, waits, none))
 
 pub read_at_home-requires-clause-home : goal.read_at_home-requires-clause-home
 read_at_home-requires-clause-home g c =
     let s = c.args.self.now.cached in
     let none = λ (batch : Entries). none_at batch c.args.address (length c.args.to.now / 512) c.loop-i.i in
     let below : c.loop-i.i < length c.args.to.now / 512 = omega (arith, c.loop-i-test.true) in
+    let empty = ap (λ (w : List (List ℕ)). length w) c.requires.home.log in
     rw c.loop-i.invariant.keeps.stays (record {
       none = (none s.active c.requires.home.active below, none s.frozen c.requires.home.frozen below);
-      log = no_copy s.log (c.args.address + c.loop-i.i) c.requires.home.log;
+      log = λ age waits. absurd (omega (arith, waits, empty));
     })
 
 pub loop-i-preserved : goal.loop-i-preserved

@@ -4,7 +4,7 @@ use Rattle.std.proofs.lemmas.Result.{on_ok_weaker}
 use Rattle.medium.specs.{Sent.sent, declared.fault.MediumFault.TheVariants.Flush}
 use Rattle.journal.specs.Places.{Shape}
 use Rattle.blocks.specs.{Flushing.both_flushes, Retiring.finished, Retiring.both_calls, Sent.most_sent, Sent.batch_sends}
-use Rattle.blocks.specs.StoreValue.{Cached, StoreValue, firsts_in, steps_left}
+use Rattle.blocks.specs.StoreValue.{StoreValue, firsts_in}
 use Rattle.blocks.proofs.{EmptyBatches.none_of, BookTurns.settles, FlushesOnce.both_durable, FlushesOnce.store_is, Headroom.both_each}
 use Rattle.blocks.proofs.{Headroom.headroom_finished, Steady.steady_sync, Steady.steady_roomy, store.Store.sync.Given.Over}
 use Rattle.blocks.proofs.TurnsJoined.{swapped_steps, kept_paid, paid_then, paid_more}
@@ -29,12 +29,11 @@ returns-clause-passes g c =
     let live = c.in_ok-finish.ensures.batch.answers.answer in
     let quiet = ap (λ m. sent (g.M.Medium.state m)) keeps.medium in
     let same = ap (λ (shape : Shape). most_sent shape.format) (keeps.turn.goes_on.layout_stays ∙ first.turn.goes_on.layout_stays) in
-    let steps = ap (λ (s : Cached). steps_left s) c.freeze.ensures.swapped in
     let fewer = swapped_steps c.finish.new.self.cached c.in_ok-finish.ensures.batch.done.0 in
+    let swap = kept_paid {Follows = g.M.Medium.follows} {sends = 0} g.met.M.Medium.follows_itself keeps
+    (grind (arith, c.freeze.ensures.swapped, fewer)) in
     paid_then {last = batch_sends c.freeze.new.self.cached} g.met.M.Medium.follows_through first live
-    (paid_then {first = 0} g.met.M.Medium.follows_through
-    (kept_paid g.met.M.Medium.follows_itself keeps (λ lives. omega (arith, steps, fewer)))
-    (rw c.freeze.ensures.swapped live) last (omega (arith, quiet, last.sent)))
+    (paid_then g.met.M.Medium.follows_through swap (rw c.freeze.ensures.swapped live) last (omega (arith, quiet, last.sent)))
     (omega (arith, first.sent, last.sent, quiet, same))
 
 pub returns-clause-ok : goal.returns-clause-ok
@@ -60,19 +59,16 @@ returns-clause-batches g c =
     let last = rw (froze g c, c.finish.ensures.batch.active, c.finish.ensures.passes.policy) at c.finish-2.ensures.batch in
     record {
       active = search rules;
-      rests = λ none.
-          let no_active = none_of old.active.numbers (omega (arith, none)) in
-          ap (λ v. v.medium) (last.rests no_active) ∙ ap (λ v. v.medium) (first.rests (none_of old.frozen.numbers (omega (arith, none))));
+      rests = grind (arith, last.rests, first.rests, none_of old.active.numbers, none_of old.frozen.numbers);
       waits = search rules;
       finishes = finishes;
       retires = search rules;
-      fills = λ on filling none listed.
-          let same = ap (λ v. v.cached.log) (first.rests none) in rw same at (last.fills on (rw same filling) listed);
+      fills = grind (arith, first.rests, last.fills);
       stays = λ on steady. last.stays on (first.stays on steady);
-      headroom = λ on head live.
-          let one = headroom_finished old.frozen.numbers (firsts_in old.frozen) old.log head in
-          let both = headroom_finished old.active.numbers (firsts_in old.active) (finished true old.frozen old.log) one in
-          grind (arith, finishes, last.answers.answer, both, on, live);
+      headroom =
+          let one = headroom_finished old.frozen.numbers (firsts_in old.frozen) old.log in
+          let both = headroom_finished old.active.numbers (firsts_in old.active) (finished true old.frozen old.log) in
+          grind (arith, finishes, last.answers.answer, one, both);
     }
 
 pub returns-in_err-finish-clause-cost : goal.returns-in_err-finish-clause-cost
@@ -91,14 +87,13 @@ returns-clause-cost g c =
     let silent = flushes_of ahead frozen active (firsts_in old.frozen) old.log _ first.batch.finishes in
     let calls : OnOk c.finish-2.result ((g.M.Medium.state c.finish-2.new.self.medium).calls
     ≡ (g.M.Medium.state c.args.self.now.medium).calls + both_calls ahead frozen active old.log) =
-    on_ok_weaker c.finish-2.result (λ all. omega (arith, all, same, first.cost)) cost in
+    grind (arith, cost, same, first.cost) in
     let flushes : OnOk c.finish-2.result ((g.M.Medium.state c.finish-2.new.self.medium).made Flush
     ≡ (g.M.Medium.state c.args.self.now.medium).made Flush + both_flushes ahead frozen active old.log) =
-    on_ok_weaker c.finish-2.result (λ all. omega (arith, all, silent, first.flushes)) flushed in
+    grind (arith, flushed, silent, first.flushes) in
     record {
       exactly = calls;
-      roomy = λ slots.
-          on_ok_weaker c.finish-2.result (λ all. omega (arith, all, roomy_both ahead frozen active old.log slots)) calls;
+      roomy = grind (arith, calls, roomy_both ahead frozen active old.log);
       steady = λ on still none some. rw (on, steady_sync frozen active old.log still none some) at calls;
       flushes = flushes;
       once = λ two room none some. rw (once ahead frozen active old.log two room none some) at flushes;

@@ -1,4 +1,4 @@
-use Rattle.std.proofs.Common.{◌≡◌, false, true, sym, ◌∙◌, refl, inl, ap, arith, rules}
+use Rattle.std.proofs.Common.{◌≡◌, false, true, sym, ◌∙◌, arith}
 use Rattle.medium.proofs.Moments.{unchanged}
 use Rattle.blocks.specs.StoreValue.{is_dead}
 use Rattle.blocks.proofs.{FlushesOnce.counted_store, FlushesOnce.none_counted, TurnsJoined.kept_then, TurnsJoined.rested_on}
@@ -6,13 +6,9 @@ use Rattle.blocks.proofs.store.Store.work_ahead.Goals as goal
 
 pub returns-then-not-self : goal.returns-then-not-self
 returns-then-not-self g c =
-    let same = unchanged (g.M.Medium.state c.args.self.now.medium) in
-    record {
-      passes = rested_on g.met.M.Medium.follows_itself g.met.M.Medium.sound;
-      order = grind (arith, same, c.then-not-self.branch, c.self.view_is, c.self.invariant.writes);
-      steps = search (rules, arith);
-      active = inl refl;
-    }
+    let old = c.args.self.now in
+    let passes = rested_on {Follows = g.M.Medium.follows} {most = 2} {sends = 2} {old = old} g.met.M.Medium.follows_itself g.met.M.Medium.sound in
+    grind (arith, unchanged (g.M.Medium.state old.medium), c.then-not-self.branch, c.self.view_is, c.self.invariant.writes, passes)
 
 pub returns : goal.returns
 returns g c =
@@ -23,10 +19,5 @@ returns g c =
     rw (← c.self.view_is) (c.self.invariant.rests (rw (← c.self.view_is) at live) c.if-self.false) in
     let is = counted_store c.count_flush.ensures in
     let goes = rw is at c.step_ahead.ensures.goes in
-    let step = c.step_ahead.ensures in
-    record {
-      passes = kept_then c.count_flush.ensures.keeps step.passes;
-      order = grind (arith, live, on, goes);
-      steps = grind (arith, live, on, step.left, step.rests, c.count_flush.ensures.counts.fewer, is, none_counted old.cached);
-      active = inl (ap (λ batch. batch.numbers) goes.active);
-    }
+    let passes = kept_then c.count_flush.ensures.keeps c.step_ahead.ensures.passes in
+    grind (arith, live, on, goes, passes, c.step_ahead.ensures, c.count_flush.ensures.counts.fewer, is, none_counted old.cached)

@@ -1,4 +1,4 @@
-use Rattle.std.proofs.Common.{◌≡◌, ◌<◌, ◌∙◌, inl, refl, ap, sym, arith, false}
+use Rattle.std.proofs.Common.{◌≡◌, ◌<◌, ◌∙◌, sym, arith, false}
 use Rattle.std.proofs.lemmas.Bool.{false≢true}
 use Rattle.medium.proofs.Moments.{unchanged}
 use Rattle.blocks.specs.{StoreValue.is_dead, Work.MayWrite, Written.IsWritten}
@@ -10,12 +10,9 @@ use Rattle.blocks.proofs.store.Store.write_back.Goals as goal
 pub returns-then-is_written : goal.returns-then-is_written
 returns-then-is_written g c =
     let written = c.is_written.ensures.0 c.if-is_written.true in
-    record {
-      passes = rested_on g.met.M.Medium.follows_itself g.met.M.Medium.sound;
-      order = grind (arith, unchanged (g.M.Medium.state c.args.self.now.medium), written);
-      steps = record { left = λ live. inl written; rests = λ none. refl; dead = λ dead. refl };
-      active = inl refl;
-    }
+    let old = c.args.self.now in
+    let passes = rested_on {Follows = g.M.Medium.follows} {most = 2} {sends = 2} {old = old} g.met.M.Medium.follows_itself g.met.M.Medium.sound in
+    grind (arith, unchanged (g.M.Medium.state c.args.self.now.medium), written, passes)
 
 left : (g : Over) (c : Else-is_written g) → ¬ IsWritten c.args.self.now.cached
 left g c written = false≢true (sym c.if-is_written.false ∙ c.is_written.ensures.1 written)
@@ -40,14 +37,8 @@ pub returns-then-self : goal.returns-then-self
 returns-then-self g c =
     let open_ = left g (goal.at.returns-then-self g c).Else-is_written in
     let lives = live g (goal.at.returns-then-self g c).Else-is_written in
-    let steps = steps_to_write c.args.self.now.cached open_ in
-    let made = c.step.ensures in
-    record {
-      passes = grind (arith, made.passes);
-      order = grind (arith, open_, begun g (goal.at.returns-then-self g c).Then-self lives, made.record_step);
-      steps = grind (arith, open_, lives, steps, made.writes.falls);
-      active = inl (ap (λ batch. batch.numbers) made.writes.active);
-    }
+    let under_way = begun g (goal.at.returns-then-self g c).Then-self lives in
+    grind (arith, open_, lives, under_way, steps_to_write c.args.self.now.cached open_, c.step.ensures)
 
 pub begin_next-requires : goal.begin_next-requires
 begin_next-requires g c = record {
@@ -59,14 +50,10 @@ begin_next-requires g c = record {
 pub returns-then-may_write : goal.returns-then-may_write
 returns-then-may_write g c =
     let open_ = left g (goal.at.returns-then-may_write g c).Else-is_written in
-    let steps = steps_to_write c.args.self.now.cached open_ in
-    let made = c.begin_next.ensures in
-    record {
-      passes = kept_on g.met.M.Medium.follows_itself made.keeps;
-      order = grind (arith, open_, c.may_write.ensures.begins.0 c.if-may_write.true, made.beginning);
-      steps = grind (arith, open_, live g (goal.at.returns-then-may_write g c).Else-is_written, steps, made.falls);
-      active = made.active;
-    }
+    let lives = live g (goal.at.returns-then-may_write g c).Else-is_written in
+    let passes = kept_on {Follows = g.M.Medium.follows} {most = 2} {sends = 2} g.met.M.Medium.follows_itself c.begin_next.ensures.keeps in
+    let may = c.may_write.ensures.begins.0 c.if-may_write.true in
+    grind (arith, open_, lives, may, steps_to_write c.args.self.now.cached open_, c.begin_next.ensures, passes)
 
 pub make_way-requires : goal.make_way-requires
 make_way-requires g c =
@@ -78,13 +65,7 @@ pub returns : goal.returns
 returns g c =
     let open_ = left g (goal.at.returns g c).Else-is_written in
     let lives = live g (goal.at.returns g c).Else-is_written in
-    let steps = steps_to_write c.args.self.now.cached open_ in
     let no : ¬ MayWrite c.args.self.now.goes_ahead c.args.self.now.cached.log =
     λ may. false≢true (sym c.if-may_write.false ∙ c.may_write.ensures.begins.1 may) in
-    let made = c.make_way.ensures in
-    record {
-      passes = made.passes;
-      order = grind (arith, open_, idle g (goal.at.returns g c).Else-self lives, no, made.way);
-      steps = grind (arith, open_, lives, steps, made.falls);
-      active = inl (ap (λ batch. batch.numbers) made.active);
-    }
+    let none = idle g (goal.at.returns g c).Else-self lives in
+    grind (arith, open_, lives, none, no, steps_to_write c.args.self.now.cached open_, c.make_way.ensures)

@@ -32,17 +32,7 @@ loop-preserved g c =
     let so_far = c.loop.invariant in
     let wrote = writes_more c.args.self.now.cached.log _ _ _ gone.2.log more so_far.so_far in
     let less = flushes_step gone.1 c.loop.self.cached.log c.step.new.self.cached.log so_far.under_way gone.2.log in
-    record {
-      passes = λ sends few. step_passes g (goal.at.loop-preserved g c).After-step few;
-      live = c.in_ok-step.ensures.answer;
-      under_way = more;
-      so_far = wrote.0;
-      exactly = omega (arith, wrote.1, c.step.ensures.record_step.one_call, so_far.exactly);
-      sends = omega (arith, wrote.1, c.step.ensures.passes.sent, so_far.sends);
-      flushes = omega (arith, less, c.step.ensures.record_step.flushed, so_far.flushes);
-      head = c.step.ensures.writes.head ∙ so_far.head;
-      active = c.step.ensures.writes.active ∙ so_far.active;
-    }
+    search (rules, arith, so_far, c.step.ensures, step_passes g (goal.at.loop-preserved g c).After-step)
 
 pub returns : goal.returns
 returns g c =
@@ -51,11 +41,6 @@ returns g c =
     let so_far = c.loop.invariant in
     let wrote = writes_last c.args.self.now.cached.log _ _ _ gone.2.log none so_far.so_far in
     let less = flushes_step gone.1 c.loop.self.cached.log c.step.new.self.cached.log so_far.under_way gone.2.log in
-    record {
-      passes = step_passes g (goal.at.returns g c).After-step
-          (omega (arith, so_far.sends, c.step.ensures.passes.sent, so_far.under_way));
-      answer = search rules;
-      batch = record { done = search rules; written = wrote.0; waits = search rules; head = search rules; active = search rules };
-      exactly = omega (arith, wrote.1, none, c.step.ensures.record_step.one_call, so_far.exactly);
-      flushes = grind (arith, less, none, c.step.ensures.record_step.flushed, so_far.flushes);
-    }
+    let passes = step_passes g (goal.at.returns g c).After-step {sends = c.args.self.now.cached.log.steps_left}
+    (omega (arith, so_far.sends, c.step.ensures.passes.sent, so_far.under_way)) in
+    search (rules, arith)
