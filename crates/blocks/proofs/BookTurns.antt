@@ -189,27 +189,22 @@ appends {s = s} {book = book} more address bytes count put f =
     let w : Write = record { address = address; blocks = chunks count bytes } in
     let longer : length (book.writes ++ w ∷ []) ≡ length book.writes + 1 = length-append book.writes (w ∷ []) in
     let middle : Array = over (map_of s.frozen) f.view.array in
-    let a = f.arrays in
-    shows_book f more refl refl (record {
-      promises = a.promises;
-      rises = a.rises;
-      accepted = omega (arith, a.accepted, longer);
-      floor_is = rw (first_same book w f.floor_count (omega (arith, a.rises, a.accepted))) a.floor_is;
-      middle_is = rw (first_same book w f.middle_count a.accepted) a.middle_is;
-      now_is = λ b below. over_put s.active more middle address count bytes put b
-          ∙ (apply_same w (over (map_of s.active) middle) (array_of book) b (a.now_is b below)
-          ∙ ap (λ (a : Array). a b) (sym (after_last book.opening book.writes w)));
-    }) (grind (arith, f.stamps, longer))
+    let first = λ (k : ℕ) (le : k ≤ length book.writes). first_same book w k le in
+    let now = λ (b : ℕ) (below : b < book.blocks). over_put s.active more middle address count bytes put b
+    ∙ (apply_same w (over (map_of s.active) middle) (array_of book) b (f.arrays.now_is b below)
+    ∙ ap (λ (a : Array). a b) (sym (after_last book.opening book.writes w))) in
+    shows_book {k = f.floor_count} {n = f.middle_count} f more refl refl (grind (arith, f.arrays, longer, first, now))
+    (grind (arith, f.stamps, longer))
 
 -- with both batches empty everything is durable
 pub settles : {m : State} {s : Cached} {book : Book} → s.frozen.numbers ≡ [] → s.active.numbers ≡ [] → FitsBook m s book
     → FitsBook m s (promised book)
 settles {s = s} no_frozen no_active f =
-    let frozen : (a : Array) (b : ℕ) → over (map_of s.frozen) a b ≡ a b = over_none s.frozen.numbers s.frozen.bytes no_frozen in
-    let active : (a : Array) (b : ℕ) → over (map_of s.active) a b ≡ a b = over_none s.active.numbers s.active.bytes no_active in
+    let frozen = over_none s.frozen.numbers s.frozen.bytes no_frozen f.view.array in
     let middle : Array = over (map_of s.frozen) f.view.array in
-    shows_book f s.active refl refl (shows_same (shows_promised f.arrays) (λ b below. sym (active middle b ∙ frozen f.view.array b))
-    (λ b below. sym (active middle b)) (λ b below. refl)) f.stamps
+    let active = over_none s.active.numbers s.active.bytes no_active middle in
+    shows_book f s.active refl refl (shows_same (shows_promised f.arrays) (λ b below. sym (active b ∙ frozen b))
+    (λ b below. sym (active b)) (λ b below. refl)) f.stamps
 
 -- an image that is ours for the blocks after some of the first writes may be found
 pub may_find : {size : ℕ} {book : Book} {shape : Shape} {image : Image} {a : Array} {next : ℕ} (k : ℕ) → book.mark ≤ k

@@ -31,7 +31,7 @@ module _ (m : State) (sound : IsSound m) (s : Cached) (live : is_dead s ≡ fals
       ∙ f.arrays.now_is b below
 
   no_records : (book : Book) (f : FitsBook m s book) → f.view.records ≡ []
-  no_records book f = none_of f.view.records (omega (arith, many f.holds, ap (λ (l : List (List ℕ)). length l) empty))
+  no_records book f = none_of f.view.records (grind (arith, many f.holds, empty))
 
   at_home : (book : Book) → FitsBook m s book → IsAtHome (layout_of s) book m.content
   at_home book f b below =

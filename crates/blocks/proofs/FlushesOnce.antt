@@ -87,9 +87,7 @@ store_is s t medium cached policy = grind (arith, medium, cached, policy)
 -- a flush was counted
 pub counted_store : {M : Type 0} {state : M → State} {old mid : StoreValue M} → SettlesFlush state old mid
     → mid ≡ record old { cached = with_counted old.cached }
-counted_store {old = old} {mid = mid} made =
-    let cached : mid.cached ≡ with_counted old.cached = grind (arith, made.counts, made.counts.stays) in
-    store_is _ mid made.keeps.medium cached made.keeps.policy
+counted_store {old = old} {mid = mid} made = grind (arith, made, made.counts, made.counts.stays)
 
 -- no flush is counted where no step is left
 pub none_counted : (s : Cached) → steps_left s ≡ 0 → counted s.log ≡ s.log
@@ -175,8 +173,10 @@ does_work {state = state} {work = Settle} {old = old} {new = new} made = grind (
   settles_once true (state old.medium) (state new.medium) old.cached new.cached,
   headroom_stepped (state old.medium) (state new.medium) old.cached new.cached,
 )
-does_work {state = state} {work = Ahead} {old = old} {new = new} made = grind (arith, made, spared_ahead (state old.medium) (state new.medium) old.cached new.cached)
-does_work {state = state} {work = WriteBack} {old = old} {new = new} made = grind (arith, made, spared_back (state old.medium) (state new.medium) old.cached new.cached)
+does_work {state = state} {work = Ahead} {old = old} {new = new} made =
+    grind (arith, made, spared_ahead (state old.medium) (state new.medium) old.cached new.cached)
+does_work {state = state} {work = WriteBack} {old = old} {new = new} made =
+    grind (arith, made, spared_back (state old.medium) (state new.medium) old.cached new.cached)
 
 -- ---- one call after another
 

@@ -68,14 +68,9 @@ reopened : (m : State) (s : Cached) (book : Book) (c : Array) → Same book.bloc
     → FitsBook m s (record book { opening = c })
 reopened m s book c same f =
     let a = f.arrays in
-    shows_book f s.active refl refl (record {
-      promises = a.promises;
-      rises = a.rises;
-      accepted = a.accepted;
-      floor_is = λ b below. a.floor_is b below ∙ after_same (take f.floor_count book.writes) book.opening c b (same b below);
-      middle_is = λ b below. a.middle_is b below ∙ after_same (take f.middle_count book.writes) book.opening c b (same b below);
-      now_is = λ b below. a.now_is b below ∙ after_same book.writes book.opening c b (same b below);
-    }) f.stamps
+    let first = λ (k b : ℕ) (below : b < book.blocks). after_same (take k book.writes) book.opening c b (same b below) in
+    let all = λ (b : ℕ) (below : b < book.blocks). after_same book.writes book.opening c b (same b below) in
+    shows_book {k = f.floor_count} {n = f.middle_count} f s.active refl refl (grind (arith, a, first, all)) f.stamps
 
 -- a store that serves what the contents stood for fits each book with which a life may open over them
 pub serves : (before after : State) (s : Cached) (array : Array) (next : ℕ) → StandsFor before.size (layout_of s) before.content array next

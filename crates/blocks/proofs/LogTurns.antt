@@ -184,14 +184,14 @@ module _ (m : State) (sound : IsSound m) (s : Cached) where
 
   -- no stamp is left for it, and the log is dead
   pub begins_nothing : HasRoom s.log → 0 < length s.frozen.numbers → s.log.next ≡ 2 ^ 63 - 1 → IsTurn m m s (record s { log = died s.log })
-  begins_nothing room some last = record {
-    fits = λ book f. moves f (died_holds s.log m f.view f.holds) refl f.under_way f.some refl refl refl;
-    cuts = still_found;
-    goes_on =
-        let out : (book : Book) → FitsBook m s book → 2 ^ 63 - 1 ≤ book.stamp + length book.writes = λ book f.
-        omega (arith, f.stamps, f.holds.next, many f.holds, last, ap (λ (l : List ℕ). stamps_of l) room.none_under_way) in
-        grind (arith, spared_start (sectors_of (layout_of s)) m sound, out);
-  }
+  begins_nothing room some last =
+      let out : (book : Book) → FitsBook m s book → 2 ^ 63 - 1 ≤ book.stamp + length book.writes = λ book f.
+      omega (arith, f.stamps, f.holds.next, many f.holds, last, ap (λ (l : List ℕ). stamps_of l) room.none_under_way) in
+      record {
+        fits = λ book f. moves f (died_holds s.log m f.view f.holds) refl f.under_way f.some refl refl refl;
+        cuts = still_found;
+        goes_on = grind (arith, spared_start (sectors_of (layout_of s)) m sound, out);
+      }
 
   -- the active batch is frozen in place of an empty one
   pub freezes_active : s.log.steps_left ≡ 0 → s.frozen.numbers ≡ [] → IsTurn m m s (record s { active = s.frozen; frozen = s.active })

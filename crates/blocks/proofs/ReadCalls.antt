@@ -2,7 +2,7 @@
 use Rattle.std.specs.Prelude.{Ok, Err, OnOk}
 use Rattle.std.proofs.{lemmas.List.length-drop, lemmas.List.length-take-le, lemmas.List.take_all, lemmas.Slice.take-put_mid}
 use Rattle.std.proofs.Common.{◌≡◌, ℕ, zero, suc, ◌+◌, ◌*◌, ◌≤◌, ◌<◌, List, ◌++◌, length, take, drop, None, sym, ◌∙◌, ap}
-use Rattle.std.proofs.Common.{arith, inl, inr, append_assoc, append-nil, add-zero, add-one, Result, false, refl, subst, rules}
+use Rattle.std.proofs.Common.{arith, inl, inr, append_assoc, append-nil, add-zero, add-one, Result, false, refl, subst}
 use borrow.Rule.Slice.PartMut.{put_mid}
 use Rattle.medium.specs.{Medium.State, Medium.Passes, Medium.IsSound, Medium.LooksOnly, Medium.Stays, Medium.Within, Sent.SendsUpTo}
 use Rattle.medium.specs.declared.fault.MediumFault.{MediumFault}
@@ -96,24 +96,19 @@ module _ {M : Type 0} {state : M → State} {Follows : M → M → Type 0} {n : 
       → Within (state n).may_leave (state old.medium).may_leave
       → Follows old.medium n × LooksOnly (λ x. x ≡ sector) (state old.medium) (state n)
       → KeepsStore state Follows block 1 old (record old { medium = n })
-  home_keeps sector is passes content sets follows = record {
-    stays = refl;
-    quiet = quiet_call (state old.medium) (state n) passes content sets;
-    follows = follows.0;
-    looks = one_look _ (state old.medium) (state n) sector (inr (omega (arith, is), omega (arith, is))) follows.1;
-    policy = refl;
-  }
+  home_keeps sector is passes content sets follows =
+      let quiet = quiet_call (state old.medium) (state n) passes content sets in
+      let looks = one_look _ (state old.medium) (state n) sector (inr (omega (arith, is), omega (arith, is))) follows.1 in
+      record { stays = refl; quiet = quiet; follows = follows.0; looks = looks; policy = refl }
 
   pub reads_one : {bytes : List ℕ} (call : Result (Unit {0}) MediumFault) → Passes Read call (state old.medium) (state n)
       → block < blocks_of old.cached → IsInNone old.cached block → KeepsStore state Follows block 1 old (record old { medium = n })
       → ((book : Book) → (fits : FitsBook (state old.medium) old.cached book) → OnOk call (bytes ≡ fits.view.array block))
       → ReadsBlock state Follows (told call) block bytes old (record old { medium = n })
-  reads_one (Ok done) passes below none keeps ok = record {
-    ok = λ book fits. ok book fits ∙ durable_is (state old.medium) old.cached book fits block below none.0 none.1;
-    err = search rules;
-    keeps = keeps;
-    cost = grind (arith, passes.calls_are, read_sends (state old.medium) (state n) passes, reads_copy old.cached block none.0 none.1);
-  }
+  reads_one (Ok done) passes below none keeps ok =
+      let newest = λ (book : Book) (fits : FitsBook (state old.medium) old.cached book).
+      ok book fits ∙ durable_is (state old.medium) old.cached book fits block below none.0 none.1 in
+      grind (arith, newest, keeps, passes, read_sends (state old.medium) (state n) passes, reads_copy old.cached block none.0 none.1)
   reads_one (Err fault) passes below none keeps ok =
       grind (arith, keeps, passes, read_sends (state old.medium) (state n) passes, reads_copy old.cached block none.0 none.1)
 
@@ -158,15 +153,12 @@ module _ {M : Type 0} {state : M → State} {Follows : M → M → Type 0} {addr
     -- one more is, good or refused
     pub keeps_more : ((m n k : M) → Follows m n → Follows n k → Follows m k) → {count : ℕ} {new : StoreValue M} → i + 1 ≤ count
         → KeepsStore state Follows (address + i) 1 mid new → KeepsStore state Follows address count old new
-    keeps_more through {count} {new} more last = record {
-      stays = last.stays ∙ read.keeps.stays;
-      quiet = quiet_joined _ _ _ read.keeps.quiet last.quiet;
-      follows = through _ _ _ read.keeps.follows last.follows;
-      looks = fewer_read (state old.medium) (state new.medium) old.cached address (i + 1) count more
-          (one_more (state old.medium) (state mid.medium) (state new.medium) old.cached mid.cached address i read.keeps.stays
-          read.keeps.looks last.looks);
-      policy = last.policy ∙ read.keeps.policy;
-    }
+    keeps_more through {count} {new} more last =
+        let quiet = quiet_joined _ _ _ read.keeps.quiet last.quiet in
+        let looks = fewer_read (state old.medium) (state new.medium) old.cached address (i + 1) count more
+        (one_more (state old.medium) (state mid.medium) (state new.medium) old.cached mid.cached address i read.keeps.stays
+        read.keeps.looks last.looks) in
+        grind (arith, quiet, looks, through _ _ _ read.keeps.follows last.follows, read.keeps, last)
 
     pub calls_more : {count : ℕ} (new : StoreValue M) → i + 1 ≤ count
         → (state new.medium).calls ≤ (state mid.medium).calls + block_reads mid.cached (address + i)

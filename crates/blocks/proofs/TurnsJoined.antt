@@ -58,12 +58,9 @@ untouched sound same =
 -- a turn that accepts no write
 pub not_written : (w : Write) (before after : State) (old new : Cached) → IsTurn before after old new
     → IsWriteTurn w false before after old new
-not_written w before after old new turn = record {
-  fits = turn.fits;
-  cuts = λ book f ours.
-      weaker (MayFind before.size book) (Found before.size book w) before after (λ image found. inl found) (turn.cuts book f ours);
-  goes_on = turn.goes_on;
-}
+not_written w before after old new turn =
+    let wider = λ (book : Book). weaker (MayFind before.size book) (Found before.size book w) before after (λ image found. inl found) in
+    record { fits = turn.fits; cuts = λ book f ours. wider book (turn.cuts book f ours); goes_on = turn.goes_on }
 
 -- a turn, and then one that accepts a write
 pub then_written : (w : Write) (before mid after : State) (old then new : Cached) → IsTurn before mid old then
@@ -91,11 +88,7 @@ kept turn = record { turn = turn; medium = refl; policy = refl }
 -- one turn without a call, and then one that accepts a write
 pub written_on : {M : Type 0} {state : M → State} {w : Write} {old mid new : StoreValue M} → KeepsMedium state IsTurn old mid
     → KeepsMedium state (IsWriteTurn w true) mid new → KeepsMedium state (IsWriteTurn w true) old new
-written_on first last = record {
-  turn = then_written _ _ _ _ _ _ _ first.turn last.turn;
-  medium = last.medium ∙ first.medium;
-  policy = last.policy ∙ first.policy;
-}
+written_on first last = let turn = then_written _ _ _ _ _ _ _ first.turn last.turn in grind (arith, turn, first, last)
 
 -- both batches change places where no record is under way, and as many steps are left
 pub swapped_steps : (s : Cached) → s.log.steps_left ≡ 0 → steps_left (record s { active = s.frozen; frozen = s.active }) ≤ steps_left s
@@ -136,15 +129,10 @@ module _ {M : Type 0} {state : M → State} {Follows : M → M → Type 0} where
   pub paid_then : {first last all : ℕ} {old mid new : StoreValue M} → ((m n k : M) → Follows m n → Follows n k → Follows m k)
       → PassesPaid state Follows first old mid → is_dead mid.cached ≡ false → PassesPaid state Follows last mid new
       → SendsUpTo all (state old.medium) (state new.medium) → PassesPaid state Follows all old new
-  paid_then {old = old} {mid = mid} {new = new} through one live two sent = record {
-    turn = turns _ _ _ _ _ _ one.turn two.turn;
-    paid = grind (arith, one.paid, live, two.paid);
-    sent = sent;
-    none_refused = λ lives. two.none_refused lives ∙ one.none_refused live;
-    follows = through _ _ _ one.follows two.follows;
-    looks = looks_on _ _ _ old.cached mid.cached one.turn.goes_on.layout_stays one.looks two.looks;
-    policy = two.policy ∙ one.policy;
-  }
+  paid_then {old = old} {mid = mid} {new = new} through one live two sent =
+      let turn = turns _ _ _ _ _ _ one.turn two.turn in
+      let looks = looks_on _ _ _ old.cached mid.cached one.turn.goes_on.layout_stays one.looks two.looks in
+      grind (arith, turn, looks, through _ _ _ one.follows two.follows, one, live, two, sent)
 
   -- as a write that is refused tells it, and one that takes place without a call
   pub paid_refused : {w : Write} {sends : ℕ} {old new : StoreValue M} → PassesPaid state Follows sends old new

@@ -1,4 +1,5 @@
-use Rattle.std.proofs.Common.{rules}
+use Rattle.std.proofs.Common.{arith, rules}
+use Rattle.blocks.specs.StoreValue.{Cached}
 use Rattle.blocks.proofs.{BookTurns.is_batch, LogTurns.begins_record, LogTurns.begins_nothing, TurnsJoined.kept}
 use Rattle.blocks.proofs.store.Store.begin.Goals as goal
 
@@ -20,11 +21,8 @@ returns-in-Ok g c = record {
 }
 
 pub returns-in-Err : goal.returns-in-Err
-returns-in-Err g c = record {
-  keeps = rw (← c.self.view_is, c.in-Err.ensures.err.2)
-      (kept (begins_nothing _ (g.met.M.Medium.sound c.self.inside.medium) _
-      (rw (← c.self.view_is) at c.requires.room) (rw (← c.self.view_is) at c.requires.some) c.in-Err.ensures.err.1));
-  begins = search rules;
-  answer = search rules;
-  begun = search rules;
-}
+returns-in-Err g c =
+    let s : Cached = record { log = c.self.inside.log; active = c.self.inside.active; frozen = c.self.inside.frozen } in
+    let turn = begins_nothing _ (g.met.M.Medium.sound c.self.inside.medium) s
+    (rw (← c.self.view_is) at c.requires.room) (rw (← c.self.view_is) at c.requires.some) c.in-Err.ensures.err.1 in
+    grind (arith, turn, c.in-Err.ensures, c.requires, c.self.view_is)

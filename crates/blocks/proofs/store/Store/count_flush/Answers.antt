@@ -1,11 +1,10 @@
-use Rattle.std.proofs.Common.{rules}
-use Rattle.blocks.proofs.{LogTurns.counts_turn, TurnsJoined.kept}
+use Rattle.std.proofs.{Common.arith, lemmas.Bool.Decides.nat_tests}
+use Rattle.blocks.specs.StoreValue.{Cached}
+use Rattle.blocks.proofs.{LogTurns.counts_turn}
 use Rattle.blocks.proofs.store.Store.count_flush.Goals as goal
 
 pub returns : goal.returns
-returns g c = record {
-  keeps = rw (← c.self.view_is)
-      (kept (counts_turn _ (g.met.M.Medium.sound c.self.inside.medium) _ c.count_covered.new.log c.count_covered.ensures));
-  counts = search rules;
-  life = search rules;
-}
+returns g c =
+    let s : Cached = record { log = c.self.inside.log; active = c.self.inside.active; frozen = c.self.inside.frozen } in
+    let turn = counts_turn _ (g.met.M.Medium.sound c.self.inside.medium) s c.count_covered.new.log c.count_covered.ensures in
+    grind (arith, nat_tests, turn, c.count_covered.ensures, c.requires, c.self.view_is)

@@ -107,16 +107,14 @@ returns g c =
     fills numbers (firsts_in old.frozen) old.log filling (room.blocks on) some in
     let stay = λ (on : ahead ≡ true) (steady : IsSteady old.log).
     stays_on numbers (firsts_in old.frozen) old.log steady (room.blocks on) in
+    let kept = kept_paid {Follows = g.M.Medium.follows} {sends = 0} g.met.M.Medium.follows_itself begins.keeps
+    (λ lives. omega (arith, begins.begins.falls lives)) in
     record {
       passes = paid_then {last = c.begin.new.self.cached.log.steps_left} g.met.M.Medium.follows_through ready.passes room.answer
-          (paid_then {first = 0} g.met.M.Medium.follows_through
-          (kept_paid g.met.M.Medium.follows_itself begins.keeps (λ lives. omega (arith, begins.begins.falls lives)))
-          c.in_ok-begin.ensures.answer wrote.passes (omega (arith, quiet, wrote.passes.sent)))
+          (paid_then g.met.M.Medium.follows_through kept c.in_ok-begin.ensures.answer wrote.passes (omega (arith, quiet, wrote.passes.sent)))
           (omega (arith, ready.passes.sent, wrote.passes.sent, few, quiet));
       batch = grind (arith, live, idle, some, wrote.answer, wrote.batch, begins.begins, room.room, finishes, fill, stay);
-      cost = on_ok_weaker c.write_out-2.result
-          (λ all. omega (arith, rw (first, shape) at all, calls, room.cost, finish_begun ahead numbers old.log idle some)) wrote.exactly;
-      flushes = on_ok_weaker c.write_out-2.result
-          (λ all. omega (arith, rw (first, shape) at all, made, room.flushed, flushes_begun numbers old.log idle some)) wrote.flushes;
+      cost = grind (arith, rw (first, shape) at wrote.exactly, calls, room.cost, finish_begun ahead numbers old.log idle some);
+      flushes = grind (arith, rw (first, shape) at wrote.flushes, made, room.flushed, flushes_begun numbers old.log idle some);
       one_batch = made_room g (goal.at.returns g c).After-make_ready (omega (arith, quiet, few, wrote.passes.sent));
     }

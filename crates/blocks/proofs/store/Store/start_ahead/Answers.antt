@@ -1,4 +1,4 @@
-use Rattle.std.proofs.Common.{◌≡◌, ◌∙◌, ap, sym, subst}
+use Rattle.std.proofs.Common.{arith, ◌≡◌, ◌∙◌, ap, sym, subst}
 use Rattle.journal.specs.Places.{Shape}
 use Rattle.blocks.specs.{Ahead.may_go_ahead, Started.IsStarted, Started.LeavesMedium, StoreValue.Cached, StoreValue.layout_of}
 use Rattle.blocks.proofs.{Headroom.starts_with_room, KnownImages.with_policy, Steady.starts_filling, Steady.starts_reaching}
@@ -14,17 +14,17 @@ returns g c =
     subst (λ v. IsStarted before (g.M.Medium.state v.medium) v.cached) (sym c.store.view_is) c.in-Ok.ensures.ok in
     let policy : c.may_go_ahead.result ≡ may_go_ahead (layout_of cached) =
     c.may_go_ahead.ensures ∙ ap (λ (shape : Shape). may_go_ahead shape) (sym c.store.invariant.shape) in
-    record {
-      starts = record {
-        started = started;
-        policy = policy;
-        filling = λ on. starts_filling before after cached started (sym policy ∙ on);
-        reaches = λ on. starts_reaching before after cached started (sym policy ∙ on);
-        headroom = λ on. starts_with_room before after cached started (sym policy ∙ on);
-        leaves = subst (λ v. LeavesMedium g.M.Medium.state g.M.Medium.follows c.args.medium v.medium) (sym c.store.view_is)
-            c.in-Ok.ensures.leaves;
-      };
-    }
+    let leaves = subst (λ v. LeavesMedium g.M.Medium.state g.M.Medium.follows c.args.medium v.medium) (sym c.store.view_is)
+    c.in-Ok.ensures.leaves in
+    grind (
+      arith,
+      started,
+      policy,
+      leaves,
+      starts_filling before after cached started,
+      starts_reaching before after cached started,
+      starts_with_room before after cached started,
+    )
 
 pub invariant_of-store : goal.invariant_of-store
 invariant_of-store g c = with_policy _ _ _ _ _ _ c.store.invariant

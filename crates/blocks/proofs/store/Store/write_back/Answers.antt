@@ -11,7 +11,8 @@ pub returns-then-is_written : goal.returns-then-is_written
 returns-then-is_written g c =
     let written = c.is_written.ensures.0 c.if-is_written.true in
     let old = c.args.self.now in
-    let passes = rested_on {Follows = g.M.Medium.follows} {most = 2} {sends = 2} {old = old} g.met.M.Medium.follows_itself g.met.M.Medium.sound in
+    let passes = rested_on {Follows = g.M.Medium.follows} {most = 2} {sends = 2} {old = old} g.met.M.Medium.follows_itself
+    g.met.M.Medium.sound in
     grind (arith, unchanged (g.M.Medium.state c.args.self.now.medium), written, passes)
 
 left : (g : Over) (c : Else-is_written g) → ¬ IsWritten c.args.self.now.cached
