@@ -4,3 +4,4 @@ pub mod RetireTurns
 pub mod SortedIndex
 pub mod LeavingIndex
 pub mod HeldLog
+pub mod KeptCopies

@@ -1,14 +1,14 @@
 -- What is true of every log, as a caller sees it, how its records come and go, and the calls of the record under way.
 use Rattle.std.proofs.Common.{◌≡◌, ◌⊎◌, ℕ, ◌+◌, ◌-◌, ◌%◌, ◌<◌, List, [], ◌∷◌, ◌++◌, length, drop, sym, ◌∙◌, arith, rules, ◌≢◌, suc, ◌*◌}
-use Rattle.std.proofs.Common.{◌≤◌, get_or, refl, ap, zero, Result}
-use Rattle.std.proofs.{Math.ListN.set, Math.Seq.set-append_seam, lemmas.Bool.Decides.nat_tests}
+use Rattle.std.proofs.Common.{◌≤◌, get_or, refl, ap, zero, Result, ⊎_elim}
+use Rattle.std.proofs.{Math.ListN.set, Math.Seq.set-append_seam, lemmas.Bool.Decides.nat_tests, lemmas.Bool.cases_Bool}
 use Rattle.std.proofs.Math.Nat.{mod-add-mod, mod-eq-sub-mod, mod-eq_of_lt, mul-le-mul_left}
 use Rattle.std.specs.Prelude.{All, sum_by, true, ◌^◌}
 use Rattle.arrayvec.specs.ArrayVec.{ArrayVec}
 use Rattle.journal.specs.Places.{limit_of, first_home, sectors_of, Shape}
 use Rattle.redo_log.specs.Value.{none_ahead, retire_steps_of, LogValue, HasRoom, most_retire_steps, steps_of, behind_oldest, of_oldest}
 use Rattle.redo_log.specs.Value.{steps_for, most_steps, next_sends, turns_sends, sends_of_oldest, most_retire_sends, step_flushes}
-use Rattle.redo_log.specs.Value.{next_step_flushes, IsCovered, settled}
+use Rattle.redo_log.specs.Value.{next_step_flushes, IsCovered, settled, IsReadBack}
 use Rattle.redo_log.specs.Shown.{AreInside, value_at, IsRecord, IsSized, lists_of, shown, Invariant, flush_of, written_at, flushed_at}
 use Rattle.redo_log.specs.Held.{needed_of, made_of, turned_of, View, HoldsView, MayLeave}
 use Rattle.redo_log.specs.{declared.log.Log.TheInside.Inside, Halfway.IsFlushDue, Halfway.IsNextCall, Steps.LeavesLog}
@@ -20,7 +20,8 @@ use Rattle.journal.proofs.{Formats.sectors_are, BatchEntries.length_of_batch}
 use Rattle.medium.specs.{declared.medium_call.Call.Call, Medium.State, Medium.Passes, Medium.LooksOnly, Moments.LeavesOnly}
 use Rattle.medium.specs.{Moments.SparesFrom, declared.fault.MediumFault.MediumFault, Sent.sent, declared.medium_call.Call.TheVariants.Read}
 use Rattle.medium.specs.{declared.medium_call.Call.TheVariants.Write, declared.medium_call.Call.TheVariants.Flush}
-use Rattle.medium.specs.Performed.{fault_of, IsWithin, ReadsBefore, sends_of, flushes_of}
+use Rattle.medium.specs.Performed.{Performed, fault_of, IsWithin, ReadsBefore, sends_of, flushes_of}
+use Rattle.medium.proofs.SectorsRead.{looks_wider}
 use Rattle.medium.proofs.{Moments.weaker, CallsSent.read_sends, CallsSent.write_sends, CallsSent.flush_sends}
 use Rattle.medium.specs.declared.fault.MediumFault.TheVariants as fault
 
@@ -50,12 +51,14 @@ retired_of log = record log {
   waiting = drop 1 log.waiting;
   retire_steps_left = behind_oldest log;
   firsts = drop 1 log.firsts;
+  copies = drop 1 log.copies;
   ahead = none_ahead;
 }
 
 -- what is true of every log
 pub record IsLog (log : LogValue) : Type 0 where
   pub sized : IsSized log.shape
+  pub ring : log.ring ≤ log.shape.slots
   -- a record under way has a stamp and a slot of its own
   pub record_is : 0 < log.steps_left → IsRecord log.shape (log.head + length log.waiting) log.under_way
   pub room : 0 < log.steps_left → length log.waiting < log.shape.slots
@@ -118,7 +121,7 @@ pub few_begun : {log : LogValue} → IsLog log → HasRoom log → (numbers : Li
     → log.retire_steps_left + retire_steps_of numbers ≤ most_retire_steps log.shape.format * log.shape.slots
 few_begun {log} is room numbers few =
     let most = limit_of log.shape.format + 2 in
-    let all : most * (length log.waiting + 1) ≤ most * log.shape.slots = mul-le-mul_left most (omega (arith, is.taken, room.free)) in
+    let all : most * (length log.waiting + 1) ≤ most * log.shape.slots = mul-le-mul_left most (omega (arith, is.taken, is.ring, room.free)) in
     let newer = sum_by-le retire_steps_of most (drop 1 log.waiting) (λ i d below. grind (arith, is.each (suc i) d)) in
     grind (arith, newer, all, is.each 0 [], is.alone, is.owed_most, few, room.none_under_way)
 
@@ -143,7 +146,8 @@ module _ (log : LogValue) where
 -- as fields have it, the log with the oldest record retired
 pub retired_value : (i : Inside) {log : LogValue} → shown i ≡ log → Invariant i → 0 < length (lists_of i.waiting.items)
     → value_at none_ahead (shape_of i.sizes) (i.head + 1) (drop 1 (lists_of i.waiting.items))
-    0 (drop 1 (lists_of i.firsts.items)) i.under_way.numbers i.made i.dead ≡ retired_of log
+    0 (record { ring = i.ring; keeps = i.copies.keeps; firsts = drop 1 (lists_of i.firsts.items); copies = drop 1 i.copies.kept })
+    i.under_way.numbers i.made i.dead ≡ retired_of log
 retired_value i is inv some = rw (← is) (grind (arith, inv.each 1 [], steps_of_all (drop 1 (lists_of i.waiting.items))))
 
 -- ---- the calls of a record
@@ -151,8 +155,17 @@ retired_value i is inv some = rw (← is) (grind (arith, inv.each 1 [], steps_of
 -- what steps of a log leave, by what a cut leaves of it
 pub leaves_log : {log : LogValue} {old new : State} → ((view : View) → HoldsView log old view → view.ours ≡ true
     → LeavesOnly (MayLeave old.size log view) old new) → SparesFrom (sectors_of log.shape) old new
-    → LooksOnly (λ s. s < first_home log.shape) old new → LeavesLog log old new
+    → LooksOnly (IsReadBack log) old new → LeavesLog log old new
 leaves_log cuts spares looks = let moments = weaker _ (λ _. Unit {0}) _ _ (λ image left. tt) spares.moments in search rules
+
+-- a call that reads nothing at home, and nothing at all where the blocks are kept
+pub reads_back : (log : LogValue) {call : Call} {bytes after : List ℕ} {result : Result (Unit {0}) MediumFault} {old new : State}
+    → Performed call bytes after result old new → ReadsBefore (first_home log.shape) call → (log.keeps ≡ true → ReadsBefore 0 call)
+    → LooksOnly (IsReadBack log) old new
+reads_back log {old = old} {new = new} made before none = ⊎_elim
+    (λ keeps. looks_wider (λ s. s < 0) (IsReadBack log) old new (λ s low. absurd (omega (arith, low))) (made.looks 0 (none keeps)))
+    (λ not. looks_wider (λ s. s < first_home log.shape) (IsReadBack log) old new (λ s low. (not, low))
+    (made.looks (first_home log.shape) before)) (cases_Bool log.keeps)
 
 -- the early parts have a flush, where there are any
 pub flush_of_is : (e : ℕ) → ((e ≡ 0) × (flush_of e ≡ 0)) ⊎ ((0 < e) × (flush_of e ≡ 1))

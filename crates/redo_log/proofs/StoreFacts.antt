@@ -13,35 +13,44 @@ use Rattle.journal.specs.{Layout.Layout, Layout.part_at, Layout.IsRecordOf, Form
 use Rattle.journal.specs.Record.{Entry, with_blocks, entries_of, numbers_of}
 use Rattle.journal.proofs.{BatchEntries.numbers_of_batch, BatchEntries.length_of_batch, BatchEntries.sized_batch, Formats.laws_of}
 use Rattle.journal.proofs.Engine.{rests_found, Guarded-lost, Guarded-write, Stored-write, other_written, Stored-durable, carries_below}
-use Rattle.redo_log.specs.Value.{LogValue, HasRoom, IsCovered, retire_steps_of, behind_oldest, idle_from, begun, died, settled, IsBatch}
+use Rattle.redo_log.specs.Value.{LogValue, HasRoom, IsCovered, retire_steps_of, behind_oldest, idle_from, empty_from, begun, died, settled, IsBatch}
 use Rattle.redo_log.specs.Held.{View, resting_view, IsStored, IsGuarded, HasNoRecord, with_begun, made_of, turned_of, needed_of, MayLeave}
 use Rattle.redo_log.specs.Held.{Safe, with_passed, image_view, HoldsView, with_record, view_stepped, written_of, HasDurable, HasHead}
 use Rattle.redo_log.specs.{Value.steps_of, Value.steps_for, Value.IsStepped, Shown.flush_of, declared.progress.Progress.Progress}
 use Rattle.redo_log.specs.{declared.progress.Progress.TheVariants.More, declared.progress.Progress.TheVariants.Durable, Halfway.IsNextCall}
-use Rattle.redo_log.specs.{Halfway.IsFlushDue, Steps.StepCalled, Held.AreHome}
+use Rattle.redo_log.specs.{Halfway.IsFlushDue, Steps.StepCalled, Held.AreHome, Held.AreSized, Held.kept_copies}
 use Rattle.redo_log.proofs.RecordSteps.{steps_some, steps_are, due_or_not, all_written, early_written, part_written, needed_covered}
 use Rattle.redo_log.proofs.RecordSteps.{needed_one, made_is, none_made, IsLog, durable_of, durable_alone, durable_more, step_flushed}
-use Rattle.redo_log.proofs.RecordSteps.{leaves_log, within_more, one_sent, few_sends, reads_nothing}
+use Rattle.redo_log.proofs.RecordSteps.{leaves_log, within_more, one_sent, few_sends, reads_nothing, reads_back}
+use Rattle.redo_log.proofs.KeptCopies.{begun_kept, bytes_of_batch, durable_copies, none_kept}
 use Rattle.redo_log.proofs.HeldLog.{rests_safe, safe_rests, keeps_stored, with_newest, same_head, put_head, put_safe, has_view}
 use Rattle.redo_log.proofs.HeldLog.{Stores-stays, count, under_count, going_held, Stands, stands_idle, same_stamp, stands_front}
 use Rattle.redo_log.proofs.HeldLog.{guard_logged, guard_leaves, safe_here, counts_of, many, stands_then, stands_now, goes_on}
 use Rattle.redo_log.proofs.HeldLog.{record_entries, before_home, durable_kept, dead_held}
 pub use Rattle.redo_log.proofs.HeldLog.{quiet_held, put_head, home_is}
-use Rattle.std.proofs.{lemmas.Result.on_ok_weaker, lemmas.Bool.cases_eq, lemmas.Bool.cases_lt}
+use Rattle.std.proofs.{lemmas.Result.on_ok_weaker, lemmas.Bool.cases_eq, lemmas.Bool.cases_lt, lemmas.List.Elements.All-push}
 
 -- a new log holds a medium that has its head and its blocks at home, and whose log is fresh
-pub idle_holds : (shape : Shape) (next : ℕ) (array : Array) (ours : Bool) (m : State) → sectors_of shape ≤ m.size
+pub empty_holds : (shape : Shape) (next ring : ℕ) (keeps_blocks : Bool) (array : Array) (ours : Bool) (m : State) → sectors_of shape ≤ m.size
     → Keeps shape m.content next [] array → (ours ≡ true → EachCut (HasNoRecord shape next array) m)
-    → HoldsView (idle_from shape next) m (resting_view array ours)
-idle_holds shape next array ours m fits keeps fresh =
+    → HoldsView (empty_from shape next ring keeps_blocks) m (resting_view array ours)
+empty_holds shape next ring keeps_blocks array ours m fits keeps fresh =
     let view : View = resting_view array ours in
-    let leaves : ours ≡ true → EachCut (MayLeave m.size (idle_from shape next) (resting_view array ours)) m = λ is image cut.
+    let log : LogValue = empty_from shape next ring keeps_blocks in
+    let copies : [] ≡ kept_copies keeps_blocks [] [] = none_kept keeps_blocks in
+    let leaves : ours ≡ true → EachCut (MayLeave m.size log (resting_view array ours)) m = λ is image cut.
     inl (has_view [] view fits (omega arith)
     (rests_found _ (laws_of _) (image_view shape next view) (omega arith) (fresh is image cut))) in
     let stored = keeps_stored view refl keeps in
-    let guards : ours ≡ true → IsGuarded (idle_from shape next) (resting_view array ours) m =
+    let guards : ours ≡ true → IsGuarded log (resting_view array ours) m =
     λ is image cut. with_newest (rests_safe view refl (fresh is image cut)) (λ none. absurd (omega (arith, none))) in
     search (rules, arith)
+
+-- one that reads back
+pub idle_holds : (shape : Shape) (next : ℕ) (array : Array) (ours : Bool) (m : State) → sectors_of shape ≤ m.size
+    → Keeps shape m.content next [] array → (ours ≡ true → EachCut (HasNoRecord shape next array) m)
+    → HoldsView (idle_from shape next) m (resting_view array ours)
+idle_holds shape next array ours m fits keeps fresh = empty_holds shape next shape.slots false array ours m fits keeps fresh
 
 -- a log that is given up holds what a cut may leave
 pub died_holds : (log : LogValue) (m : State) (view : View) → HoldsView log m view → HoldsView (died log) m view
@@ -78,10 +87,10 @@ may_leave_ours size log view image found =
 -- a record is begun in a log with room
 pub begun_holds : (log : LogValue) (m : State) (view : View) (numbers bytes : List ℕ) → HoldsView log m view → HasRoom log
     → IsBatch log.shape numbers bytes
-    → HoldsView (begun numbers (firsts_of (entries_of numbers bytes)) log) m (with_begun (entries_of numbers bytes) view)
+    → HoldsView (begun numbers (firsts_of (entries_of numbers bytes)) bytes log) m (with_begun (entries_of numbers bytes) view)
 begun_holds log m view numbers bytes holds room batch =
     let E : List Entry = entries_of numbers bytes in
-    let next : LogValue = begun numbers (firsts_of (entries_of numbers bytes)) log in
+    let next : LogValue = begun numbers (firsts_of (entries_of numbers bytes)) bytes log in
     let many : length (entries_of numbers bytes) ≡ length numbers = length_of_batch numbers bytes in
     let none_yet : view.under_way ≡ [] =
     nil_from_length view.under_way (omega (arith, under_count holds, ap (λ (l : List ℕ). length l) room.none_under_way)) in
@@ -89,6 +98,8 @@ begun_holds log m view numbers bytes holds room batch =
     let made : made_of next ≡ 0 = omega (arith, made_is next (steps_some log.shape.format (length numbers))) in
     let under = numbers_of_batch numbers bytes in
     let sized = sized_batch numbers bytes batch.size in
+    let copies = begun_kept log.keeps view.records E bytes log.copies (rw none_yet at holds.copies) (omega (arith, many, batch.some))
+    (bytes_of_batch numbers bytes batch.size) in
     let leaves : view.ours ≡ true → EachCut (MayLeave m.size next (with_begun E view)) m = λ ours image cut.
     grind (arith, holds.leaves ours image cut, room.no_steps, behind) in
     let stores : log.dead ≡ false → IsStored next (with_begun E view) m = λ live.
@@ -199,6 +210,8 @@ module _ {log : LogValue} (is : IsLog log) (live : log.dead ≡ false) (some : 0
           omega (arith, (stands.slots some).room, longer) in
           let some_blocks : 0 < length view.under_way = (stands.slots some).under_way.fit.some in
           let firsts = durable_kept log.shape.format view.records view.under_way log.firsts hv.firsts some_blocks in
+          let copies = durable_copies log.keeps view.records view.under_way log.copies hv.copies some_blocks in
+          let each_sized = All-push AreSized view.records view.under_way hv.each_sized hv.sized in
           let leaves : view.ours ≡ true → EachCut (MayLeave new.size (durable_of log) (with_record view)) new =
           λ ours image cut. guard_leaves (durable_of log) fits (stands_idle few refl refl) (guards ours image cut) in
           let stores : IsStored (durable_of log) (with_record view) new =
@@ -306,8 +319,9 @@ pub step_called : {log : LogValue} → IsLog log → log.dead ≡ false → 0 < 
 step_called {log} is live some {numbers} bytes same size {call} {sector} next inside last result old new sound whole made =
     let left = leaves_log (λ view holds. step_leaves is live some sound holds bytes same size next made)
     (made.spares (sectors_of log.shape) (within_more (first_home log.shape) (sectors_of log.shape) (omega arith) call inside))
-    (made.looks (first_home log.shape) (reads_nothing (layout_of log.shape.format) log.shape (log.head + length log.waiting)
-    (entries_of numbers bytes) (made_of log) call sector next (first_home log.shape))) in
+    (let reads = reads_nothing (layout_of log.shape.format) log.shape (log.head + length log.waiting)
+    (entries_of numbers bytes) (made_of log) call sector next in
+    reads_back log made (reads (first_home log.shape)) (λ _. reads 0)) in
     let flushed = step_flushed is some bytes same size call next made.passes in
     let counts = one_sent call old new made.passes in
     record {

@@ -1,6 +1,6 @@
 -- The calls of a medium that write a record and retire it, and what a log and its medium hold
 -- halfway through a turn.
-use Rattle.std.specs.Prelude.{◌≡◌, ◌≢◌, ℕ, ◌+◌, ◌<◌, List, true, Result, OnOk, [], length}
+use Rattle.std.specs.Prelude.{◌≡◌, ◌≢◌, ℕ, ◌+◌, ◌<◌, List, true, false, Result, OnOk, [], length}
 use Rattle.std.specs.Prelude.{slice_index, get_or, Option, Some, None, ◌⊎◌, ◌≤◌}
 use Rattle.medium.specs.Medium.{State, LooksOnly, Sets, Gains}
 use Rattle.medium.specs.Moments.{LeavesOnly, SparesFrom, StaysWithin}
@@ -11,6 +11,7 @@ use Rattle.journal.specs.Places.{first_data_of, first_home, sectors_of, Shape}
 use Rattle.journal.specs.Layout.{slot_at, Layout, part_at}
 use Rattle.journal.specs.{Formats.layout_of, Sectors.IsHead, Record.Entry, Record.begun_with}
 use Rattle.redo_log.specs.Value.{LogValue, died, of_oldest, IsSentHome, IsAway, CanPass, first_kept}
+use Rattle.redo_log.specs.Value.{copy_kept, IsReadBack}
 use Rattle.redo_log.specs.Held.{View, HoldsView, MayLeave, turned_of}
 use Rattle.redo_log.specs.{Steps.LeavesLog, Steps.IsOn, Steps.HoldsCounted, Shown.written_at}
 
@@ -67,12 +68,23 @@ home_of log = first_home log.shape + slice_index (get_or log.waiting 0 []) (turn
 abbrev pub brought : LogValue → List ℕ → List ℕ
 brought log copy = begun_with (first_kept log.firsts 0 (turned_of log)) copy
 
--- The first call of the next turn, with these bytes in the lent sector: a block is read, its blocks
--- are flushed at home, or the head is written. It reads nothing at home.
+-- the bytes of that block, where they are kept
+abbrev pub kept_of : LogValue → List ℕ
+kept_of log = copy_kept log.copies 0 (turned_of log)
+
+-- One call makes the next turn: its blocks are flushed at home, or a block goes home that is kept.
+abbrev pub IsOneCall : LogValue → Type 0
+IsOneCall log = (of_oldest log ≡ 2) ⊎ (IsAway log × (log.keeps ≡ true))
+
+-- The first call of the next turn, with these bytes in the lent sector: a block is read, or written
+-- home where it is kept, its blocks are flushed at home, or the head is written. It reads nothing at
+-- home.
 pub record IsFirst (log : LogValue) (call : Call) (bytes : List ℕ) : Type 0 where
   pub inside : IsWithin (sectors_of log.shape) call
   pub reads : ReadsBefore (first_home log.shape) call
-  pub home : IsAway log → call ≡ Read (copy_of log)
+  pub home : IsAway log → log.keeps ≡ false → call ≡ Read (copy_of log)
+  pub kept : IsAway log → log.keeps ≡ true
+      → (call ≡ Write (home_of log)) × (bytes ≡ kept_of log)
   pub flush : of_oldest log ≡ 2 → call ≡ Flush
   pub head : of_oldest log ≡ 1 → (call ≡ Write 1) × IsHead (log.head + 1) bytes
 
@@ -80,17 +92,24 @@ pub record IsFirst (log : LogValue) (call : Call) (bytes : List ℕ) : Type 0 wh
 -- other one goes with this.
 pub record IsSecond (log : LogValue) (had : List ℕ) (call : Option Call) (bytes : List ℕ)
     : Type 0 where
-  pub home : IsAway log → (call ≡ Some (Write (home_of log))) × (bytes ≡ brought log had)
-  pub flush : of_oldest log ≡ 2 → call ≡ None
+  pub home : IsAway log → log.keeps ≡ false
+      → (call ≡ Some (Write (home_of log))) × (bytes ≡ brought log had)
+  pub one : IsOneCall log → call ≡ None
   pub head : of_oldest log ≡ 1 → call ≡ Some Flush
 
+-- a medium holds this log once a block of its oldest record is counted that went home
+abbrev pub HoldsSent : LogValue → State → View → Type 0
+HoldsSent log m view = (next : LogValue) → IsSentHome log next → HoldsView next m view
+
 -- The first call of the next turn is made, and left these bytes in the lent sector. Where a block
--- goes home, these are its copy; where the blocks are flushed at home, the turn is made; and where
--- the head goes past the record, a flush makes it so.
+-- goes home that is not kept, these are its copy; where it is kept, or the blocks are flushed at
+-- home, the turn is made; and where the head goes past the record, a flush makes it so.
 pub record HoldsHalf (log : LogValue) (had : List ℕ) (m : State) (view : View) : Type 0 where
   pub dead : HoldsView (died log) m view
-  pub home : 2 < of_oldest log → HoldsView log m view × (had ≡ m.content (copy_of log))
-  pub flush : of_oldest log ≡ 2 → HoldsCounted log m view
+  pub home : 2 < of_oldest log → log.keeps ≡ false
+      → HoldsView log m view × (had ≡ m.content (copy_of log))
+  pub kept : 2 < of_oldest log → log.keeps ≡ true → HoldsSent log m view
+  pub one : IsOneCall log → HoldsCounted log m view
   pub head : of_oldest log ≡ 1 → HoldsCounted log (flushed m) view
 
 -- so many writes and flushes, and flushes
@@ -114,7 +133,7 @@ pub record TurnEnded (log : LogValue) (had : List ℕ) (result : Result (Unit {0
       → LeavesOnly (MayLeave old.size log view) old new
   pub dead : (view : View) → HoldsHalf log had old view → HoldsView (died log) new view
   pub spares : SparesFrom (sectors_of log.shape) old new
-  pub looks : LooksOnly (λ s. s < first_home log.shape) old new
+  pub looks : LooksOnly (IsReadBack log) old new
   pub done : (view : View) → HoldsHalf log had old view → OnOk result (HoldsCounted log new view)
   -- a block that goes home ahead leaves the records as they are
   pub sent : (view : View) → HoldsHalf log had old view → IsAway log → (next : LogValue)
@@ -124,7 +143,8 @@ pub record TurnEnded (log : LogValue) (had : List ℕ) (result : Result (Unit {0
 pub record TellsFirst {M : Type 0} (state : M → State) (log : LogValue) (call : Call)
     (bytes : List ℕ) : Type 0 where
   pub inside : IsWithin (sectors_of log.shape) call
-  pub home : 2 < of_oldest log → Counts call 0 0
+  pub home : 2 < of_oldest log → log.keeps ≡ false → Counts call 0 0
+  pub kept : 2 < of_oldest log → log.keeps ≡ true → Counts call 1 0
   pub flush : of_oldest log ≡ 2 → Counts call 1 1
   pub head : of_oldest log ≡ 1 → Counts call 1 0
   pub law : (m n : M) (after : List ℕ) (result : Result (Unit {0}) MediumFault)
@@ -137,7 +157,7 @@ pub record TellsSecond {M : Type 0} (state : M → State) (log : LogValue) (had 
     (call : Call) (bytes : List ℕ) : Type 0 where
   pub inside : IsWithin (sectors_of log.shape) call
   pub home : 2 < of_oldest log → Counts call 1 0
-  pub flush : of_oldest log ≢ 2
+  pub two : ¬ IsOneCall log
   pub head : of_oldest log ≡ 1 → Counts call 1 1
   pub law : (m n : M) (after : List ℕ) (result : Result (Unit {0}) MediumFault)
       → IsOn log (state m) → Performed call bytes after result (state m) (state n)

@@ -2,16 +2,16 @@
 use Rattle.std.specs.Prelude.{◌≡◌, ℕ, ◌+◌, ◌-◌, ◌*◌, ◌^◌, ◌<◌, ◌≤◌, ◌↔◌, Bool, true, false, List}
 use Rattle.std.specs.Prelude.{[], IsTrue, if◌then◌else◌, Result, Ok, is_ok, IsOk, IfOk, IfErr, OnOk}
 use Rattle.std.specs.Prelude.{OnErr, MatchResult}
-use Rattle.medium.specs.{Medium.State, Medium.LooksOnly, Sent.SendsUpTo}
+use Rattle.medium.specs.{Medium.State, Medium.LooksOnly, Medium.Passes, Sent.SendsUpTo}
 use Rattle.medium.specs.{declared.fault.MediumFault.MediumFault}
-use Rattle.medium.specs.{declared.fault.MediumFault.TheVariants.Flush}
+use Rattle.medium.specs.{declared.fault.MediumFault.TheVariants.Read, declared.fault.MediumFault.TheVariants.Flush}
 use Rattle.medium.specs.{declared.medium_call.Call.Call, Performed.IsWithin, Performed.Performed}
 use Rattle.medium.specs.Moments.{EachCut, LeavesOnly, SparesFrom, IsQuiet}
-use Rattle.journal.specs.{Places.first_home, Places.sectors_of, Format2.firsts_of, Record.Entry}
+use Rattle.journal.specs.{Places.sectors_of, Format2.firsts_of, Record.Entry}
 use Rattle.journal.specs.{Record.entries_of}
 use Rattle.redo_log.specs.declared.fault.LogFault.TheVariants.{Medium, StampsUsedUp}
 use Rattle.redo_log.specs.Value.{LogValue, died, begun, most_steps, most_retire_steps, IsStepped}
-use Rattle.redo_log.specs.Value.{Owes, IsAway, IsSentHome, IsRetireStepped, FlushesUpTo}
+use Rattle.redo_log.specs.Value.{Owes, IsAway, IsSentHome, IsRetireStepped, FlushesUpTo, IsReadBack}
 use Rattle.redo_log.specs.Held.{View, HoldsView, MayLeave, HasDurable, with_record, view_stepped}
 use Rattle.redo_log.specs.{declared.fault.LogFault.LogFault, declared.progress.Progress.Progress}
 use Rattle.redo_log.specs.{declared.progress.Progress.TheVariants.Durable, Value.next_step_flushes}
@@ -57,8 +57,8 @@ pub record LeavesLog (log : LogValue) (old new : State) : Type 0 where
   pub moments : LeavesOnly (λ _. Unit {0}) old new
   -- no sector behind the image is written
   pub spares : SparesFrom (sectors_of log.shape) old new
-  -- no sector at home or behind is read
-  pub looks : LooksOnly (λ s. s < first_home log.shape) old new
+  -- no sector at home or behind is read, and none where the blocks are kept
+  pub looks : LooksOnly (IsReadBack log) old new
 
 -- A call writes nothing: the medium holds what it held of this log, and a cut leaves no more. The
 -- medium comes after what it was, by calls alone.
@@ -68,9 +68,15 @@ pub record KeepsLog {M : Type 0} (state : M → State) (Follows : M → M → Ty
   pub holds : (view : View) → HoldsView log (state old) view → HoldsView log (state new) view
   pub cuts : (view : View) → HoldsView log (state old) view → view.ours ≡ true
       → LeavesOnly (MayLeave (state old).size log view) (state old) (state new)
-  -- no sector at home or behind is read
-  pub looks : LooksOnly (λ s. s < first_home log.shape) (state old) (state new)
+  -- no sector at home or behind is read, and none where the blocks are kept
+  pub looks : LooksOnly (IsReadBack log) (state old) (state new)
   pub follows : Follows old new
+
+-- A copy of a block is read by one read, or no call is made where the blocks are kept.
+abbrev pub ReadsCopy : {M : Type 0} → (M → State) → Bool → Result (Unit {0}) MediumFault → M → M
+    → Type 0
+ReadsCopy state false result old new = Passes Read result (state old) (state new)
+ReadsCopy state true result old new = IsOk result × (new ≡ old)
 
 -- a log that is alive, on a medium that has all of its sectors
 pub record IsOn (log : LogValue) (m : State) : Type 0 where
@@ -159,7 +165,7 @@ pub record MakesStep {M : Type 0} (state : M → State) (Follows : M → M → T
 pub record BeginsRecord (numbers bytes : List ℕ) (result : Result (Unit {0}) LogFault)
     (old new : LogValue) : Type 0 where
   pub ok : OnOk result ((old.next < 2 ^ 63 - 1)
-      × (new ≡ begun numbers (firsts_of (entries_of numbers bytes)) old))
+      × (new ≡ begun numbers (firsts_of (entries_of numbers bytes)) bytes old))
   pub err : IfErr result (λ fault. (fault ≡ StampsUsedUp) × (old.next ≡ 2 ^ 63 - 1)
       × (new ≡ died old))
   pub short : OnOk result ((0 < new.steps_left) × (new.steps_left ≤ most_steps old.shape.format))

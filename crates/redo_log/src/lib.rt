@@ -9,6 +9,7 @@
 mod ahead;
 mod begun;
 mod call;
+mod copies;
 mod fault;
 mod firsts;
 mod index;
@@ -16,6 +17,7 @@ mod log;
 mod making;
 mod oldest;
 mod progress;
+mod room;
 mod stop;
 mod under_way;
 

@@ -1,18 +1,18 @@
 //! A redo log and its records.
 ghost use Rattle.std.specs.Prelude.{◌≡◌, ℕ, ◌+◌, ◌-◌, ◌*◌, ◌^◌, ◌<◌, ◌≤◌, ◌↔◌, true, false, []};
-ghost use Rattle.std.specs.Prelude.{length, if◌then◌else◌};
-ghost use Rattle.std.specs.Prelude.{IsTrue, IsOk, OnOk, IfOk, IfErr, MatchOption};
-ghost use Rattle.std.specs.VecDeque.{deque_capacity};
+ghost use Rattle.std.specs.Prelude.{length, IsTrue, OnOk, IfOk, IfErr, MatchOption};
 
 use crate::begun::BegunNumbers;
+use crate::copies::Copies;
 use crate::firsts::{first_kept, keep_firsts};
 use crate::index::{Copied, newest};
 use crate::making::make;
+use crate::room::room_for;
 use crate::{LogFault, Progress};
 use arrayvec::ArrayVec;
-use journal::{Firsts, LogFormat, Super, read_copy};
+use journal::{Firsts, Super, read_copy};
 use medium::{Medium, MediumFault};
-use std::alloc::{AllocError, Global};
+use std::alloc::Global;
 use std::collections::VecDeque;
 use std::marker::Model;
 
@@ -24,6 +24,8 @@ pub(crate) type Numbers = ArrayVec<u64, 240>;
 #[derive(Drop)]
 pub struct Log {
     pub(crate) sizes: Super,
+    // How many records may stand in the log at once.
+    pub(crate) ring: u64,
     // The stamp in the durable head, which is that of the oldest record.
     pub(crate) head: u64,
     // The durable records that are not retired, the oldest first.
@@ -33,6 +35,8 @@ pub struct Log {
     // The first 8 bytes of each block of each record, in format 2: of those that wait, the oldest
     // first, then of the one under way.
     pub(crate) firsts: VecDeque<Firsts>,
+    // The bytes of the blocks of each record, if they are kept: in the same order.
+    pub(crate) copies: Copies,
     // The stamp of the record whose last block went home ahead, 0 where there was none, and the one
     // that the next durable record had then.
     pub(crate) homed: u64,
@@ -61,18 +65,18 @@ impl Model for Log {
 impl Log {
     ghost use Rattle.journal.specs.Formats.{shape_of};
     ghost use Rattle.redo_log.specs.Value.{HasRoom, Owes, HasNoCopy, IsNewestCopy, idle_from};
+    ghost use Rattle.redo_log.specs.Value.{empty_from, keeping_from};
     ghost use Rattle.redo_log.specs.Value.{IsRetireStepped, next_calls, next_sends};
     ghost use Rattle.redo_log.specs.Value.{sends_of_oldest, most_retire_sends, IsBatch, entries_of};
     ghost use Rattle.redo_log.specs.Value.{next_turn_flushes};
-    ghost use Rattle.medium.specs.Medium.{Passes};
-    ghost use Rattle.medium.specs.declared.fault.MediumFault.TheVariants.{Read};
     ghost use Rattle.redo_log.specs.Held.{View, HoldsView, view_retired};
     ghost use Rattle.redo_log.specs.Steps.{IsOn, BeginsRecord, MakesStep, MakesTurns, KeepsLog};
-    ghost use Rattle.redo_log.specs.Steps.{CountsStep, TellsRetired};
+    ghost use Rattle.redo_log.specs.Steps.{CountsStep, TellsRetired, ReadsCopy};
 
-    /// A log without records on a medium with this super. Its first record takes the stamp `next`.
-    /// The memory for the records' block numbers, for their index and, in format 2, for the first
-    /// bytes of their blocks is taken here, and none later.
+    /// A log without records on a medium with this super. Its first record takes the stamp `next`,
+    /// and as many may stand in it at once as there are slots. It reads the blocks of its records
+    /// back. The memory for the records' block numbers, for their index and, in format 2, for the
+    /// first bytes of their blocks is taken here, and none later.
     ///
     /// # Errors
     ///
@@ -83,27 +87,48 @@ impl Log {
         ensures ok { IfOk result (λ log. log ≡ idle_from (shape_of sup.now) next) }
         ensures err { IfErr result (λ fault. fault ≡ LogFault.NoMemory) }
     {
-        let Ok(waiting) = VecDeque::with_capacity(alloc, sup.slots as usize) else {
-            return Err(LogFault::NoMemory);
-        };
-        let Ok(firsts) = firsts_for(alloc, sup) else {
-            return Err(LogFault::NoMemory);
-        };
-        let room = sup.format.limit() as usize * sup.slots as usize;
-        let Ok(index) = Vec::with_capacity(alloc, room) else {
+        Log::empty(alloc, sup, next, sup.slots, false)
+    }
+
+    /// One that keeps the bytes of the blocks of its records, and reads nothing back. At most
+    /// `count` records stand in it at once, and no more than there are slots. The memory for their
+    /// blocks is taken here too.
+    ///
+    /// # Errors
+    ///
+    /// `NoMemory` alone.
+    pub fn keeping(alloc: Global, sup: &Super, next: u64, count: u64) -> Result<Log, LogFault>
+        requires some { 1 ≤ count }
+        requires stamp { (1 ≤ next) × (next < 2 ^ 63) }
+        ensures ok { IfOk result (λ log. log ≡ keeping_from (shape_of sup.now) next count) }
+        ensures err { IfErr result (λ fault. fault ≡ LogFault.NoMemory) }
+    {
+        Log::empty(alloc, sup, next, count.min(sup.slots), true)
+    }
+
+    // A log without records, in which so many may stand at once.
+    fn empty(alloc: Global, sup: &Super, next: u64, ring: u64, keeps: bool) -> Result<Log, LogFault>
+        requires ring { (1 ≤ ring) × (ring ≤ sup.now.slots) }
+        requires stamp { (1 ≤ next) × (next < 2 ^ 63) }
+        ensures ok { IfOk result (λ log. log ≡ empty_from (shape_of sup.now) next ring keeps) }
+        ensures err { IfErr result (λ fault. fault ≡ LogFault.NoMemory) }
+    {
+        let Ok(room) = room_for(alloc, sup.format, ring as usize, keeps) else {
             return Err(LogFault::NoMemory);
         };
         Ok(Log {
             sizes: *sup,
+            ring,
             head: next,
-            waiting,
+            waiting: room.waiting,
             turned: 0,
-            firsts,
+            firsts: room.firsts,
+            copies: room.copies,
             homed: 0,
             before: 0,
             under_way: BegunNumbers::of(&[]),
             made: None,
-            index,
+            index: room.index,
             dead: false,
         })
     }
@@ -115,8 +140,8 @@ impl Log {
         self.dead
     }
 
-    /// Whether a record may be begun: none is under way, and a slot is free, which those of the
-    /// durable records are not until they are retired.
+    /// Whether a record may be begun: none is under way, and there is room for one, which the
+    /// durable records take until they are retired.
     #[tactic(auto, using(crate::proofs::RecordSteps::few_of_oldest))]
     pub fn has_room(&self) -> bool
         ensures room { IsTrue result ↔ HasRoom self.now }
@@ -125,7 +150,7 @@ impl Log {
         ensures owes { Owes self.now }
         ensures few { sends_of_oldest self.now ≤ most_retire_sends self.now.shape.format }
     {
-        self.made.is_none() && (self.waiting.len() as u64) < self.sizes.slots
+        self.made.is_none() && (self.waiting.len() as u64) < self.ring
     }
 
     /// Whether no durable record waits to be retired.
@@ -152,6 +177,7 @@ impl Log {
             return Err(LogFault::StampsUsedUp);
         }
         keep_firsts(&mut self.firsts, self.sizes.format, bytes);
+        self.copies.keep(bytes);
         self.under_way = BegunNumbers::of(numbers);
         self.made = Some(0);
         Ok(())
@@ -187,14 +213,16 @@ impl Log {
     }
 
     /// Makes the next one or two calls that retire the oldest durable record, none where none
-    /// waits: each block from its data place home, a flush, and the head with a flush.
+    /// waits: each block home, which is read from its data place where it is not kept, a flush, and
+    /// the head with a flush.
     ///
     /// # Errors
     ///
     /// `Medium` where the medium refused a call. The log is dead then.
     pub fn retire_step<M: Medium>(&mut self, m: &mut M) -> Result<(), LogFault>
         requires { IsOn self.old (M.state m.old) }
-        // Two calls copy a block, one flushes, two write the head and flush it.
+        // Two calls copy a block, or one writes it that is kept, one flushes, two write the head and
+        // flush it.
         ensures { MakesTurns M.state M.follows (self.old.waiting ≡ [])
             (0 < length self.old.waiting → IsRetireStepped self.old self.new)
             (CountsStep (next_calls self.old) (next_sends self.old) (next_turn_flushes self.old)
@@ -222,7 +250,7 @@ impl Log {
         newest(&self.index, block)
     }
 
-    /// Reads a copy that `find` gave, by one read.
+    /// Reads a copy that `find` gave, by one read. Where the blocks are kept it makes no call.
     ///
     /// # Errors
     ///
@@ -238,30 +266,18 @@ impl Log {
         requires copy { (block : ℕ) × IsNewestCopy self.now block slot place }
         ensures ok { (view : View) (block : ℕ) → HoldsView self.now (M.state m.old) view
             → IsNewestCopy self.now block slot place → OnOk result (to.new ≡ view.array block) }
-        ensures passes { Passes Read result (M.state m.old) (M.state m.new) }
+        ensures passes { ReadsCopy M.state self.now.keeps result m.old m.new }
         ensures keeps { KeepsLog M.state M.follows self.now m.old m.new }
     {
         prove!(slot < self.sizes.slots && place < self.sizes.format.limit() as usize);
         // How many records of the ring from the head on stand before the one in this slot.
         let slots = self.sizes.slots;
         let age = (slot + slots - self.head % slots) % slots;
+        if self.copies.are_kept() {
+            *to = *self.copies.block(age as usize, place);
+            return Ok(());
+        }
         let first = first_kept(&self.firsts, age as usize, place);
         read_copy(m, &self.sizes, slot, place, &first, to)
     }
-}
-
-// Room for the first bytes of the blocks of a record in each slot, in format 2. In format 1 no
-// memory is asked for.
-fn firsts_for(alloc: Global, sup: &Super) -> Result<VecDeque<Firsts>, AllocError>
-    ensures free { sup.now.format ≡ LogFormat.One → IsOk result }
-    ensures none { IfOk result (λ firsts. firsts.items ≡ []) }
-    ensures room { IfOk result (λ firsts. sup.now.format ≡ LogFormat.Two
-        → sup.now.slots ≤ deque_capacity firsts) }
-{
-    let slots = if sup.format.lacks_firsts() {
-        sup.slots
-    } else {
-        0
-    };
-    VecDeque::with_capacity(alloc, slots as usize)
 }

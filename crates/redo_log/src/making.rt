@@ -1,5 +1,6 @@
 //! The calls that a log makes of its medium.
 ghost use Rattle.redo_log.specs.Halfway.{CanMake, Makes};
+ghost use Rattle.medium.specs.declared.medium_call.Call.TheVariants.{Write};
 
 use medium::{Call, Medium, MediumFault};
 
@@ -23,4 +24,17 @@ pub(crate) fn make<M: Medium>(
         Call::Write(place) => m.write(place, sector),
         Call::Flush => m.flush(),
     }
+}
+
+/// Makes a write of these bytes, which are not copied first.
+///
+/// # Errors
+///
+/// As the medium.
+#[inline(always)]
+pub(crate) fn write<M: Medium>(m: &mut M, place: u64, bytes: &[u8; 512]) -> Result<(), MediumFault>
+    requires { CanMake (M.state m.old) (Write place) }
+    ensures { Makes M.state M.follows (Write place) bytes.now bytes.now result m.old m.new }
+{
+    m.write(place, bytes)
 }

@@ -1,19 +1,32 @@
 //! The turns of the oldest durable record, one after the other.
-ghost use Rattle.std.specs.Prelude.{◌≡◌, ◌+◌, ◌<◌, ◌≤◌, false, length, MatchOption};
+ghost use Rattle.std.specs.Prelude.{◌≡◌, ◌+◌, ◌<◌, ◌≤◌, true, false, length, MatchOption};
+ghost use Rattle.medium.specs.declared.medium_call.Call.TheVariants.{Write};
 ghost use Rattle.journal.specs.Places.{sectors_of};
 ghost use Rattle.redo_log.specs.Value.{next_calls, next_sends, of_oldest, IsAway, IsSentHome};
 ghost use Rattle.redo_log.specs.Value.{IsRetireStepped, next_turn_flushes};
 ghost use Rattle.redo_log.specs.Steps.{CountsStep, BringsOn};
-ghost use Rattle.redo_log.specs.Halfway.{IsFirst, IsSecond, TellsFirst, TellsSecond};
+ghost use Rattle.redo_log.specs.Halfway.{IsFirst, IsSecond, IsOneCall, TellsFirst, TellsSecond};
 
 use crate::Log;
 use crate::firsts::first_kept;
 use crate::index::drop_record;
-use crate::making::make;
+use crate::making::{make, write};
 use journal::{Head, copy_place, put_first, slot_of};
 use medium::{Call, Medium, MediumFault};
 
 impl Log {
+    // Where the next block of the oldest durable record goes, and the block, which is kept.
+    fn kept_next(&self) -> (u64, &[u8; 512])
+        requires { IsAway self.now × (self.now.keeps ≡ true) }
+        ensures { IsFirst self.now (Write result.0) result.1.now }
+    {
+        let Some(oldest) = self.waiting.front() else {
+            unreachable!()
+        };
+        let home = self.sizes.home_of(oldest[self.turned]);
+        (home, self.copies.block(0, self.turned))
+    }
+
     // The first call of the next turn of the oldest durable record, a flush where none waits, and
     // in the sector what it writes.
     fn first_call(&self, sector: &mut [u8; 512]) -> Call
@@ -23,7 +36,11 @@ impl Log {
             return Call::Flush;
         };
         let count = oldest.len();
-        if self.turned < count {
+        if self.turned < count && self.copies.are_kept() {
+            let (home, block) = self.kept_next();
+            *sector = *block;
+            Call::Write(home)
+        } else if self.turned < count {
             let slot = slot_of(self.head, self.sizes.slots);
             Call::Read(copy_place(self.sizes.format, slot, self.turned))
         } else if self.turned == count {
@@ -40,6 +57,9 @@ impl Log {
     {
         let oldest = self.waiting.front()?;
         if self.turned < oldest.len() {
+            if self.copies.are_kept() {
+                return None;
+            }
             let number = oldest[self.turned];
             put_first(sector, &first_kept(&self.firsts, 0, self.turned));
             Some(Call::Write(self.sizes.home_of(number)))
@@ -64,7 +84,7 @@ impl Log {
     /// it.
     pub fn turn_second<M: Medium>(&self, sector: &mut [u8; 512]) -> Option<Call>
         requires { 0 < of_oldest self.now }
-        ensures { MatchOption result (of_oldest self.now ≡ 2)
+        ensures { MatchOption result (IsOneCall self.now)
             (λ call. TellsSecond M.state self.now sector.old call sector.new) }
     {
         prove!(!self.waiting.is_empty());
@@ -80,6 +100,10 @@ impl Log {
             (next_turn_flushes self.now) result (M.state m.old) (M.state m.new)) result self.now
             m.old m.new }
     {
+        if self.copies.are_kept() && self.is_away() {
+            let (home, block) = self.kept_next();
+            return write(m, home, block);
+        }
         let mut sector = [0; 512];
         let first = self.turn_first::<M>(&mut sector);
         make(m, first, &mut sector)?;
@@ -137,6 +161,7 @@ impl Log {
         drop_record(&mut self.index, slot, oldest.as_slice());
         let _ = self.waiting.pop_front();
         let _ = self.firsts.pop_front();
+        self.copies.forget();
         self.head += 1;
         self.turned = 0;
         self.homed = 0;

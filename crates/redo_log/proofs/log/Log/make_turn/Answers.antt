@@ -1,7 +1,18 @@
-use Rattle.std.proofs.Common.{Ok, ◌∙◌, ◌≡◌, arith, rules}
-use Rattle.redo_log.specs.{Steps.IsOn, Value.of_oldest}
-use Rattle.redo_log.proofs.{RecordSteps.within_more, RetireTurns.two_counts, RetireTurns.two_leave, RetireTurns.refused_counts}
+use Rattle.std.proofs.Common.{Ok, ◌∙◌, ◌≡◌, arith, rules, sym, inr, true}
+use Rattle.redo_log.specs.{Steps.IsOn, Value.IsAway}
+use Rattle.redo_log.proofs.{RecordSteps.log_is, RetireTurns.tells_first, RecordSteps.within_more, RetireTurns.two_counts, RetireTurns.two_leave, RetireTurns.refused_counts, RetireTurns.one_brings}
 use Rattle.redo_log.proofs.log.Log.make_turn.Goals as goal
+
+pub returns-then-is_away : goal.returns-then-is_away
+returns-then-is_away g c live =
+    let log = c.args.self.now in
+    let on : IsOn log (g.M.Medium.state c.args.m.now) = record { live = live; fits = c.requires.fits } in
+    let is = log_is c.self.inside c.self.view_is c.self.invariant in
+    let away : IsAway log = search rules in
+    let kept : c.self.inside.copies.keeps ≡ true = sym c.are_kept.ensures ∙ c.if-are_kept.true in
+    let keeps : log.keeps ≡ true = rw (← c.self.view_is) kept in
+    let first = tells_first is c.requires.owed g.M.Medium.state g.met.M.Medium.sound c.kept_next-home.ensures in
+    one_brings c.requires.owed first (inr (away, keeps)) on c.write.ensures
 
 pub make-requires : goal.make-requires
 make-requires g c = within_more _ _ c.requires.fits c.turn_first-first.result c.turn_first-first.ensures.inside
@@ -46,14 +57,5 @@ returns-in_err-make g c live =
 
 pub returns-in_default : goal.returns-in_default
 returns-in_default g c live =
-    let first = c.turn_first-first.ensures in
     let on : IsOn c.args.self.now (g.M.Medium.state c.args.m.now) = record { live = live; fits = c.requires.fits } in
-    let begun = first.law c.args.m.now c.make.new.m c.make.new.sector (Ok tt) on c.in_ok-make.ensures.performed in
-    let two : of_oldest c.args.self.now ≡ 2 = rw c.in_default.is at c.turn_second.ensures in
-    record {
-      passes = search (rules, arith, first.flush two);
-      leaves = begun.leaves;
-      dead = begun.dead;
-      counted = λ view holds. (begun.half view holds).flush two;
-      sent = λ away. absurd (omega (arith, away, two));
-    }
+    one_brings c.requires.owed c.turn_first-first.ensures (rw c.in_default.is at c.turn_second.ensures) on c.in_ok-make.ensures
