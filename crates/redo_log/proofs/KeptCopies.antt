@@ -7,7 +7,8 @@ use Rattle.std.proofs.lemmas.List.{take-append-le, take_all, drop-append-le}
 use Rattle.journal.specs.Record.{Entry, block_of, entries_of, entries_from}
 use Rattle.redo_log.specs.Held.{kept_copies, begun_copies, bytes_of, AreSized}
 use Rattle.journal.specs.{declared.log_format.LogFormat.LogFormat, Places.limit_of}
-use Rattle.redo_log.specs.{Value.copy_kept, Value.with_copy, Shown.AreKept, Shown.begun_at, Shown.KeepsCopies, Copies.CopiesValue, Copies.with_kept}
+use Rattle.redo_log.specs.{Value.copy_kept, Value.with_copy, Shown.AreKept, Shown.begun_at, Shown.KeepsCopies}
+use Rattle.redo_log.specs.Copies.{CopiesValue, with_kept}
 
 -- ---- the copies of a view's blocks that a log keeps
 

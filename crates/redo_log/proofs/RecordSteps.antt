@@ -121,7 +121,8 @@ pub few_begun : {log : LogValue} → IsLog log → HasRoom log → (numbers : Li
     → log.retire_steps_left + retire_steps_of numbers ≤ most_retire_steps log.shape.format * log.shape.slots
 few_begun {log} is room numbers few =
     let most = limit_of log.shape.format + 2 in
-    let all : most * (length log.waiting + 1) ≤ most * log.shape.slots = mul-le-mul_left most (omega (arith, is.taken, is.ring, room.free)) in
+    let all : most * (length log.waiting + 1) ≤ most * log.shape.slots =
+    mul-le-mul_left most (omega (arith, is.taken, is.ring, room.free)) in
     let newer = sum_by-le retire_steps_of most (drop 1 log.waiting) (λ i d below. grind (arith, is.each (suc i) d)) in
     grind (arith, newer, all, is.each 0 [], is.alone, is.owed_most, few, room.none_under_way)
 

@@ -13,7 +13,8 @@ use Rattle.journal.specs.{Layout.Layout, Layout.part_at, Layout.IsRecordOf, Form
 use Rattle.journal.specs.Record.{Entry, with_blocks, entries_of, numbers_of}
 use Rattle.journal.proofs.{BatchEntries.numbers_of_batch, BatchEntries.length_of_batch, BatchEntries.sized_batch, Formats.laws_of}
 use Rattle.journal.proofs.Engine.{rests_found, Guarded-lost, Guarded-write, Stored-write, other_written, Stored-durable, carries_below}
-use Rattle.redo_log.specs.Value.{LogValue, HasRoom, IsCovered, retire_steps_of, behind_oldest, idle_from, empty_from, begun, died, settled, IsBatch}
+use Rattle.redo_log.specs.Value.{LogValue, HasRoom, IsCovered, retire_steps_of, behind_oldest, idle_from, begun, died, settled, IsBatch}
+use Rattle.redo_log.specs.Value.{empty_from}
 use Rattle.redo_log.specs.Held.{View, resting_view, IsStored, IsGuarded, HasNoRecord, with_begun, made_of, turned_of, needed_of, MayLeave}
 use Rattle.redo_log.specs.Held.{Safe, with_passed, image_view, HoldsView, with_record, view_stepped, written_of, HasDurable, HasHead}
 use Rattle.redo_log.specs.{Value.steps_of, Value.steps_for, Value.IsStepped, Shown.flush_of, declared.progress.Progress.Progress}
@@ -31,8 +32,8 @@ pub use Rattle.redo_log.proofs.HeldLog.{quiet_held, put_head, home_is}
 use Rattle.std.proofs.{lemmas.Result.on_ok_weaker, lemmas.Bool.cases_eq, lemmas.Bool.cases_lt, lemmas.List.Elements.All-push}
 
 -- a new log holds a medium that has its head and its blocks at home, and whose log is fresh
-pub empty_holds : (shape : Shape) (next ring : ℕ) (keeps_blocks : Bool) (array : Array) (ours : Bool) (m : State) → sectors_of shape ≤ m.size
-    → Keeps shape m.content next [] array → (ours ≡ true → EachCut (HasNoRecord shape next array) m)
+pub empty_holds : (shape : Shape) (next ring : ℕ) (keeps_blocks : Bool) (array : Array) (ours : Bool) (m : State)
+    → sectors_of shape ≤ m.size → Keeps shape m.content next [] array → (ours ≡ true → EachCut (HasNoRecord shape next array) m)
     → HoldsView (empty_from shape next ring keeps_blocks) m (resting_view array ours)
 empty_holds shape next ring keeps_blocks array ours m fits keeps fresh =
     let view : View = resting_view array ours in

@@ -1,5 +1,5 @@
 -- The bytes of the blocks of records that are kept in memory, and the memory for them.
-use Rattle.std.specs.Prelude.{◌≡◌, ℕ, ◌+◌, ◌≤◌, ◌<◌, List, map, length, All, Bool, true, Vec, vec_capacity}
+use Rattle.std.specs.Prelude.{ℕ, ◌+◌, ◌≤◌, ◌<◌, List, map, length, All, Bool, Vec, vec_capacity}
 use Rattle.std.specs.VecDeque.{deque_capacity}
 use Rattle.redo_log.specs.{Value.with_copy, declared.copies.Copies.TheInside.Inside}
 

@@ -1,6 +1,6 @@
 -- The calls of a medium that write a record and retire it, and what a log and its medium hold
 -- halfway through a turn.
-use Rattle.std.specs.Prelude.{◌≡◌, ◌≢◌, ℕ, ◌+◌, ◌<◌, List, true, false, Result, OnOk, [], length}
+use Rattle.std.specs.Prelude.{◌≡◌, ℕ, ◌+◌, ◌<◌, List, true, false, Result, OnOk, [], length}
 use Rattle.std.specs.Prelude.{slice_index, get_or, Option, Some, None, ◌⊎◌, ◌≤◌}
 use Rattle.medium.specs.Medium.{State, LooksOnly, Sets, Gains}
 use Rattle.medium.specs.Moments.{LeavesOnly, SparesFrom, StaysWithin}
@@ -77,8 +77,8 @@ abbrev pub IsOneCall : LogValue → Type 0
 IsOneCall log = (of_oldest log ≡ 2) ⊎ (IsAway log × (log.keeps ≡ true))
 
 -- The first call of the next turn, with these bytes in the lent sector: a block is read, or written
--- home where it is kept, its blocks are flushed at home, or the head is written. It reads nothing at
--- home.
+-- home where it is kept, its blocks are flushed at home, or the head is written. It reads nothing
+-- at home.
 pub record IsFirst (log : LogValue) (call : Call) (bytes : List ℕ) : Type 0 where
   pub inside : IsWithin (sectors_of log.shape) call
   pub reads : ReadsBefore (first_home log.shape) call

@@ -4,12 +4,12 @@ use Rattle.std.specs.Prelude.{[], IsTrue, if◌then◌else◌, Result, Ok, is_ok
 use Rattle.std.specs.Prelude.{OnErr, MatchResult}
 use Rattle.medium.specs.{Medium.State, Medium.LooksOnly, Medium.Passes, Sent.SendsUpTo}
 use Rattle.medium.specs.{declared.fault.MediumFault.MediumFault}
-use Rattle.medium.specs.{declared.fault.MediumFault.TheVariants.Read, declared.fault.MediumFault.TheVariants.Flush}
+use Rattle.medium.specs.declared.fault.MediumFault.TheVariants.{Read, Flush}
 use Rattle.medium.specs.{declared.medium_call.Call.Call, Performed.IsWithin, Performed.Performed}
 use Rattle.medium.specs.Moments.{EachCut, LeavesOnly, SparesFrom, IsQuiet}
 use Rattle.journal.specs.{Places.sectors_of, Format2.firsts_of, Record.Entry}
 use Rattle.journal.specs.{Record.entries_of}
-use Rattle.redo_log.specs.declared.fault.LogFault.TheVariants.{Medium, StampsUsedUp}
+use Rattle.redo_log.specs.declared.fault.LogFault.TheVariants.{Medium, StampsUsedUp, NoMemory}
 use Rattle.redo_log.specs.Value.{LogValue, died, begun, most_steps, most_retire_steps, IsStepped}
 use Rattle.redo_log.specs.Value.{Owes, IsAway, IsSentHome, IsRetireStepped, FlushesUpTo, IsReadBack}
 use Rattle.redo_log.specs.Held.{View, HoldsView, MayLeave, HasDurable, with_record, view_stepped}
@@ -77,6 +77,11 @@ abbrev pub ReadsCopy : {M : Type 0} → (M → State) → Bool → Result (Unit 
     → Type 0
 ReadsCopy state false result old new = Passes Read result (state old) (state new)
 ReadsCopy state true result old new = IsOk result × (new ≡ old)
+
+-- a log is made with this value, or no memory is left for it
+pub record MakesLog (value : LogValue) (result : Result LogValue LogFault) : Type 0 where
+  pub ok : IfOk result (λ log. log ≡ value)
+  pub err : IfErr result (λ fault. fault ≡ NoMemory)
 
 -- a log that is alive, on a medium that has all of its sectors
 pub record IsOn (log : LogValue) (m : State) : Type 0 where

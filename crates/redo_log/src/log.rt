@@ -71,7 +71,7 @@ impl Log {
     ghost use Rattle.redo_log.specs.Value.{next_turn_flushes};
     ghost use Rattle.redo_log.specs.Held.{View, HoldsView, view_retired};
     ghost use Rattle.redo_log.specs.Steps.{IsOn, BeginsRecord, MakesStep, MakesTurns, KeepsLog};
-    ghost use Rattle.redo_log.specs.Steps.{CountsStep, TellsRetired, ReadsCopy};
+    ghost use Rattle.redo_log.specs.Steps.{CountsStep, TellsRetired, ReadsCopy, MakesLog};
 
     /// A log without records on a medium with this super. Its first record takes the stamp `next`,
     /// and as many may stand in it at once as there are slots. It reads the blocks of its records
@@ -98,10 +98,8 @@ impl Log {
     ///
     /// `NoMemory` alone.
     pub fn keeping(alloc: Global, sup: &Super, next: u64, count: u64) -> Result<Log, LogFault>
-        requires some { 1 ≤ count }
-        requires stamp { (1 ≤ next) × (next < 2 ^ 63) }
-        ensures ok { IfOk result (λ log. log ≡ keeping_from (shape_of sup.now) next count) }
-        ensures err { IfErr result (λ fault. fault ≡ LogFault.NoMemory) }
+        requires { (1 ≤ count) × (1 ≤ next) × (next < 2 ^ 63) }
+        ensures { MakesLog (keeping_from (shape_of sup.now) next count) result }
     {
         Log::empty(alloc, sup, next, count.min(sup.slots), true)
     }
@@ -110,8 +108,7 @@ impl Log {
     fn empty(alloc: Global, sup: &Super, next: u64, ring: u64, keeps: bool) -> Result<Log, LogFault>
         requires ring { (1 ≤ ring) × (ring ≤ sup.now.slots) }
         requires stamp { (1 ≤ next) × (next < 2 ^ 63) }
-        ensures ok { IfOk result (λ log. log ≡ empty_from (shape_of sup.now) next ring keeps) }
-        ensures err { IfErr result (λ fault. fault ≡ LogFault.NoMemory) }
+        ensures { MakesLog (empty_from (shape_of sup.now) next ring keeps) result }
     {
         let Ok(room) = room_for(alloc, sup.format, ring as usize, keeps) else {
             return Err(LogFault::NoMemory);
@@ -221,8 +218,8 @@ impl Log {
     /// `Medium` where the medium refused a call. The log is dead then.
     pub fn retire_step<M: Medium>(&mut self, m: &mut M) -> Result<(), LogFault>
         requires { IsOn self.old (M.state m.old) }
-        // Two calls copy a block, or one writes it that is kept, one flushes, two write the head and
-        // flush it.
+        // Two calls copy a block, or one writes it that is kept, one flushes, two write the head
+        // and flush it.
         ensures { MakesTurns M.state M.follows (self.old.waiting ≡ [])
             (0 < length self.old.waiting → IsRetireStepped self.old self.new)
             (CountsStep (next_calls self.old) (next_sends self.old) (next_turn_flushes self.old)

@@ -2,7 +2,7 @@
 ghost use Rattle.std.specs.Prelude.{◌≡◌, ◌≤◌, ◌*◌, [], IsOk, IfOk, vec_capacity, if◌then◌else◌};
 ghost use Rattle.std.specs.VecDeque.{deque_capacity};
 ghost use Rattle.journal.specs.Places.{limit_of};
-ghost use Rattle.redo_log.specs.Shown.{HoldsRecords};
+ghost use Rattle.redo_log.specs.Shown.{HoldsRecords, HasFirstsRoom};
 
 use crate::copies::Copies;
 use crate::index::Copied;
@@ -49,8 +49,7 @@ fn firsts_for(
 ) -> Result<VecDeque<Firsts>, AllocError>
     ensures free { format ≡ LogFormat.One → IsOk result }
     ensures none { IfOk result (λ firsts. firsts.items ≡ []) }
-    ensures room { IfOk result (λ firsts. format ≡ LogFormat.Two
-        → count ≤ deque_capacity firsts) }
+    ensures room { IfOk result (λ firsts. HasFirstsRoom format count (deque_capacity firsts)) }
 {
     let slots = if format.lacks_firsts() { count } else { 0 };
     VecDeque::with_capacity(alloc, slots)

@@ -9,7 +9,13 @@ returns c =
     let items : Vec ℕ Global → List ℕ = λ v. v.items in
     let enough = rw (← c.self.view_is) at c.requires.1 in
     let inside : c.args.age < length i.kept.items =
-    grind (arith, cases_lt c.args.age (length i.kept.items), get_or_past (bytes_in i.kept.items) c.args.age [], length-map i.kept.items items, enough) in
+    grind (
+      arith,
+      cases_lt c.args.age (length i.kept.items),
+      get_or_past (bytes_in i.kept.items) c.args.age [],
+      length-map i.kept.items items,
+      enough,
+    ) in
     let there : get_or (bytes_in i.kept.items) c.args.age [] ≡ c.deref.result.now =
     get_or-map items i.kept.items c.args.age c.index.result.now [] inside ∙ ap items (sym c.index.ensures) ∙ sym c.deref.ensures.value in
     let long : 512 * c.args.place + 512 - 512 * c.args.place ≡ 512 = omega arith in

@@ -1,6 +1,5 @@
-use Rattle.std.proofs.Common.{◌≤◌, ◌≡◌, ℕ, drop, length, length-drop, length-append, Vec, Global, vec_capacity, [], ◌∷◌, arith}
+use Rattle.std.proofs.Common.{◌≤◌, ℕ, length-drop, length-append, Vec, Global, vec_capacity, [], ◌∷◌, arith}
 use Rattle.std.proofs.lemmas.List.Elements.{All-drop, All-push}
-use Rattle.redo_log.specs.Copies.{HaveRoom}
 use Rattle.redo_log.proofs.copies.Copies.forget.Goals as goal
 
 pub invariant_of-self : goal.invariant_of-self
@@ -10,10 +9,11 @@ invariant_of-self c =
     let more = c.push_reserved.ensures.items in
     let fewer = length-drop 1 i.kept.items in
     let longer = length-append i.spare.items (c.in-Some.copy ∷ []) in
-    let room : i.most ≤ vec_capacity c.in-Some.copy = grind (arith, c.self.invariant.taken 0 c.in-Some.copy, c.in-Some.ensures.lookup, c.in-Some.ensures.cases) in
+    let was = c.in-Some.ensures in
+    let room : i.most ≤ vec_capacity c.in-Some.copy = grind (arith, c.self.invariant.taken 0 c.in-Some.copy, was.lookup, was.cases) in
     record {
       taken = rw rest (All-drop (λ (v : Vec ℕ Global). i.most ≤ vec_capacity v) 1 i.kept.items c.self.invariant.taken);
       spare = rw more (All-push (λ (v : Vec ℕ Global). i.most ≤ vec_capacity v) i.spare.items c.in-Some.copy c.self.invariant.spare room);
-      back = rw (rest, more) (omega (arith, fewer, longer, c.self.invariant.back, c.push_reserved.ensures.capacity, c.in-Some.ensures.cases));
-      room = rw (rest, more) (omega (arith, fewer, longer, c.self.invariant.room, c.pop_front.ensures.capacity, c.in-Some.ensures.cases));
+      back = rw (rest, more) (omega (arith, fewer, longer, c.self.invariant.back, c.push_reserved.ensures.capacity, was.cases));
+      room = rw (rest, more) (omega (arith, fewer, longer, c.self.invariant.room, c.pop_front.ensures.capacity, was.cases));
     }

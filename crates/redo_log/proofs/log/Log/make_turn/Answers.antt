@@ -1,6 +1,7 @@
 use Rattle.std.proofs.Common.{Ok, ◌∙◌, ◌≡◌, arith, rules, sym, inr, true}
 use Rattle.redo_log.specs.{Steps.IsOn, Value.IsAway}
-use Rattle.redo_log.proofs.{RecordSteps.log_is, RetireTurns.tells_first, RecordSteps.within_more, RetireTurns.two_counts, RetireTurns.two_leave, RetireTurns.refused_counts, RetireTurns.one_brings}
+use Rattle.redo_log.proofs.{RecordSteps.log_is, RecordSteps.within_more}
+use Rattle.redo_log.proofs.TurnCalls.{tells_first, two_counts, two_leave, refused_counts, one_brings}
 use Rattle.redo_log.proofs.log.Log.make_turn.Goals as goal
 
 pub returns-then-is_away : goal.returns-then-is_away

@@ -1,4 +1,4 @@
-use Rattle.redo_log.proofs.{RecordSteps.log_is, RetireTurns.tells_first}
+use Rattle.redo_log.proofs.{RecordSteps.log_is, TurnCalls.tells_first}
 use Rattle.redo_log.proofs.log.Log.turn_first.Goals as goal
 
 pub returns : goal.returns

@@ -1,4 +1,4 @@
-use Rattle.redo_log.proofs.{RecordSteps.log_is, RetireTurns.tells_second}
+use Rattle.redo_log.proofs.{RecordSteps.log_is, TurnCalls.tells_second}
 use Rattle.redo_log.proofs.log.Log.turn_second.Goals as goal
 
 pub returns : goal.returns
