@@ -236,7 +236,7 @@ finds m s book f image left =
 -- ---- the batches of a store
 
 -- each number of a list is in it
-listed_at : (numbers : List ℕ) (k d : ℕ) → k < length numbers → Listed numbers (get_or numbers k d)
+pub listed_at : (numbers : List ℕ) (k d : ℕ) → k < length numbers → Listed numbers (get_or numbers k d)
 listed_at [] k d below = absurd (omega (arith, below))
 listed_at (n ∷ numbers) zero d below = grind (arith, nat_tests)
 listed_at (n ∷ numbers) (suc k) d below = grind (arith, nat_tests, listed_at numbers k d (omega (arith, below)))

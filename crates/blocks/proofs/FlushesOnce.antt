@@ -43,11 +43,11 @@ goes_with_room log r few = grind (arith, nat_tests, r, few)
 -- ---- room stays
 
 -- a record that is begun where slots are spared
-pub rests_spared : (numbers : List ℕ) (firsts : List (List ℕ)) (log : LogValue) → IsInOrder log → 0 < length numbers → SparesSlots log
-    → RestsWithRoom (with_more numbers firsts log)
-rests_spared numbers firsts log r some spare =
+pub rests_spared : (numbers : List ℕ) (firsts : List (List ℕ)) (copy : List ℕ) (log : LogValue) → IsInOrder log → 0 < length numbers
+    → SparesSlots log → RestsWithRoom (with_more numbers firsts copy log)
+rests_spared numbers firsts copy log r some spare =
     let longer = length-append log.waiting (numbers ∷ []) in
-    grind (arith, nat_tests, r, spare, order_more numbers firsts log r some, behind_more log.waiting numbers, longer)
+    grind (arith, nat_tests, r, spare, order_more numbers firsts copy log r some, behind_more log.waiting numbers, longer)
 
 room_with : (log : LogValue) → RestsWithRoom log → SparesSlots log → MayWrite true log
 room_with log r spare = grind (arith, nat_tests, r, spare)
@@ -100,21 +100,23 @@ next_room : (log : LogValue) → (ahead_room log).next ≡ log.next
 next_room log = grind (arith, nat_tests)
 
 -- its record is one more, and an empty one has none
-pub one_durable : (numbers : List ℕ) (firsts : List (List ℕ)) (log : LogValue) → HasHeadroom log → (0 < log.steps_left → 0 < length numbers)
-    → next_durable (finished_with true numbers firsts log) ≡ next_durable log + wants numbers
-one_durable numbers firsts log head under_way =
+pub one_durable : (numbers : List ℕ) (firsts : List (List ℕ)) (copy : List ℕ) (log : LogValue) → HasHeadroom log
+    → (0 < log.steps_left → 0 < length numbers)
+    → next_durable (finished_with true numbers firsts copy log) ≡ next_durable log + wants numbers
+one_durable numbers firsts copy log head under_way =
     let longer = length-append log.waiting (log.under_way ∷ []) in
-    grind (arith, rests_finished numbers firsts log, finished_is numbers firsts log, next_room log, longer)
+    grind (arith, rests_finished numbers firsts copy log, finished_is numbers firsts copy log, next_room log, longer)
 
 -- both batches become durable
 pub both_durable : (frozen active : Entries) (log : LogValue) → HasHeadroom log → (0 < log.steps_left → 0 < length frozen.numbers)
     → next_durable (finished true active (finished true frozen log)) ≡ next_durable log + (wants frozen.numbers + wants active.numbers)
 both_durable frozen active log head under_way =
     let firsts = firsts_in frozen in
-    let behind : LogValue = finished_with true frozen.numbers firsts log in
+    let behind : LogValue = finished_with true frozen.numbers firsts frozen.bytes log in
     let idle : behind.steps_left ≡ 0 = grind (arith, nat_tests) in
-    let last = one_durable active.numbers (firsts_in active) behind (headroom_finished frozen.numbers firsts log head) in
-    grind (arith, one_durable frozen.numbers firsts log head under_way, last, idle)
+    let head_behind = headroom_finished frozen.numbers firsts frozen.bytes log head in
+    let last = one_durable active.numbers (firsts_in active) active.bytes behind head_behind in
+    grind (arith, one_durable frozen.numbers firsts frozen.bytes log head under_way, last, idle)
 
 -- ---- a step of the work
 
@@ -157,8 +159,8 @@ spared_back before after old new step head live = elim (written_or_not old) [
           | inl may ↦
               let b = step.begins left may in
               let some = next_some old new b.next (some_to_write old left) in
-              let rests = rests_spared new.frozen.numbers (firsts_in new.frozen) old.log r.order some (may.spares refl) in
-              grind (arith, b, live, rests, landed_begun new.frozen.numbers (firsts_in new.frozen) old.log)
+              let rests = rests_spared new.frozen.numbers (firsts_in new.frozen) new.frozen.bytes old.log r.order some (may.spares refl) in
+              grind (arith, b, live, rests, landed_begun new.frozen.numbers (firsts_in new.frozen) new.frozen.bytes old.log)
           | inr not ↦ spared_ahead before after old new (way_ahead before after old new step left idle r not) head live
         ]
   ]

@@ -12,13 +12,14 @@ use Rattle.journal.specs.Standing.{StandsFor, Stands, IsOurs, Keeps}
 use Rattle.journal.specs.Standing as image
 use Rattle.journal.proofs.StandingLaws.{StandsFor-one, HasFault-stands}
 use Rattle.cache.specs.Entries.{Entries}
-use Rattle.redo_log.specs.{Held.resting_view, Held.HasNoRecord, Held.HoldsView, Value.idle_from}
-use Rattle.redo_log.proofs.StoreFacts.{idle_holds}
+use Rattle.redo_log.specs.{Held.resting_view, Held.HasNoRecord, Held.HoldsView}
+use Rattle.redo_log.proofs.StoreFacts.{empty_holds}
 use Rattle.recovery.specs.{declared.start_fault.StartFault.StartFault, declared.recovered.Recovered.Recovered}
 use Rattle.recovery.specs.Recovered.{IsOursForSome, StandsForOneOf, IsRecoveredFrom}
 use Rattle.recovery.specs.Recovered as recovered
-use Rattle.blocks.specs.{Kept.Invariant, Ahead.may_go_ahead, Book.Same, Finding.StandsAs, Finding.MayFind, Finding.FoundWith}
-use Rattle.blocks.specs.{Started.IsStartCause, Started.IsStarted, Opening.StandsForOpening, Opening.OpensOn, Opening.IsCauseFor}
+use Rattle.blocks.specs.{Kept.Invariant, Ahead.may_go_by, Book.Same, Finding.StandsAs, Finding.MayFind, Finding.FoundWith}
+use Rattle.blocks.specs.Started.{IsStartCause, IsStartedBy, started_log, ring_by, keeps_by}
+use Rattle.blocks.specs.{Opening.StandsForOpening, Opening.OpensOn, Opening.IsCauseFor, declared.start.Keeping.Keeping}
 use Rattle.blocks.specs.StoreValue.{Cached, layout_of, blocks_of, FitsBook}
 use Rattle.blocks.proofs.BookTurns.{stands_as, apply_same, shows_book, may_find}
 
@@ -146,18 +147,23 @@ abbrev pub empty_batch : LogFormat → Entries
 empty_batch format = record { room = limit_of format; numbers = []; bytes = [] }
 
 -- a store with nothing cached, whose first record takes this stamp
-abbrev pub started : Shape → ℕ → Cached
-started shape next = record { log = idle_from shape next; active = empty_batch shape.format; frozen = empty_batch shape.format }
+abbrev pub started : Keeping → Shape → ℕ → Cached
+started keeping shape next = record {
+  log = started_log keeping shape next;
+  active = empty_batch shape.format;
+  frozen = empty_batch shape.format;
+}
 
 -- what is kept of a store is so where it goes ahead, if its log allows that
 pub with_policy : (size : ℕ) (sizes : Super) (s : Cached) (writing ahead b : Bool) → Invariant size sizes s writing ahead
-    → (b ≡ true → may_go_ahead s.log.shape ≡ true) → Invariant size sizes s writing b
+    → (b ≡ true → may_go_by s.log.shape.format s.log.ring ≡ true) → Invariant size sizes s writing b
 with_policy size sizes s writing ahead b k may = grind (arith, k, may)
 
 -- it fits a life that opens with the array that is at home
-opens : (shape : Shape) (array : Array) (next : ℕ) (ours : Bool) (m : State) → HoldsView (idle_from shape next) m (resting_view array ours)
-    → FitsBook m (started shape next) (opened shape.blocks array next ours)
-opens shape array next ours m holds = record {
+opens : (keeping : Keeping) (shape : Shape) (array : Array) (next : ℕ) (ours : Bool) (m : State)
+    → HoldsView (started_log keeping shape next) m (resting_view array ours)
+    → FitsBook m (started keeping shape next) (opened shape.blocks array next ours)
+opens keeping shape array next ours m holds = record {
   view = resting_view array ours;
   holds = holds;
   under_way = λ some. absurd (omega arith);
@@ -170,8 +176,8 @@ opens shape array next ours m holds = record {
   ours = refl;
 }
 
-module _ (before after : State) (answer : Recovered) (from : IsRecoveredFrom before after answer) (sound : IsSound before)
-    (sound_then : IsSound after)
+module _ (keeping : Keeping) (before after : State) (answer : Recovered) (from : IsRecoveredFrom before after answer)
+    (sound : IsSound before) (sound_then : IsSound after)
     (size_stays : after.size ≡ before.size)
     (fresh : (shape : Shape) (array : Array) (next : ℕ) → IsOurs before.size shape before.content array next
     → EachCut (recovered.IsFresh shape array next) after) where
@@ -188,24 +194,24 @@ module _ (before after : State) (answer : Recovered) (from : IsRecoveredFrom bef
 
   -- the log and the medium hold the array, and under the premise what a cut may leave
   rests : (ours : Bool) → (ours ≡ true → EachCut (IsOursForSome before.size) before)
-      → HoldsView (idle_from (shape_of answer.sizes) answer.next) after (resting_view from.array ours)
+      → HoldsView (started_log keeping (shape_of answer.sizes) answer.next) after (resting_view from.array ours)
   rests ours premise =
-      idle_holds (shape_of answer.sizes) answer.next from.array ours after (omega (arith, from.stood.fits, size_stays))
-      (found_home before after answer from) (λ is image cut. fresh_log (shape_of answer.sizes) from.array answer.next image
-      (fresh (shape_of answer.sizes) from.array answer.next (was_ours (premise is)) image cut))
+      empty_holds (shape_of answer.sizes) answer.next (ring_by keeping answer.sizes.slots) (keeps_by keeping) from.array ours after
+      (omega (arith, from.stood.fits, size_stays)) (found_home before after answer from)
+      (λ is image cut. fresh_log (shape_of answer.sizes) from.array answer.next image (fresh (shape_of answer.sizes) from.array answer.next (was_ours (premise is)) image cut))
 
   abbrev fits : (ours : Bool) → (ours ≡ true → EachCut (IsOursForSome before.size) before)
-      → FitsBook after (started (shape_of answer.sizes) answer.next) (opened answer.sizes.blocks from.array answer.next ours)
-  fits ours premise = opens (shape_of answer.sizes) from.array answer.next ours after (rests ours premise)
+      → FitsBook after (started keeping (shape_of answer.sizes) answer.next) (opened answer.sizes.blocks from.array answer.next ours)
+  fits ours premise = opens keeping (shape_of answer.sizes) from.array answer.next ours after (rests ours premise)
 
-  pub starts : IsStarted before after (started (shape_of answer.sizes) answer.next)
+  pub starts : IsStartedBy keeping before after (started keeping (shape_of answer.sizes) answer.next)
   starts = record {
     array = from.array;
     next = answer.next;
     stood = from.stood;
     stamp_left = from.stamp_left;
     fits = fits;
-    serves = serves before after (started (shape_of answer.sizes) answer.next) from.array answer.next from.stood fits;
+    serves = serves before after (started keeping (shape_of answer.sizes) answer.next) from.array answer.next from.stood fits;
     opens = record { opens = refl; stands = (shape_of answer.sizes, refl, from.stood); ours = λ ours. absurd (false≢true ours) };
     live = refl;
     empty = refl;

@@ -25,6 +25,8 @@ use Rattle.blocks.proofs.TurnsJoined.{exits}
 
 pub record Stays (old new : LogValue) : Type 0 where
   pub shape : new.shape ≡ old.shape
+  pub ring : new.ring ≡ old.ring
+  pub keeps : new.keeps ≡ old.keeps
   pub head : old.head ≤ new.head
   pub stamp : new.head + length new.waiting ≡ old.head + length old.waiting
   pub next : new.next ≡ old.next
@@ -156,15 +158,15 @@ passes_step ahead result s log' none empty some called =
 
 module _ (m : State) (sound : IsSound m) (s : Cached) where
   -- nothing has happened to the medium
-  here : (new : Cached) → new.log.shape ≡ s.log.shape → new.log.dead ≡ s.log.dead → GoesOn m m s new
-  here new shape dead = let spares = spared_start (sectors_of (layout_of s)) m sound in grind (arith, shape, dead, spares)
+  here : (new : Cached) → new.log.shape ≡ s.log.shape → new.log.keeps ≡ s.log.keeps → new.log.dead ≡ s.log.dead → GoesOn m m s new
+  here new shape keeps dead = let spares = spared_start (sectors_of (layout_of s)) m sound in grind (arith, shape, keeps, dead, spares)
 
   still_found : (book : Book) → FitsBook m s book → book.ours ≡ true → LeavesOnly (MayFind m.size book) m m
   still_found book f ours = started (MayFind m.size book) m sound (exits m s book f ours)
 
-  in_place : {new : Cached} → new.log.shape ≡ s.log.shape → new.log.dead ≡ s.log.dead
+  in_place : {new : Cached} → new.log.shape ≡ s.log.shape → new.log.keeps ≡ s.log.keeps → new.log.dead ≡ s.log.dead
       → ((book : Book) → FitsBook m s book → FitsBook m new book) → IsTurn m m s new
-  in_place {new} shape dead fits = record { fits = fits; cuts = still_found; goes_on = here new shape dead }
+  in_place {new} shape keeps dead fits = record { fits = fits; cuts = still_found; goes_on = here new shape keeps dead }
 
   -- a flush is counted, or none is
   pub counts_turn : (log' : LogValue) → log' ≡ counted s.log → IsTurn m m s (record s { log = log' })
@@ -172,14 +174,14 @@ module _ (m : State) (sound : IsSound m) (s : Cached) where
     | inl covers ↦
         let covered : IsCovered s.log = grind (arith, nat_tests, covers) in
         rw (is, covers)
-        (in_place refl refl (λ book f. moves f (settled_holds s.log m f.view f.holds covered) refl f.under_way f.some refl refl refl))
-    | inr uncovered ↦ rw (is, uncovered) (in_place refl refl (λ book f. f))
+        (in_place refl refl refl (λ book f. moves f (settled_holds s.log m f.view f.holds covered) refl f.under_way f.some refl refl refl))
+    | inr uncovered ↦ rw (is, uncovered) (in_place refl refl refl (λ book f. f))
   ]
 
   -- the record of the frozen batch is begun
   pub begins_record : HasRoom s.log → IsBatch s.log.shape s.frozen.numbers s.frozen.bytes → IsTurn m m s
-      (record s { log = begun s.frozen.numbers (firsts_in s.frozen) s.log })
-  begins_record room batch = in_place refl refl
+      (record s { log = begun s.frozen.numbers (firsts_in s.frozen) s.frozen.bytes s.log })
+  begins_record room batch = in_place refl refl refl
       (λ book f. moves f (begun_holds _ _ _ _ _ f.holds room batch) refl (λ some. refl) (λ some. wants_some _ batch.some) refl refl refl)
 
   -- no stamp is left for it, and the log is dead
@@ -195,7 +197,7 @@ module _ (m : State) (sound : IsSound m) (s : Cached) where
 
   -- the active batch is frozen in place of an empty one
   pub freezes_active : s.log.steps_left ≡ 0 → s.frozen.numbers ≡ [] → IsTurn m m s (record s { active = s.frozen; frozen = s.active })
-  freezes_active idle empty = in_place refl refl (λ book f. freezes idle empty f)
+  freezes_active idle empty = in_place refl refl refl (λ book f. freezes idle empty f)
 
   -- the active batch takes a write
   pub appends_write : (more : Entries) (address : ℕ) (bytes : List ℕ) (count : ℕ)
@@ -204,7 +206,7 @@ module _ (m : State) (sound : IsSound m) (s : Cached) where
   appends_write more address bytes count put = let w : Write = record { address = address; blocks = chunks count bytes } in record {
     fits = λ book f. appends more address bytes count put f;
     cuts = λ book f ours. weaker (MayFind m.size book) (Found m.size book w) m m (λ image found. inl found) (still_found book f ours);
-    goes_on = here (record s { active = more }) refl refl;
+    goes_on = here (record s { active = more }) refl refl refl;
   }
 
 -- where no step is left both batches are empty, and every write is durable

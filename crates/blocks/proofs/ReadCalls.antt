@@ -1,7 +1,8 @@
 -- What a read gives, and how many calls of the medium it makes.
-use Rattle.std.specs.Prelude.{Ok, Err, OnOk}
+use Rattle.std.specs.Prelude.{Ok, Err, OnOk, Contains, true, get_or}
 use Rattle.std.proofs.{lemmas.List.length-drop, lemmas.List.length-take-le, lemmas.List.take_all, lemmas.Slice.take-put_mid}
-use Rattle.std.proofs.Common.{◌≡◌, ℕ, zero, suc, ◌+◌, ◌*◌, ◌≤◌, ◌<◌, List, ◌++◌, length, take, drop, None, sym, ◌∙◌, ap}
+use Rattle.std.proofs.lemmas.Bool.{cases_Bool, false≢true, cases_eq, Decides.nat_tests}
+use Rattle.std.proofs.Common.{◌≡◌, ℕ, zero, suc, ◌+◌, ◌*◌, ◌≤◌, ◌<◌, List, [], ◌∷◌, ◌++◌, length, take, drop, None, sym, ◌∙◌, ap}
 use Rattle.std.proofs.Common.{arith, inl, inr, append_assoc, append-nil, add-zero, add-one, Result, false, refl, subst}
 use borrow.Rule.Slice.PartMut.{put_mid}
 use Rattle.medium.specs.{Medium.State, Medium.Passes, Medium.IsSound, Medium.LooksOnly, Medium.Stays, Medium.Within, Sent.SendsUpTo}
@@ -9,14 +10,15 @@ use Rattle.medium.specs.declared.fault.MediumFault.{MediumFault}
 use Rattle.medium.specs.declared.fault.MediumFault.TheVariants.{Read}
 use Rattle.medium.proofs.{CallsSent.read_sends, Moments.quiet_joined, Moments.quiet_call, SectorsRead.one_look, SectorsRead.looks_wider}
 use Rattle.journal.specs.Places.{first_home}
-use Rattle.redo_log.specs.Steps.{KeepsLog}
+use Rattle.redo_log.specs.{Steps.KeepsLog, Steps.ReadsCopy, Value.LogValue, Value.IsNewestCopy, Value.HasNoCopy}
 use Rattle.spec.specs.{Blocks.Array, Book.Book, Book.array_of, Book.blocks_at}
-use Rattle.cache.specs.{Blocks.is_listed, Blocks.unlisted, Entries.map_of, Entries.Entries}
+use Rattle.cache.specs.{Blocks.is_listed, Blocks.Listed, Blocks.unlisted, Entries.map_of, Entries.Entries}
 use Rattle.cache.proofs.{Maps.listed_is, Arrays.unlisted_most}
-use Rattle.blocks.specs.{Reads.IsInBatch, Reads.IsInNone, Reads.ReadsBlock, Reads.told, Looks.IsLogOrHome}
+use Rattle.blocks.specs.{Reads.IsInBatch, Reads.IsInNone, Reads.ReadsBlock, Reads.told, Looks.IsReadFor}
 use Rattle.blocks.specs.StoreValue.{Cached, blocks_of, layout_of, FitsBook}
-use Rattle.blocks.specs.{StoreValue.StoreValue, Calls.block_reads, Calls.reads_of, Passing.KeepsStore, Turns.IsTurn}
-use Rattle.blocks.proofs.{SectorsRead.one_more, SectorsRead.fewer_read, TurnsJoined.quiet_turn}
+use Rattle.blocks.specs.{StoreValue.StoreValue, Calls.block_reads, Calls.reads_of, Calls.is_logged, Calls.log_reads}
+use Rattle.blocks.specs.{Passing.KeepsStore, Turns.IsTurn}
+use Rattle.blocks.proofs.{SectorsRead.one_more, SectorsRead.fewer_read, TurnsJoined.quiet_turn, BookTurns.listed_at}
 
 -- ---- what a read gives
 
@@ -72,10 +74,42 @@ pub reads_newest : (s : Cached) (b : ℕ) (bytes : List ℕ) → IsInBatch s b b
 reads_newest s b bytes held =
     grind (arith, listed_is s.active.numbers s.active.bytes b, listed_is s.frozen.numbers s.frozen.bytes b, held)
 
--- each other block takes one
-pub reads_copy : (s : Cached) (b : ℕ) → map_of s.active b ≡ None → map_of s.frozen b ≡ None → block_reads s b ≡ 1
+-- each other block takes one, or where a record has it none
+reads_copy : (s : Cached) (b : ℕ) → map_of s.active b ≡ None → map_of s.frozen b ≡ None
+    → block_reads s b ≡ log_reads s.log.keeps s.log.waiting b
 reads_copy s b active frozen =
     grind (arith, listed_is s.active.numbers s.active.bytes b, listed_is s.frozen.numbers s.frozen.bytes b)
+
+-- a block stands in the records where a record contains it
+logged_at : (records : List (List ℕ)) (age b : ℕ) → age < length records → Listed (get_or records age []) b → is_logged records b ≡ true
+logged_at [] age b below listed = absurd (omega (arith, below))
+logged_at (numbers ∷ records) zero b below listed = grind (arith, listed)
+logged_at (numbers ∷ records) (suc age) b below listed = grind (arith, logged_at records age b (omega (arith, below)) listed)
+
+pub logged_newest : (log : LogValue) (b slot place : ℕ) → IsNewestCopy log b slot place → is_logged log.waiting b ≡ true
+logged_newest log b slot place copy =
+    let listed = listed_at (get_or log.waiting copy.age []) place 0 copy.inside in
+    logged_at log.waiting copy.age b copy.waits (rw copy.named at listed)
+
+-- and in none where none does
+contains_listed : (numbers : List ℕ) (b : ℕ) → Listed numbers b → Contains numbers b
+contains_listed [] b listed = absurd (false≢true listed)
+contains_listed (m ∷ numbers) b listed = elim (cases_eq m b) [
+  | inl same ↦ (0, omega arith, same)
+  | inr other ↦
+      let rest = contains_listed numbers b (grind (arith, nat_tests, listed, other)) in (suc rest.0, omega (arith, rest.1), rest.2)
+]
+
+unlogged : (records : List (List ℕ)) (b : ℕ) → ((age : ℕ) → age < length records → ¬ Contains (get_or records age []) b)
+    → is_logged records b ≡ false
+unlogged [] b none = refl
+unlogged (numbers ∷ records) b none =
+    let rest = unlogged records b (λ age below. none (suc age) (omega (arith, below))) in
+    let first = λ (listed : Listed numbers b). none 0 (omega arith) (contains_listed numbers b listed) in
+    grind (arith, rest, first)
+
+pub unlogged_reads : (log : LogValue) (b : ℕ) → HasNoCopy log b → log_reads log.keeps log.waiting b ≡ 1
+unlogged_reads log b none = grind (arith, unlogged log.waiting b none)
 
 -- each block takes one call at most
 pub reads_few : (s : Cached) (address count : ℕ) → reads_of s address count ≤ count
@@ -88,8 +122,7 @@ module _ {M : Type 0} {state : M → State} {Follows : M → M → Type 0} {n : 
   -- it reads a copy in the log, or the sector at home
   pub copy_keeps : KeepsLog state Follows old.cached.log old.medium n → KeepsStore state Follows block 1 old (record old { medium = n })
   copy_keeps log =
-      let home = first_home (layout_of old.cached) in
-      grind (arith, log, looks_wider _ (IsLogOrHome home block 1) (state old.medium) (state n) (λ x low. inl low) log.looks)
+      grind (arith, log, looks_wider _ (IsReadFor old.cached block 1) (state old.medium) (state n) (λ x low. inl low) log.looks)
 
   pub home_keeps : {call : Result (Unit {0}) MediumFault} (sector : ℕ) → sector ≡ first_home (layout_of old.cached) + block
       → Passes Read call (state old.medium) (state n) → Stays (state old.medium).content (state n).content
@@ -102,15 +135,34 @@ module _ {M : Type 0} {state : M → State} {Follows : M → M → Type 0} {n : 
       record { stays = refl; quiet = quiet; follows = follows.0; looks = looks; policy = refl }
 
   pub reads_one : {bytes : List ℕ} (call : Result (Unit {0}) MediumFault) → Passes Read call (state old.medium) (state n)
-      → block < blocks_of old.cached → IsInNone old.cached block → KeepsStore state Follows block 1 old (record old { medium = n })
+      → block < blocks_of old.cached → IsInNone old.cached block → log_reads old.cached.log.keeps old.cached.log.waiting block ≡ 1
+      → KeepsStore state Follows block 1 old (record old { medium = n })
       → ((book : Book) → (fits : FitsBook (state old.medium) old.cached book) → OnOk call (bytes ≡ fits.view.array block))
       → ReadsBlock state Follows (told call) block bytes old (record old { medium = n })
-  reads_one (Ok done) passes below none keeps ok =
+  reads_one (Ok done) passes below none one keeps ok =
       let newest = λ (book : Book) (fits : FitsBook (state old.medium) old.cached book).
       ok book fits ∙ durable_is (state old.medium) old.cached book fits block below none.0 none.1 in
-      grind (arith, newest, keeps, passes, read_sends (state old.medium) (state n) passes, reads_copy old.cached block none.0 none.1)
-  reads_one (Err fault) passes below none keeps ok =
-      grind (arith, keeps, passes, read_sends (state old.medium) (state n) passes, reads_copy old.cached block none.0 none.1)
+      grind (arith, newest, keeps, passes, read_sends (state old.medium) (state n) passes, reads_copy old.cached block none.0 none.1, one)
+  reads_one (Err fault) passes below none one keeps ok =
+      grind (arith, keeps, passes, read_sends (state old.medium) (state n) passes, reads_copy old.cached block none.0 none.1, one)
+
+  -- or it reads none, where the log keeps it
+  pub reads_copied : {bytes : List ℕ} (call : Result (Unit {0}) MediumFault) → ReadsCopy state old.cached.log.keeps call old.medium n
+      → block < blocks_of old.cached → IsInNone old.cached block → is_logged old.cached.log.waiting block ≡ true
+      → KeepsStore state Follows block 1 old (record old { medium = n })
+      → ((book : Book) → (fits : FitsBook (state old.medium) old.cached book) → OnOk call (bytes ≡ fits.view.array block))
+      → ReadsBlock state Follows (told call) block bytes old (record old { medium = n })
+  reads_copied (Ok done) copied below none logged keeps ok = elim (cases_Bool old.cached.log.keeps) [
+    | inl kept ↦
+        let newest = λ (book : Book) (fits : FitsBook (state old.medium) old.cached book).
+        ok book fits ∙ durable_is (state old.medium) old.cached book fits block below none.0 none.1 in
+        grind (arith, rw kept at copied, kept, logged, keeps, newest, reads_copy old.cached block none.0 none.1)
+    | inr not ↦ reads_one (Ok done) (rw not at copied) below none (grind (arith, not)) keeps ok
+  ]
+  reads_copied (Err fault) copied below none logged keeps ok = elim (cases_Bool old.cached.log.keeps) [
+    | inl kept ↦ grind (arith, rw kept at copied)
+    | inr not ↦ reads_one (Err fault) (rw not at copied) below none (grind (arith, not)) keeps ok
+  ]
 
 -- ---- blocks are read one after another
 

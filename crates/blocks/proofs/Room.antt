@@ -17,16 +17,16 @@ use Rattle.blocks.specs.Ahead.{passed, sent_home, passed_calls, sent_calls, ahea
 -- ---- a count of calls, by how many each step makes
 
 -- between two moments calls, writes and flushes were made as for these steps: all but so many that are left
-pub record Spends (left all : ℕ) (before after : State) : Type 0 where
-  pub calls : after.calls + turns_calls left ≡ before.calls + turns_calls all
+pub record Spends (keeps : Bool) (left all : ℕ) (before after : State) : Type 0 where
+  pub calls : after.calls + turns_calls keeps left ≡ before.calls + turns_calls keeps all
   pub sends : sent after + turns_sends left ≤ sent before + turns_sends all
   pub flushes : after.made Flush + turns_flushes left ≡ before.made Flush + turns_flushes all
 
 -- so far nothing but retire steps of the oldest record were made, or it is retired
 pub record Retires (old new : LogValue) (before after : State) : Type 0 where
   pub so_far : ((new ≡ record old { retire_steps_left = new.retire_steps_left; ahead = new.ahead })
-      × Spends (of_oldest new) (of_oldest old) before after)
-      ⊎ ((new ≡ oldest_retired old) × Spends 0 (of_oldest old) before after)
+      × Spends old.keeps (of_oldest new) (of_oldest old) before after)
+      ⊎ ((new ≡ oldest_retired old) × Spends old.keeps 0 (of_oldest old) before after)
 
 pub retires_none : (log : LogValue) (m : State) → Retires log log m m
 retires_none log m = record { so_far = inl (refl, record { calls = refl; sends = omega arith; flushes = refl }) }
@@ -36,22 +36,23 @@ pub record IsFull (old mid : LogValue) : Type 0 where
   pub full : HasRoom mid → ⊥
   pub under_way : mid.under_way ≡ []
   pub idle : mid.steps_left ≡ 0
-  pub ring : old.next ≤ old.head + old.shape.slots
-  pub slots : 1 ≤ old.shape.slots
+  pub ring : old.next ≤ old.head + old.ring
+  pub some : 1 ≤ old.ring
 
 module _ {old mid : LogValue} {before between : State} (f : IsFull old mid) (made : Retires old mid before between) where
   -- its oldest record is not retired
   still_full : (mid ≡ record old { retire_steps_left = mid.retire_steps_left; ahead = mid.ahead })
-      × Spends (of_oldest mid) (of_oldest old) before between
+      × Spends old.keeps (of_oldest mid) (of_oldest old) before between
   still_full = grind (arith, f, made.so_far)
 
   -- one step more, good or refused
-  pub retires_more : {new : LogValue} {after : State} → IsRetireStepped mid new → after.calls ≡ between.calls + turn_calls (of_oldest mid)
+  pub retires_more : {new : LogValue} {after : State} → IsRetireStepped mid new
+      → after.calls ≡ between.calls + turn_calls mid.keeps (of_oldest mid)
       → sent after ≤ sent between + turn_sends (of_oldest mid) → after.made Flush ≡ between.made Flush + turn_flushes (of_oldest mid)
       → Retires old new before after
   retires_more {after = after} stepped calls sends flushes =
       let so_far = still_full in
-      let spent : Spends (of_oldest mid - 1) (of_oldest old) before after =
+      let spent : Spends old.keeps (of_oldest mid - 1) (of_oldest old) before after =
       grind (arith, nat_tests, so_far.1, stepped.some, calls, sends, flushes) in
       grind (arith, nat_tests, so_far.0, stepped, spent)
 
@@ -91,15 +92,18 @@ flushes_step progress old new some stepped = grind (arith, nat_tests)
 -- ---- a batch is durable
 
 -- its record was under way, or it is empty
-pub finishes_under_way : (ahead : Bool) (numbers : List ℕ) (firsts : List (List ℕ)) (log : LogValue) → 0 < log.steps_left
-    → written_out log ≡ finished_with ahead numbers firsts log
-finishes_under_way ahead numbers firsts log some = grind (arith, nat_tests)
+pub finishes_under_way : (ahead : Bool) (numbers : List ℕ) (firsts : List (List ℕ)) (copy : List ℕ) (log : LogValue) → 0 < log.steps_left
+    → written_out log ≡ finished_with ahead numbers firsts copy log
+finishes_under_way ahead numbers firsts copy log some = grind (arith, nat_tests)
 
 -- with which bytes its blocks begin is told by what is kept of them alone
-pub but_firsts : (ahead : Bool) (numbers : List ℕ) (firsts : List (List ℕ)) (log : LogValue)
-    → finished_with ahead numbers firsts log
-    ≡ record (finished_with ahead numbers [] log) { firsts = (finished_with ahead numbers firsts log).firsts }
-but_firsts ahead numbers firsts log = grind (arith, nat_tests)
+pub but_firsts : (ahead : Bool) (numbers : List ℕ) (firsts : List (List ℕ)) (copy : List ℕ) (log : LogValue)
+    → finished_with ahead numbers firsts copy log
+    ≡ record (finished_with ahead numbers [] [] log) {
+      firsts = (finished_with ahead numbers firsts copy log).firsts;
+      copies = (finished_with ahead numbers firsts copy log).copies;
+    }
+but_firsts ahead numbers firsts copy log = grind (arith, nat_tests)
 
 pub finish_begun : (ahead : Bool) (numbers : List ℕ) (log : LogValue) → log.steps_left ≡ 0 → 0 < length numbers
     → finish_calls ahead numbers log ≡ ready_calls ahead log + steps_of log.shape.format numbers
@@ -109,9 +113,10 @@ pub flushes_begun : (numbers : List ℕ) (log : LogValue) → log.steps_left ≡
     → finish_flushes numbers log ≡ room_flushes log + steps_flushes log.shape.format (steps_of log.shape.format numbers)
 flushes_begun numbers log idle some = grind (arith, nat_tests)
 
-pub flushes_of : (ahead : Bool) (frozen active : List ℕ) (firsts : List (List ℕ)) (old mid : LogValue)
-    → mid ≡ finished_with ahead frozen firsts old → finish_flushes active mid ≡ finish_flushes active (finished_with ahead frozen [] old)
-flushes_of ahead frozen active firsts old mid is = grind (arith, nat_tests)
+pub flushes_of : (ahead : Bool) (frozen active : List ℕ) (firsts : List (List ℕ)) (copy : List ℕ) (old mid : LogValue)
+    → mid ≡ finished_with ahead frozen firsts copy old
+    → finish_flushes active mid ≡ finish_flushes active (finished_with ahead frozen [] [] old)
+flushes_of ahead frozen active firsts copy old mid is = grind (arith, nat_tests)
 
 -- where a slot is free a sync of one batch flushes once
 pub once : (ahead : Bool) (frozen active : List ℕ) (log : LogValue) → log.shape.format ≡ Two → HasRoom log → frozen ≡ []
@@ -120,23 +125,23 @@ once ahead frozen active log two room none some = grind (arith, nat_tests, steps
 
 -- ---- the calls of a batch do not depend on the bytes of the one before it, and none is made for room where slots are free
 
-calls_one : (ahead : Bool) (numbers : List ℕ) (log : LogValue) (k : AllFirsts)
-    → finish_calls ahead numbers (record log { firsts = k }) ≡ finish_calls ahead numbers log
-calls_one ahead numbers log k = grind (arith, nat_tests)
+calls_one : (ahead : Bool) (numbers : List ℕ) (log : LogValue) (k : AllFirsts) (c : List (List ℕ))
+    → finish_calls ahead numbers (record log { firsts = k; copies = c }) ≡ finish_calls ahead numbers log
+calls_one ahead numbers log k c = grind (arith, nat_tests)
 
-pub calls_of : (ahead : Bool) (frozen active : List ℕ) (firsts : List (List ℕ)) (old mid : LogValue)
-    → mid ≡ finished_with ahead frozen firsts old
-    → finish_calls ahead active mid ≡ finish_calls ahead active (finished_with ahead frozen [] old)
-calls_of ahead frozen active firsts old mid is = grind (arith, nat_tests, but_firsts, calls_one)
+pub calls_of : (ahead : Bool) (frozen active : List ℕ) (firsts : List (List ℕ)) (copy : List ℕ) (old mid : LogValue)
+    → mid ≡ finished_with ahead frozen firsts copy old
+    → finish_calls ahead active mid ≡ finish_calls ahead active (finished_with ahead frozen [] [] old)
+calls_of ahead frozen active firsts copy old mid is = grind (arith, nat_tests, but_firsts, calls_one)
 
 -- the record of a batch is written behind a log that has room
-pub made_finished : (ahead : Bool) (numbers : List ℕ) (firsts : List (List ℕ)) (old mid new : LogValue) → old.steps_left ≡ 0
-    → 0 < length numbers → mid ≡ made_ready ahead old → new ≡ written_out (begun numbers firsts mid)
-    → new ≡ finished_with ahead numbers firsts old
-made_finished ahead numbers firsts old mid new idle some ready is = grind (arith, nat_tests)
+pub made_finished : (ahead : Bool) (numbers : List ℕ) (firsts : List (List ℕ)) (copy : List ℕ) (old mid new : LogValue) → old.steps_left ≡ 0
+    → 0 < length numbers → mid ≡ made_ready ahead old → new ≡ written_out (begun numbers firsts copy mid)
+    → new ≡ finished_with ahead numbers firsts copy old
+made_finished ahead numbers firsts copy old mid new idle some ready is = grind (arith, nat_tests)
 
 -- no step is left of a batch that is durable
-pub idle_behind : (ahead : Bool) (numbers : List ℕ) (log : LogValue) → (finished_with ahead numbers [] log).steps_left ≡ 0
+pub idle_behind : (ahead : Bool) (numbers : List ℕ) (log : LogValue) → (finished_with ahead numbers [] [] log).steps_left ≡ 0
 idle_behind ahead numbers log = grind (arith, nat_tests)
 
 -- where a slot is free for each record that is to be begun, a sync makes the calls of the records
@@ -152,11 +157,11 @@ pub still_room : (log : LogValue) → HasRoom log → HasRoom (sent_home (passed
 still_room log room = grind (arith, nat_tests)
 
 -- a slot is free, or none is
-pub free_is : (log : LogValue) → log.next - log.head < log.shape.slots → (ahead_room log ≡ sent_home (passed log))
+pub free_is : (log : LogValue) → log.next - log.head < log.ring → (ahead_room log ≡ sent_home (passed log))
     × (ahead_room_calls log ≡ passed_calls log + sent_calls (passed log)) × (room_flushes log ≡ 0)
 free_is log free = grind (arith, nat_tests)
 
-pub full_is : (log : LogValue) → (log.next - log.head < log.shape.slots → ⊥) → (with_room log ≡ ahead_room log)
+pub full_is : (log : LogValue) → (log.next - log.head < log.ring → ⊥) → (with_room log ≡ ahead_room log)
     × (room_calls log ≡ ahead_room_calls log)
 full_is log full = grind (arith, nat_tests)
 
@@ -176,18 +181,18 @@ pub record Gone (old new : LogValue) : Type 0 where
 -- with the calls of the steps that are left they are those of all steps, and with the writes and flushes of these no more than all
 pub record GoesHome (old new : LogValue) (calls calls' sends sends' : ℕ) : Type 0 where
   pub home : Going old new ⊎ Gone old new
-  pub costs : calls' + turns_calls (of_oldest new) ≡ calls + turns_calls (of_oldest old)
+  pub costs : calls' + turns_calls old.keeps (of_oldest new) ≡ calls + turns_calls old.keeps (of_oldest old)
   pub sent : sends' + turns_sends (of_oldest new) ≤ sends + turns_sends (of_oldest old)
 
 pub begins_home : (log : LogValue) (calls sends : ℕ) → GoesHome log log calls calls sends sends
 begins_home log calls sends = grind (arith, nat_tests)
 
 -- two steps are three calls and sends, and more are never fewer
-rest : (left : ℕ) → 2 ≤ left → (3 ≤ turns_calls left) × (3 ≤ turns_sends left)
-rest zero two = absurd (omega (arith, two))
-rest (suc zero) two = absurd (omega (arith, two))
-rest (suc (suc zero)) two = (omega arith, omega arith)
-rest (suc (suc (suc left))) two = grind (arith, rest (suc (suc left)))
+rest : (keeps : Bool) (left : ℕ) → 2 ≤ left → (3 ≤ turns_calls keeps left) × (3 ≤ turns_sends left)
+rest keeps zero two = absurd (omega (arith, two))
+rest keeps (suc zero) two = absurd (omega (arith, two))
+rest keeps (suc (suc zero)) two = (omega arith, omega arith)
+rest keeps (suc (suc (suc left))) two = grind (arith, rest keeps (suc (suc left)))
 
 module _ {old mid : LogValue} {calls calls' sends sends' : ℕ} (so_far : GoesHome old mid calls calls' sends sends') where
   pub goes_on_home : {new : LogValue} {calls'' sends'' : ℕ} → IsAway mid → IsSentHome mid new → calls'' ≡ calls' + next_calls mid
@@ -207,7 +212,7 @@ module _ {old mid : LogValue} {calls calls' sends sends' : ℕ} (so_far : GoesHo
   -- one more turn, good or refused, and all that were made
   pub few_home : {made : ℕ} → IsAway mid → made ≤ sends' + next_sends mid → sends_of_oldest old ≤ most_retire_sends old.shape.format
       → made ≤ sends + limit_of old.shape.format
-  few_home away more few = grind (arith, nat_tests, rest (of_oldest mid - 1))
+  few_home away more few = grind (arith, nat_tests, rest old.keeps (of_oldest mid - 1))
 
   pub all_sends : sends_of_oldest old ≤ most_retire_sends old.shape.format → sends' ≤ sends + limit_of old.shape.format
   all_sends few = grind (arith, nat_tests, rest)

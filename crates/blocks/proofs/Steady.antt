@@ -1,13 +1,14 @@
 -- How records alone fill the ring of a store that goes ahead, how it stays steady, and what a record costs then.
 use Rattle.std.proofs.{lemmas.Bool.Decides.nat_tests, lemmas.List.Sums.sum_by-cons, lemmas.List.Sums.sum_by_push}
-use Rattle.std.proofs.Common.{◌≡◌, ◌⊎◌, ◌<◌, ◌≤◌, ◌+◌, ◌-◌, ◌*◌, arith, length-append, refl}
+use Rattle.std.proofs.Common.{◌≡◌, ◌⊎◌, ◌<◌, ◌≤◌, ◌+◌, ◌-◌, ◌*◌, arith, length-append}
 use Rattle.std.proofs.lemmas.List.Elements.{All-append, All-cons}
-use Rattle.std.specs.Prelude.{ℕ, zero, suc, List, [], ◌∷◌, ◌++◌, length, get_or, drop, sum_by, All, true}
+use Rattle.std.specs.Prelude.{ℕ, zero, suc, List, [], ◌∷◌, ◌++◌, length, get_or, drop, sum_by, All, true, false, Bool}
 use Rattle.medium.specs.Medium.{State}
 use Rattle.cache.specs.Entries.{Entries}
-use Rattle.redo_log.specs.Value.{LogValue, HasRoom, behind_oldest, of_oldest, ahead_of, retire_steps_of, settled, begun, turns_calls}
-use Rattle.blocks.specs.{Started.IsStarted, StoreValue.Cached, StoreValue.layout_of, StoreValue.firsts_in}
-use Rattle.blocks.specs.Ahead.{oldest_retired, ahead_room, ahead_room_calls, may_go_ahead}
+use Rattle.redo_log.specs.Value.{LogValue, HasRoom, behind_oldest, of_oldest, ahead_of, home_calls, retire_steps_of, settled, begun}
+use Rattle.redo_log.specs.Value.{turns_calls}
+use Rattle.blocks.specs.{Started.IsStartedBy, StoreValue.Cached, StoreValue.firsts_in, declared.start.Keeping.Keeping}
+use Rattle.blocks.specs.Ahead.{oldest_retired, ahead_room, ahead_room_calls, may_go_by}
 use Rattle.blocks.specs.Retiring.{written_out, finished_with, finished, both_calls}
 use Rattle.blocks.specs.Steady.{IsSteady, IsFilling, IsFuller, finished_each, ReachesSteady, second_of, steady_calls}
 use Rattle.blocks.proofs.Room.{finish_begun}
@@ -48,21 +49,21 @@ second_owed w some = grind (arith, sum_by-cons retire_steps_of)
 -- ---- one record more
 
 -- the log with one record more, and the same log whose oldest record is home
-abbrev pub with_more : List ℕ → List (List ℕ) → LogValue → LogValue
-with_more numbers firsts log = written_out (begun numbers firsts log)
+abbrev pub with_more : List ℕ → List (List ℕ) → List ℕ → LogValue → LogValue
+with_more numbers firsts copy log = written_out (begun numbers firsts copy log)
 
 abbrev pub home_of : LogValue → LogValue
 home_of log = record log { retire_steps_left = behind_oldest log + 2; ahead = ahead_of log }
 
-pub finished_is : (numbers : List ℕ) (firsts : List (List ℕ)) (log : LogValue) → log.steps_left ≡ 0 → 0 < length numbers
-    → finished_with true numbers firsts log ≡ with_more numbers firsts (ahead_room log)
-finished_is numbers firsts log idle some = grind (arith, nat_tests)
+pub finished_is : (numbers : List ℕ) (firsts : List (List ℕ)) (copy : List ℕ) (log : LogValue) → log.steps_left ≡ 0 → 0 < length numbers
+    → finished_with true numbers firsts copy log ≡ with_more numbers firsts copy (ahead_room log)
+finished_is numbers firsts copy log idle some = grind (arith, nat_tests)
 
 -- Where its oldest record is home, and one slot is free once the next one is written, the ring is steady then.
-then_steady : (numbers : List ℕ) (firsts : List (List ℕ)) (log : LogValue) → log.under_way ≡ [] → 0 < length log.waiting
-    → HaveBlocks log.waiting → 0 < length numbers → ((log.next + 1) - log.head) + 1 ≡ log.shape.slots
-    → IsSteady (with_more numbers firsts (home_of log))
-then_steady numbers firsts log under_way waits each some one_free =
+then_steady : (numbers : List ℕ) (firsts : List (List ℕ)) (copy : List ℕ) (log : LogValue) → log.under_way ≡ [] → 0 < length log.waiting
+    → HaveBlocks log.waiting → 0 < length numbers → ((log.next + 1) - log.head) + 1 ≡ log.ring
+    → IsSteady (with_more numbers firsts copy (home_of log))
+then_steady numbers firsts copy log under_way waits each some one_free =
     let second = blocks_more log.waiting numbers each some 1 [] in
     grind (arith, nat_tests, length-append log.waiting (numbers ∷ []), behind_more log.waiting numbers waits, second)
 
@@ -72,22 +73,22 @@ then_steady numbers firsts log under_way waits each some one_free =
 pub record Filled (old new : LogValue) : Type 0 where
   pub fuller : IsFuller old new
   pub blocks : HaveBlocks new.waiting
-  pub shape : new.shape ≡ old.shape
+  pub ring : new.ring ≡ old.ring
 
 -- three slots are free, and nothing is done for room; or two are, and the oldest record goes home
 fills_room : (log : LogValue) → IsFilling log → HaveBlocks log.waiting
-    → ((ahead_room log ≡ log) × (length log.waiting + 3 ≤ log.shape.slots))
-    ⊎ ((ahead_room log ≡ home_of log) × (length log.waiting + 2 ≡ log.shape.slots))
+    → ((ahead_room log ≡ log) × (length log.waiting + 3 ≤ log.ring))
+    ⊎ ((ahead_room log ≡ home_of log) × (length log.waiting + 2 ≡ log.ring))
 fills_room log f each = grind (arith, nat_tests, first_owed log.waiting)
 
 -- a ring that fills comes by one record more, and is steady where only one slot is left then
-pub fills : (numbers : List ℕ) (firsts : List (List ℕ)) (log : LogValue) → IsFilling log → HaveBlocks log.waiting → 0 < length numbers
-    → Filled log (finished_with true numbers firsts log)
-fills numbers firsts log f each some =
-    let is = finished_is numbers firsts log f.idle some in
+pub fills : (numbers : List ℕ) (firsts : List (List ℕ)) (copy : List ℕ) (log : LogValue) → IsFilling log → HaveBlocks log.waiting
+    → 0 < length numbers → Filled log (finished_with true numbers firsts copy log)
+fills numbers firsts copy log f each some =
+    let is = finished_is numbers firsts copy log f.idle some in
     let blocks = blocks_more log.waiting numbers each some in
     let sum = sum_by_push retire_steps_of log.waiting numbers in
-    grind (arith, f, length-append log.waiting (numbers ∷ []), fills_room log f each, then_steady numbers firsts log f.none_under_way)
+    grind (arith, f, length-append log.waiting (numbers ∷ []), fills_room log f each, then_steady numbers firsts copy log f.none_under_way)
 
 -- ---- a steady ring
 
@@ -95,28 +96,30 @@ fills numbers firsts log f each some =
 steady_left : (log : LogValue) → IsSteady log → of_oldest (oldest_retired (settled log)) ≡ length (second_of log) + 2
 steady_left log s = grind (arith, second_owed log.waiting)
 
-pub keeps_on : (numbers : List ℕ) (firsts : List (List ℕ)) (log : LogValue) → IsSteady log → HaveBlocks log.waiting → 0 < length numbers
-    → IsSteady (finished_with true numbers firsts log) × HaveBlocks (finished_with true numbers firsts log).waiting
-keeps_on numbers firsts log s each some =
+pub keeps_on : (numbers : List ℕ) (firsts : List (List ℕ)) (copy : List ℕ) (log : LogValue) → IsSteady log → HaveBlocks log.waiting
+    → 0 < length numbers
+    → IsSteady (finished_with true numbers firsts copy log) × HaveBlocks (finished_with true numbers firsts copy log).waiting
+keeps_on numbers firsts copy log s each some =
     let rest = blocks_behind log.waiting each in
     let is : ahead_room log ≡ home_of (oldest_retired (settled log)) = grind (arith, nat_tests, steady_left log s) in
-    let steady = then_steady numbers firsts (oldest_retired (settled log)) s.none_under_way (grind (arith, s)) rest some
+    let steady = then_steady numbers firsts copy (oldest_retired (settled log)) s.none_under_way (grind (arith, s)) rest some
     (omega (arith, s.one_free)) in
-    rw (finished_is numbers firsts log s.idle some, is) (steady, blocks_more (drop 1 log.waiting) numbers rest some)
+    rw (finished_is numbers firsts copy log s.idle some, is) (steady, blocks_more (drop 1 log.waiting) numbers rest some)
 
 -- whatever a batch is, it stays steady
-pub stays_on : (numbers : List ℕ) (firsts : List (List ℕ)) (log : LogValue) → IsSteady log → HaveBlocks log.waiting
-    → IsSteady (finished_with true numbers firsts log)
-stays_on numbers firsts log s each = grind (arith, keeps_on numbers firsts log s each)
+pub stays_on : (numbers : List ℕ) (firsts : List (List ℕ)) (copy : List ℕ) (log : LogValue) → IsSteady log → HaveBlocks log.waiting
+    → IsSteady (finished_with true numbers firsts copy log)
+stays_on numbers firsts copy log s each = grind (arith, keeps_on numbers firsts copy log s each)
 
 -- all steps of a record of count blocks
-all_calls : (count : ℕ) → turns_calls (count + 2) ≡ 2 * count + 3
-all_calls zero = omega arith
-all_calls (suc count) = grind (arith, all_calls count)
+all_calls : (keeps : Bool) (count : ℕ) → turns_calls keeps (count + 2) ≡ home_calls keeps * count + 3
+all_calls keeps zero = omega arith
+all_calls false (suc count) = grind (arith, all_calls false count)
+all_calls true (suc count) = grind (arith, all_calls true count)
 
 -- room for the next record: the head, and one record's way home
-steady_room : (log : LogValue) → IsSteady log → ahead_room_calls log ≡ 1 + 2 * length (second_of log)
-steady_room log s = let left = steady_left log s in grind (arith, nat_tests, left, all_calls (length (second_of log)))
+steady_room : (log : LogValue) → IsSteady log → ahead_room_calls log ≡ 1 + home_calls log.keeps * length (second_of log)
+steady_room log s = let left = steady_left log s in grind (arith, nat_tests, left, all_calls log.keeps (length (second_of log)))
 
 pub steady_roomy : (log : LogValue) → IsSteady log → HasRoom log
 steady_roomy log s = grind arith
@@ -136,20 +139,20 @@ keeps_each : (batches : List Entries) (log : LogValue) → IsSteady log → Have
     → IsSteady (finished_each batches log)
 keeps_each [] log s each blocks = s
 keeps_each (batch ∷ batches) log s each blocks =
-    let one = keeps_on batch.numbers (firsts_in batch) log s each (blocks 0 batch (omega arith)) in
+    let one = keeps_on batch.numbers (firsts_in batch) batch.bytes log s each (blocks 0 batch (omega arith)) in
     keeps_each batches (finished true batch log) one.0 one.1 (λ j d below. blocks (suc j) d (omega arith))
 
 fills_each : (batches : List Entries) (log : LogValue) → IsFilling log → HaveBlocks log.waiting → ListBlocks batches
-    → log.shape.slots ≤ length log.waiting + length batches + 1 → IsSteady (finished_each batches log)
+    → log.ring ≤ length log.waiting + length batches + 1 → IsSteady (finished_each batches log)
 fills_each [] log f each blocks enough = absurd (omega (arith, f.two_free, enough))
 fills_each (batch ∷ batches) log f each blocks enough =
-    let one = fills batch.numbers (firsts_in batch) log f each (blocks 0 batch (omega arith)) in
+    let one = fills batch.numbers (firsts_in batch) batch.bytes log f each (blocks 0 batch (omega arith)) in
     let rest : ListBlocks batches = λ j d below. blocks (suc j) d (omega arith) in
-    let fill = λ (three : length log.waiting + 3 ≤ log.shape.slots).
+    let fill = λ (three : length log.waiting + 3 ≤ log.ring).
     fills_each batches (finished true batch log) (one.fuller.on three) one.blocks rest in
-    let keep = λ (two : length log.waiting + 2 ≡ log.shape.slots).
+    let keep = λ (two : length log.waiting + 2 ≡ log.ring).
     keeps_each batches (finished true batch log) (one.fuller.full two) one.blocks rest in
-    grind (arith, f.two_free, fill, keep, one.fuller.one_more, one.shape)
+    grind (arith, f.two_free, fill, keep, one.fuller.one_more, one.ring)
 
 -- a ring that fills becomes steady, and stays so
 pub reaches : (log : LogValue) → IsFilling log → HaveBlocks log.waiting → log.waiting ≡ [] → ReachesSteady log
@@ -157,12 +160,13 @@ reaches log f each empty batches blocks enough = grind (arith, fills_each batche
 
 -- ---- a store that starts
 
-pub starts_filling : (before after : State) (s : Cached) → IsStarted before after s → may_go_ahead (layout_of s) ≡ true → IsFilling s.log
-starts_filling before after s started may =
-    let some : 0 < started.next = omega (arith, started.stood.next_is) in rw started.log (grind (arith, nat_tests, may, some))
+pub starts_filling : {keeping : Keeping} {before after : State} {s : Cached} → IsStartedBy keeping before after s
+    → may_go_by s.log.shape.format s.log.ring ≡ true → IsFilling s.log
+starts_filling started may =
+    let some : 0 < started.next = omega (arith, started.stood.next_is) in grind (arith, nat_tests, started.log, may, some)
 
-pub starts_reaching : (before after : State) (s : Cached) → IsStarted before after s → may_go_ahead (layout_of s) ≡ true
-    → ReachesSteady s.log
-starts_reaching before after s started may =
-    let empty : s.log.waiting ≡ [] = rw started.log refl in
-    reaches s.log (starts_filling before after s started may) (rw empty (λ j d below. absurd (omega arith))) empty
+pub starts_reaching : {keeping : Keeping} {before after : State} {s : Cached} → IsStartedBy keeping before after s
+    → may_go_by s.log.shape.format s.log.ring ≡ true → ReachesSteady s.log
+starts_reaching {s = s} started may =
+    let empty : s.log.waiting ≡ [] = grind (arith, started.log) in
+    reaches s.log (starts_filling started may) (rw empty (λ j d below. absurd (omega arith))) empty

@@ -112,7 +112,7 @@ module _ {M : Type 0} {state : M → State} {Follows : M → M → Type 0} where
   pub kept_then : {most sends : ℕ} {old mid new : StoreValue M} → KeepsMedium state IsTurn old mid
       → PassesOn state Follows IsTurn most sends mid new → PassesOn state Follows IsTurn most sends old new
   kept_then {old = old} {mid = mid} {new = new} keeps made =
-      let looks = looks_on (state old.medium) (state mid.medium) (state new.medium) old.cached mid.cached keeps.turn.goes_on.layout_stays
+      let looks = looks_on (state old.medium) (state mid.medium) (state new.medium) old.cached mid.cached keeps.turn.goes_on
       (none (state old.medium) (state mid.medium) old.cached (ap (λ m. (state m).looked) keeps.medium)) made.looks in
       grind (arith, keeps.policy, turns _ _ _ _ _ _ keeps.turn made.turn, looks, (rw keeps.medium at made))
 
@@ -131,7 +131,7 @@ module _ {M : Type 0} {state : M → State} {Follows : M → M → Type 0} where
       → SendsUpTo all (state old.medium) (state new.medium) → PassesPaid state Follows all old new
   paid_then {old = old} {mid = mid} {new = new} through one live two sent =
       let turn = turns _ _ _ _ _ _ one.turn two.turn in
-      let looks = looks_on _ _ _ old.cached mid.cached one.turn.goes_on.layout_stays one.looks two.looks in
+      let looks = looks_on _ _ _ old.cached mid.cached one.turn.goes_on one.looks two.looks in
       grind (arith, turn, looks, through _ _ _ one.follows two.follows, one, live, two, sent)
 
   -- as a write that is refused tells it, and one that takes place without a call

@@ -15,16 +15,17 @@ oldest_retired log = record log {
   waiting = drop 1 log.waiting;
   retire_steps_left = behind_oldest log;
   firsts = drop 1 log.firsts;
+  copies = drop 1 log.copies;
   ahead = none_ahead;
 }
 
 -- how many calls make all the steps that are left of the oldest record
 abbrev pub retiring_calls : LogValue → ℕ
-retiring_calls log = turns_calls (of_oldest log)
+retiring_calls log = turns_calls log.keeps (of_oldest log)
 
 -- fewer slots are free than three
 abbrev pub is_short : LogValue → Bool
-is_short log = nat_lt log.shape.slots ((log.next - log.head) + 3)
+is_short log = nat_lt log.ring ((log.next - log.head) + 3)
 
 -- the oldest record went home ahead, and a record has become durable since
 abbrev pub is_covered : LogValue → Bool
@@ -69,19 +70,19 @@ sent_calls log = if is_short log then going_calls log else 0
 -- passed, or it is passed and the next one sent home, or the oldest is sent home alone. Where none
 -- is free the oldest is retired.
 abbrev pub ahead_room : LogValue → LogValue
-ahead_room log = if nat_lt (log.next - log.head) log.shape.slots then sent_home (passed log)
+ahead_room log = if nat_lt (log.next - log.head) log.ring then sent_home (passed log)
     else oldest_retired log
 
 abbrev pub ahead_room_calls : LogValue → ℕ
-ahead_room_calls log = if nat_lt (log.next - log.head) log.shape.slots
+ahead_room_calls log = if nat_lt (log.next - log.head) log.ring
     then passed_calls log + sent_calls (passed log) else retiring_calls log
 
--- a store of such a log may go ahead: the one record that is passed, the one that is on its way
--- home and the one that is begun have a slot each, and the record's one flush covers all that goes
--- before it
+-- A store may go ahead with a log of this format, in which so many records may stand at once: the
+-- one record that is passed, the one that is on its way home and the one that is begun have a slot
+-- each, and the record's one flush covers all that goes before it.
 abbrev pub may_go_by : LogFormat → ℕ → Bool
-may_go_by One slots = false
-may_go_by Two slots = nat_le 3 slots
+may_go_by One ring = false
+may_go_by Two ring = nat_le 3 ring
 
 abbrev pub may_go_ahead : Shape → Bool
 may_go_ahead shape = may_go_by shape.format shape.slots

@@ -57,7 +57,7 @@ pub record WritesOn (old new : Cached) : Type 0 where
 pub record BeginsFrozen (old new : Cached) : Type 0 where
   pub live : is_dead new ≡ false
       → (old.log.next < 2 ^ 63 - 1)
-      × (new.log ≡ begun old.frozen.numbers (firsts_in old.frozen) old.log)
+      × (new.log ≡ begun old.frozen.numbers (firsts_in old.frozen) old.frozen.bytes old.log)
   pub dies : is_dead new ≡ true → (old.log.next ≡ 2 ^ 63 - 1) × (new.log ≡ died old.log)
   pub falls : is_dead new ≡ false → steps_left new < steps_left old
   pub head : new.log.head ≡ old.log.head
@@ -78,7 +78,7 @@ pub record IsBeginning (before after : State) (old new : Cached) : Type 0 where
   pub next : FreezesNext old new
   pub live : is_dead new ≡ false
       → (old.log.next < 2 ^ 63 - 1)
-      × (new.log ≡ begun new.frozen.numbers (firsts_in new.frozen) old.log)
+      × (new.log ≡ begun new.frozen.numbers (firsts_in new.frozen) new.frozen.bytes old.log)
   pub dies : is_dead new ≡ true → (old.log.next ≡ 2 ^ 63 - 1) × (new.log ≡ died old.log)
 
 -- The oldest record is retired by exactly one step, which makes that step's calls and never more

@@ -1,6 +1,6 @@
 -- How many calls of the medium a read of a store makes, and what a write does to the batches.
-use Rattle.std.specs.Prelude.{◌≡◌, ℕ, ◌+◌, ◌*◌, ◌/◌, zero, suc, Bool, true, false, [], ◌≤◌}
-use Rattle.std.specs.Prelude.{if◌then◌else◌, Result, OnOk, is_ok, IsOk}
+use Rattle.std.specs.Prelude.{◌≡◌, ℕ, ◌+◌, ◌*◌, ◌/◌, zero, suc, Bool, true, false, List, [], ◌∷◌}
+use Rattle.std.specs.Prelude.{◌≤◌, if◌then◌else◌, Result, OnOk, is_ok, IsOk}
 use Rattle.medium.specs.{Medium.State, Sent.SendsUpTo, declared.fault.MediumFault.TheVariants.Flush}
 use Rattle.cache.specs.Blocks.{is_listed}
 use Rattle.blocks.specs.{Book.IsTransfer, Retiring.finished, Retiring.finish_calls}
@@ -13,12 +13,22 @@ use Rattle.blocks.specs.StoreValue.{Cached, StoreValue, FitsBeside, TakesRange, 
 use Rattle.blocks.specs.StoreValue.{active_of, blocks_of, batch_steps, steps_left, is_dead, wants}
 use Rattle.spec.specs.Blocks.{Write}
 
--- how many calls it takes to read a block: none where a batch has it, and else one, from its newest
--- logged copy or from home
+-- one of these records has the block
+abbrev pub is_logged : List (List ℕ) → ℕ → Bool
+is_logged [] b = false
+is_logged (numbers ∷ records) b = if is_listed numbers b then true else is_logged records b
+
+-- how many calls it takes to read a block that no batch has: none where a record has it and the log
+-- keeps it, and else one, from its newest logged copy or from home
+abbrev pub log_reads : Bool → List (List ℕ) → ℕ → ℕ
+log_reads false records b = 1
+log_reads true records b = if is_logged records b then 0 else 1
+
+-- how many it takes to read a block: none where a batch has it
 abbrev pub block_reads : Cached → ℕ → ℕ
 block_reads s b =
     if is_listed s.active.numbers b then 0 else
-    (if is_listed s.frozen.numbers b then 0 else 1)
+    (if is_listed s.frozen.numbers b then 0 else log_reads s.log.keeps s.log.waiting b)
 
 -- how many it takes to read count blocks from this address on
 abbrev pub reads_of : Cached → ℕ → ℕ → ℕ

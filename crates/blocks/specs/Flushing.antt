@@ -11,7 +11,7 @@ left_flushes log = steps_flushes log.shape.format log.steps_left
 -- goes ahead, and else those of the steps that retire the oldest one, which are two at most.
 abbrev pub room_flushes : LogValue → ℕ
 room_flushes log =
-    if nat_lt (log.next - log.head) log.shape.slots then 0 else turns_flushes (of_oldest log)
+    if nat_lt (log.next - log.head) log.ring then 0 else turns_flushes (of_oldest log)
 
 -- those that make a batch durable, where a given number of steps is left of its record
 abbrev pub finish_flushes_from : ℕ → List ℕ → LogValue → ℕ
@@ -27,4 +27,4 @@ finish_flushes numbers log = finish_flushes_from log.steps_left numbers log
 -- those for this batch, and then for another one
 abbrev pub both_flushes : Bool → List ℕ → List ℕ → LogValue → ℕ
 both_flushes ahead frozen active log =
-    finish_flushes frozen log + finish_flushes active (finished_with ahead frozen [] log)
+    finish_flushes frozen log + finish_flushes active (finished_with ahead frozen [] [] log)

@@ -4,7 +4,7 @@ use Rattle.std.specs.Prelude.{◌≡◌, ◌⊎◌, ◌+◌, ◌≤◌, ◌<◌,
 use Rattle.std.specs.Prelude.{Bool, List, ◌∷◌}
 use Rattle.medium.specs.{Medium.State, declared.fault.MediumFault.TheVariants.Flush}
 use Rattle.redo_log.specs.Value.{LogValue, IsCovered, of_oldest}
-use Rattle.blocks.specs.{Ahead.may_go_ahead, Retiring.HasSlots, Retiring.written_out}
+use Rattle.blocks.specs.{Ahead.may_go_by, Retiring.HasSlots, Retiring.written_out}
 use Rattle.blocks.specs.StoreValue.{Cached, StoreValue, is_dead, wants}
 
 -- the log once the record under way is durable, of which so many steps are left
@@ -17,7 +17,7 @@ landed log = landed_from log.steps_left log
 
 -- No record is under way, and the stamps, the records and their retire steps go together.
 pub record IsInOrder (log : LogValue) : Type 0 where
-  pub may : may_go_ahead log.shape ≡ true
+  pub may : may_go_by log.shape.format log.ring ≡ true
   pub idle : log.steps_left ≡ 0
   pub none_under_way : log.under_way ≡ []
   pub used : log.next ≡ log.head + length log.waiting

@@ -4,7 +4,7 @@ use Rattle.journal.specs.{Formats.shape_of, declared.super_sector.Super.Super}
 use Rattle.journal.specs.Places.{Shape, limit_of, sectors_of}
 use Rattle.cache.specs.{Blocks.Listed, Entries.Entries, Entries.IsWellFormed}
 use Rattle.redo_log.specs.Value.{most_steps, most_retire_steps}
-use Rattle.blocks.specs.{Ahead.may_go_ahead, StoreValue.Cached}
+use Rattle.blocks.specs.{Ahead.may_go_by, StoreValue.Cached}
 
 -- a batch of the store: it has room for as many blocks as a record has at most, and each of its
 -- numbers is below the number of blocks
@@ -28,11 +28,12 @@ pub record Invariant (size : ℕ) (sizes : Super) (cached : Cached) (writing ahe
       → cached.log.under_way ≡ cached.frozen.numbers
   pub none_under_way : cached.log.dead ≡ false → cached.log.steps_left ≡ 0
       → cached.log.under_way ≡ []
-  pub ring : cached.log.next ≤ cached.log.head + cached.log.shape.slots
+  pub some_ring : 1 ≤ cached.log.ring
+  pub ring : cached.log.next ≤ cached.log.head + cached.log.ring
   pub some : 0 < cached.log.steps_left → 0 < length cached.frozen.numbers
   pub few_steps : cached.log.steps_left ≤ most_steps cached.log.shape.format
   pub few_retire_steps : cached.log.retire_steps_left
       ≤ most_retire_steps cached.log.shape.format * cached.log.shape.slots
   -- a record that is under way has to be retired later
   pub owes : 0 < cached.log.steps_left → 0 < cached.log.retire_steps_left
-  pub policy : ahead ≡ true → may_go_ahead cached.log.shape ≡ true
+  pub policy : ahead ≡ true → may_go_by cached.log.shape.format cached.log.ring ≡ true

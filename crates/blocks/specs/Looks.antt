@@ -2,18 +2,26 @@
 use Rattle.std.specs.Prelude.{◌⊎◌, ◌<◌, ◌≤◌, ◌+◌, ℕ}
 use Rattle.medium.specs.Medium.{State, LooksOnly}
 use Rattle.journal.specs.Places.{first_home}
+use Rattle.redo_log.specs.Value.{IsReadBack}
 use Rattle.blocks.specs.StoreValue.{Cached, layout_of}
 
--- each read names a sector of the log: one before home
+-- each read names a sector of the log, one before home, and none where the log keeps its blocks
 abbrev pub LooksAtLog : State → State → Cached → Type 0
-LooksAtLog before after s = LooksOnly (λ sector. sector < first_home (layout_of s)) before after
+LooksAtLog before after s = LooksOnly (IsReadBack s.log) before after
 
--- a sector of the log, or where one of count blocks from an address on is at home
+-- where one of count blocks from an address on is at home
+abbrev pub IsHomeOf : ℕ → ℕ → ℕ → ℕ → Type 0
+IsHomeOf home address count sector = (home + address ≤ sector) × (sector < home + address + count)
+
+-- a sector of the log, or such a home
 abbrev pub IsLogOrHome : ℕ → ℕ → ℕ → ℕ → Type 0
-IsLogOrHome home address count sector = (sector < home)
-    ⊎ ((home + address ≤ sector) × (sector < home + address + count))
+IsLogOrHome home address count sector = (sector < home) ⊎ IsHomeOf home address count sector
+
+-- the same of a store that reads its log back, and such a home alone where it keeps
+abbrev pub IsReadFor : Cached → ℕ → ℕ → ℕ → Type 0
+IsReadFor s address count sector =
+    IsReadBack s.log sector ⊎ IsHomeOf (first_home (layout_of s)) address count sector
 
 -- each read names such a sector
 abbrev pub LooksAtBlocks : State → State → Cached → ℕ → ℕ → Type 0
-LooksAtBlocks before after s address count =
-    LooksOnly (IsLogOrHome (first_home (layout_of s)) address count) before after
+LooksAtBlocks before after s address count = LooksOnly (IsReadFor s address count) before after

@@ -9,9 +9,9 @@ pub use Rattle.blocks.specs.Ahead.{oldest_retired}
 use Rattle.blocks.specs.Ahead.{ahead_room, ahead_room_calls}
 use Rattle.blocks.specs.StoreValue.{wants, waiting, firsts_in}
 
--- at least count slots are free
+-- there is room for count records at least
 abbrev pub HasSlots : ℕ → LogValue → Type 0
-HasSlots count log = (log.next - log.head) + count ≤ log.shape.slots
+HasSlots count log = (log.next - log.head) + count ≤ log.ring
 
 -- where the store goes ahead three slots are free: one for the next record, and two besides
 abbrev pub HasSpare : Bool → LogValue → Type 0
@@ -31,7 +31,7 @@ pub record RetiresForRoom (ahead : Bool) (old new : LogValue) : Type 0 where
 -- room for one more record: the oldest alone is retired, and only where no slot is free
 abbrev pub with_room : LogValue → LogValue
 with_room log =
-    if nat_lt (log.next - log.head) log.shape.slots then log else oldest_retired log
+    if nat_lt (log.next - log.head) log.ring then log else oldest_retired log
 
 -- the same, as the store makes it that goes ahead or does not
 abbrev pub made_ready : Bool → LogValue → LogValue
@@ -47,20 +47,23 @@ written_out log = record log {
 }
 
 -- where a given number of steps is left of the record of a batch
-abbrev pub finished_from : Bool → ℕ → List ℕ → List (List ℕ) → LogValue → LogValue
-finished_from ahead (suc steps) numbers firsts log = written_out log
-finished_from ahead zero [] firsts log = log
-finished_from ahead zero (n ∷ numbers) firsts log =
-    written_out (begun (n ∷ numbers) firsts (made_ready ahead log))
+abbrev pub finished_from : Bool → ℕ → List ℕ → List (List ℕ) → List ℕ → LogValue → LogValue
+finished_from ahead (suc steps) numbers firsts copy log = written_out log
+finished_from ahead zero [] firsts copy log = log
+finished_from ahead zero (n ∷ numbers) firsts copy log =
+    written_out (begun (n ∷ numbers) firsts copy (made_ready ahead log))
 
--- A batch of these blocks, which begin with these bytes, is durable: its record is written, or,
--- where that is under way already, goes on. An empty batch has none.
-abbrev pub finished_with : Bool → List ℕ → List (List ℕ) → LogValue → LogValue
-finished_with ahead numbers firsts log = finished_from ahead log.steps_left numbers firsts log
+-- A batch of these blocks, which begin with these bytes and have these other ones in all, is
+-- durable: its record is written, or, where that is under way already, goes on. An empty batch has
+-- none.
+abbrev pub finished_with : Bool → List ℕ → List (List ℕ) → List ℕ → LogValue → LogValue
+finished_with ahead numbers firsts copy log =
+    finished_from ahead log.steps_left numbers firsts copy log
 
 -- this batch is durable
 abbrev pub finished : Bool → Entries → LogValue → LogValue
-finished ahead batch log = finished_with ahead batch.numbers (firsts_in batch) log
+finished ahead batch log =
+    finished_with ahead batch.numbers (firsts_in batch) batch.bytes log
 
 -- how many calls write the record of a batch, where a given number of its steps is left
 abbrev pub calls_from : ℕ → LogFormat → List ℕ → ℕ
@@ -76,8 +79,8 @@ record_calls numbers log = calls_from log.steps_left log.shape.format numbers
 -- how many calls make room for one more record: none where a slot is free, and else those of all
 -- the steps that retire the oldest
 abbrev pub room_calls : LogValue → ℕ
-room_calls log = if nat_lt (log.next - log.head) log.shape.slots then 0
-    else turns_calls (of_oldest log)
+room_calls log = if nat_lt (log.next - log.head) log.ring then 0
+    else turns_calls log.keeps (of_oldest log)
 
 -- the same, as the store makes it that goes ahead or does not
 abbrev pub ready_calls : Bool → LogValue → ℕ
@@ -96,11 +99,12 @@ finish_from ahead zero (n ∷ numbers) log =
 abbrev pub finish_calls : Bool → List ℕ → LogValue → ℕ
 finish_calls ahead numbers log = finish_from ahead log.steps_left numbers log
 
--- how many for this batch, and then for another one: with which bytes the blocks of the first begin
+-- how many for this batch, and then for another one: which bytes the blocks of the first have
 -- counts for nothing
 abbrev pub both_calls : Bool → List ℕ → List ℕ → LogValue → ℕ
 both_calls ahead frozen active log =
-    finish_calls ahead frozen log + finish_calls ahead active (finished_with ahead frozen [] log)
+    finish_calls ahead frozen log
+    + finish_calls ahead active (finished_with ahead frozen [] [] log)
 
 -- how many records are to be begun of a batch: none where that is under way, or empty
 abbrev pub to_begin : List ℕ → LogValue → ℕ

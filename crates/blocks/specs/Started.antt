@@ -1,5 +1,5 @@
 -- How a store starts.
-use Rattle.std.specs.Prelude.{◌≡◌, ◌⊎◌, ℕ, ◌+◌, ◌*◌, ◌^◌, ◌<◌, ◌≤◌, Bool, true, false, []}
+use Rattle.std.specs.Prelude.{◌≡◌, ◌⊎◌, ℕ, ◌+◌, ◌*◌, ◌^◌, ◌<◌, ◌≤◌, Bool, true, false, [], min}
 use Rattle.medium.specs.Medium.{State, Image}
 use Rattle.medium.specs.Moments.{EachCut, LeavesOnly, IsFlushed}
 use Rattle.spec.specs.{Blocks.Array, Book.Book, Book.opened}
@@ -12,16 +12,32 @@ use Rattle.recovery.specs.declared.recovered.Recovered.{Recovered}
 use Rattle.recovery.specs.declared.start_fault.StartFault.{StartFault}
 use Rattle.recovery.specs.declared.start_fault.StartFault.TheVariants.{NoMemory}
 use Rattle.recovery.specs.Calls as recovery
-use Rattle.redo_log.specs.Value.{idle_from}
-use Rattle.blocks.specs.{Ahead.may_go_ahead, Headroom.HasHeadroom, Steady.IsFilling}
-use Rattle.blocks.specs.{Steady.ReachesSteady, Finding.MayFind, Kept.Invariant, Opening.OpensOn}
+use Rattle.redo_log.specs.Value.{LogValue, empty_from}
+use Rattle.blocks.specs.declared.start.Keeping.{Keeping}
+use Rattle.blocks.specs.declared.start.Keeping.TheVariants.{ReadBack, Kept}
+use Rattle.blocks.specs.{Ahead.may_go_ahead, Ahead.may_go_by, Headroom.HasHeadroom}
+use Rattle.blocks.specs.{Steady.IsFilling, Steady.ReachesSteady, Finding.MayFind, Kept.Invariant, Opening.OpensOn}
 use Rattle.blocks.specs.StoreValue.{Cached, layout_of, blocks_of, is_dead, active_of, steps_left}
-use Rattle.blocks.specs.StoreValue.{FitsBook, StoreValue}
+use Rattle.blocks.specs.StoreValue.{FitsBook, StoreValue, slots_of}
+
+-- how many records may stand at once in a log of so many slots, and whether their blocks are kept
+abbrev pub ring_by : Keeping → ℕ → ℕ
+ring_by ReadBack slots = slots
+ring_by (Kept count) slots = min count slots
+
+abbrev pub keeps_by : Keeping → Bool
+keeps_by ReadBack = false
+keeps_by (Kept count) = true
+
+-- the log with which a store starts, whose first record takes this stamp
+abbrev pub started_log : Keeping → Shape → ℕ → LogValue
+started_log keeping shape next =
+    empty_from shape next (ring_by keeping shape.slots) (keeps_by keeping)
 
 -- A store that has started serves the array for which the contents of the medium stood. It fits a
 -- life that opens with it, under the premise that every image was ours only where every one was.
 -- Nothing is cached, and nothing is left to do.
-pub record IsStarted (before after : State) (new : Cached) : Type 0 where
+pub record IsStartedBy (keeping : Keeping) (before after : State) (new : Cached) : Type 0 where
   pub array : Array
   pub next : ℕ
   pub stood : StandsFor before.size (layout_of new) before.content array next
@@ -35,9 +51,13 @@ pub record IsStarted (before after : State) (new : Cached) : Type 0 where
   pub empty : active_of new ≡ []
   pub rests : steps_left new ≡ 0
   -- no record waits, and the first one takes that stamp
-  pub log : new.log ≡ idle_from (layout_of new) next
+  pub log : new.log ≡ started_log keeping (layout_of new) next
   -- the medium was recovered, and nothing was done to it afterwards
   pub recovered : (answer : Recovered) × IsRecoveredFrom before after answer
+
+-- one that reads its log back
+abbrev pub IsStarted : State → State → Cached → Type 0
+IsStarted before after new = IsStartedBy ReadBack before after new
 
 -- Why a start is refused: for want of memory only once the medium is recovered, else as recovery
 -- is.
@@ -94,9 +114,15 @@ pub record LeavesMedium {M : Type 0} (state : M → State) (Follows : M → M �
   -- each read names a sector of the log
   pub looks : recovery.LooksAtLog (state old) (state new)
 
+-- where the log keeps its blocks, it does so of one record at least
+abbrev pub KeepsSome : Keeping → Type 0
+KeepsSome ReadBack = Unit {0}
+KeepsSome (Kept count) = 1 ≤ count
+
 -- The medium was recovered, and what a store on it keeps in memory was made.
-pub record MakesParts (before after : State) (sizes : Super) (cached : Cached) : Type 0 where
-  pub started : IsStarted before after cached
+pub record MakesParts (keeping : Keeping) (before after : State) (sizes : Super) (cached : Cached)
+    : Type 0 where
+  pub started : IsStartedBy keeping before after cached
   pub kept : Invariant after.size sizes cached false false
 
 -- A store that was started as any, and that goes ahead where its log allows it. The ring that
@@ -105,6 +131,21 @@ pub record StartsAhead {M : Type 0} (state : M → State) (Follows : M → M →
     (store : StoreValue M) : Type 0 where
   pub started : IsStarted (state medium) (state store.medium) store.cached
   pub policy : store.goes_ahead ≡ may_go_ahead (layout_of store.cached)
+  pub filling : store.goes_ahead ≡ true → IsFilling store.cached.log
+  pub reaches : store.goes_ahead ≡ true → ReachesSteady store.cached.log
+  -- its ring is never full
+  pub headroom : store.goes_ahead ≡ true → HasHeadroom store.cached.log
+  pub leaves : LeavesMedium state Follows medium store.medium
+
+-- A store that was started as any, but that keeps the bytes of its records, of so many at most. It
+-- goes ahead where its log allows it.
+pub record StartsKeeping {M : Type 0} (state : M → State) (Follows : M → M → Type 0) (kept : ℕ)
+    (medium : M) (store : StoreValue M) : Type 0 where
+  pub started : IsStartedBy (Kept kept) (state medium) (state store.medium) store.cached
+  pub keeps : store.cached.log.keeps ≡ true
+  pub ring : store.cached.log.ring ≡ min kept (slots_of store.cached)
+  pub policy : store.goes_ahead
+      ≡ may_go_by (layout_of store.cached).format store.cached.log.ring
   pub filling : store.goes_ahead ≡ true → IsFilling store.cached.log
   pub reaches : store.goes_ahead ≡ true → ReachesSteady store.cached.log
   -- its ring is never full

@@ -2,7 +2,7 @@
 use Rattle.std.specs.Prelude.{◌≡◌, ◌+◌, ◌-◌, ◌*◌, ◌<◌, ◌≤◌, ℕ, List, []}
 use Rattle.std.specs.Prelude.{◌∷◌, length, get_or, sum_by, true, All}
 use Rattle.cache.specs.Entries.{Entries}
-use Rattle.redo_log.specs.Value.{LogValue, IsCovered, steps_of, retire_steps_of}
+use Rattle.redo_log.specs.Value.{LogValue, IsCovered, steps_of, retire_steps_of, home_calls}
 use Rattle.blocks.specs.Retiring.{finished}
 
 -- the record that is the oldest once the oldest one is passed
@@ -14,23 +14,25 @@ second_of log = get_or log.waiting 1 []
 pub record IsSteady (log : LogValue) : Type 0 where
   pub idle : log.steps_left ≡ 0
   pub none_under_way : log.under_way ≡ []
-  pub one_free : (log.next - log.head) + 1 ≡ log.shape.slots
+  pub one_free : (log.next - log.head) + 1 ≡ log.ring
   pub covered : IsCovered log
   pub some : 0 < length (second_of log)
 
 -- One record then costs its own calls, of which the last is a flush and each other one a write, one
--- write of the head, and the calls that bring one record home: each block is read and written.
+-- write of the head, and the calls that bring one record home: each block is written, and read
+-- before it where it is not kept.
 abbrev pub steady_calls : List ℕ → LogValue → ℕ
-steady_calls numbers log = steps_of log.shape.format numbers + 1 + 2 * length (second_of log)
+steady_calls numbers log =
+    steps_of log.shape.format numbers + 1 + home_calls log.keeps * length (second_of log)
 
 -- Records alone have come so far. Two slots are free at least, nothing is under way, and no block
 -- of a record went home.
 pub record IsFilling (log : LogValue) : Type 0 where
   pub idle : log.steps_left ≡ 0
   pub none_under_way : log.under_way ≡ []
-  pub three : 3 ≤ log.shape.slots
+  pub three : 3 ≤ log.ring
   pub used : log.next ≡ log.head + length log.waiting
-  pub two_free : length log.waiting + 2 ≤ log.shape.slots
+  pub two_free : length log.waiting + 2 ≤ log.ring
   pub none_home : log.retire_steps_left
       ≡ sum_by retire_steps_of log.waiting
   pub none_ahead : log.ahead.home < log.head
@@ -38,8 +40,8 @@ pub record IsFilling (log : LogValue) : Type 0 where
 -- One record more has come: two slots are free still, or the ring is steady.
 pub record IsFuller (old new : LogValue) : Type 0 where
   pub one_more : length new.waiting ≡ length old.waiting + 1
-  pub on : length old.waiting + 3 ≤ old.shape.slots → IsFilling new
-  pub full : length old.waiting + 2 ≡ old.shape.slots → IsSteady new
+  pub on : length old.waiting + 3 ≤ old.ring → IsFilling new
+  pub full : length old.waiting + 2 ≡ old.ring → IsSteady new
 
 -- what the records of these batches make of a log, the first batch first, where the store goes
 -- ahead
@@ -47,8 +49,8 @@ abbrev pub finished_each : List Entries → LogValue → LogValue
 finished_each [] log = log
 finished_each (batch ∷ batches) log = finished_each batches (finished true batch log)
 
--- Where as many batches have become records as there are slots but one, or more, the ring is
+-- Where as many batches have become records as may stand at once but one, or more, the ring is
 -- steady.
 abbrev pub ReachesSteady : LogValue → Type 0
 ReachesSteady log = (batches : List Entries) → All (λ batch. 0 < length batch.numbers) batches
-    → log.shape.slots ≤ length batches + 1 → IsSteady (finished_each batches log)
+    → log.ring ≤ length batches + 1 → IsSteady (finished_each batches log)

@@ -13,12 +13,14 @@ abbrev pub HasCause : State → State → Cached → Type 0
 HasCause before after old = (before.failures < after.failures)
     ⊎ ((book : Book) → FitsBook before old book → StampsOut book)
 
--- No refusal is forgotten, the sizes stay, and a store that is dead stays so. One that dies has a
--- cause. The sectors behind the image are spared, at each moment.
+-- No refusal is forgotten, the sizes stay, and whether the log keeps its blocks. A store that is
+-- dead stays so. One that dies has a cause. The sectors behind the image are spared, at each
+-- moment.
 pub record GoesOn (before after : State) (old new : Cached) : Type 0 where
   pub failures_stay : before.failures ≤ after.failures
   pub size_stays : after.size ≡ before.size
   pub layout_stays : layout_of new ≡ layout_of old
+  pub keeps_stays : new.log.keeps ≡ old.log.keeps
   pub spares : SparesFrom (sectors_of (layout_of old)) before after
   pub blocks_stay : blocks_of new ≡ blocks_of old
   pub dead_stays : is_dead old ≡ true → is_dead new ≡ true

@@ -1,6 +1,6 @@
 //! The background work, one step at a time.
 ghost use Rattle.std.specs.Prelude.{◌≡◌, ◌⊎◌, ◌↔◌, ◌<◌, ◌≤◌, true, false, [], length, IsTrue};
-ghost use Rattle.blocks.specs.StoreValue.{is_dead, active_of, unwritten, steps_left, slots_of};
+ghost use Rattle.blocks.specs.StoreValue.{is_dead, active_of, unwritten, steps_left};
 ghost use Rattle.blocks.specs.Headroom.{KeepsHeadroom};
 ghost use Rattle.blocks.specs.Retiring.{HasSpare};
 ghost use Rattle.blocks.specs.Turns.{IsTurn};
@@ -69,7 +69,7 @@ impl<M: Medium> Store<M> {
     // Whether two slots are free besides one for the next record, where the store goes ahead.
     fn has_spare(&self) -> bool
         ensures told { IsTrue result ↔ HasSpare self.now.goes_ahead self.now.cached.log }
-        ensures enough { self.now.goes_ahead ≡ true → 3 ≤ slots_of self.now.cached }
+        ensures enough { self.now.goes_ahead ≡ true → 3 ≤ self.now.cached.log.ring }
     {
         !self.goes_ahead || self.log.has_slots(3)
     }

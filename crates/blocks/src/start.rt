@@ -5,19 +5,27 @@ ghost use Rattle.spec.specs.Blocks.{Array};
 ghost use Rattle.journal.specs.Places.{Shape, limit_of};
 ghost use Rattle.journal.specs.Standing.{StandsFor};
 ghost use Rattle.journal.specs.Formats.{shape_of};
-ghost use Rattle.redo_log.specs.Value.{idle_from};
 ghost use Rattle.recovery.specs.Causes.{IsDeviceFault};
-ghost use Rattle.blocks.specs.Ahead.{may_go_ahead};
-ghost use Rattle.blocks.specs.Started.{IsStarted, IsStartCause, LeavesMedium, StartsAhead};
-ghost use Rattle.blocks.specs.Started.{RefusesStart, MakesParts};
+ghost use Rattle.blocks.specs.Ahead.{may_go_by};
+ghost use Rattle.blocks.specs.Started.{IsStarted, IsStartedBy, IsStartCause, LeavesMedium};
+ghost use Rattle.blocks.specs.Started.{StartsAhead, StartsKeeping, RefusesStart, MakesParts};
+ghost use Rattle.blocks.specs.Started.{started_log, KeepsSome};
 
 use crate::{StartError, Store};
 use cache::{Batch, Frozen};
 use journal::Super;
 use medium::Medium;
 use recovery::{Recovered, StartFault, recover};
-use redo_log::Log;
+use redo_log::{Log, LogFault};
 use std::alloc::Global;
+
+/// What becomes of the bytes of a record's blocks: they are read back from the log, or kept in
+/// memory, of so many records at most.
+#[derive(Clone, Copy)]
+pub(crate) enum Keeping {
+    ReadBack,
+    Kept(u8),
+}
 
 // What a store has but for its medium.
 #[derive(Drop)]
@@ -30,31 +38,36 @@ struct Parts {
 
 impl Parts {
     // Recovers a medium, and makes what a store on it keeps in memory.
-    fn recovered<M: Medium>(alloc: Global, medium: &mut M) -> Result<Parts, StartFault>
-        ensures ok { IfOk result (λ parts. MakesParts (M.state medium.old) (M.state medium.new)
-            parts.sizes
+    fn recovered<M: Medium>(
+        alloc: Global,
+        medium: &mut M,
+        keeping: Keeping,
+    ) -> Result<Parts, StartFault>
+        requires { KeepsSome keeping }
+        ensures ok { IfOk result (λ parts. MakesParts keeping (M.state medium.old)
+            (M.state medium.new) parts.sizes
             (record { log = parts.log; active = parts.active; frozen = parts.frozen })) }
         ensures refused { IfErr result
             (RefusesStart M.state M.follows medium.old medium.new) }
         ensures leaves { LeavesMedium M.state M.follows medium.old medium.new }
     {
         let recovered = recover(medium)?;
-        Parts::new(alloc, &recovered)
+        Parts::new(alloc, &recovered, keeping)
     }
 
     // A log without records and two empty batches. No other call takes memory.
-    fn new(alloc: Global, recovered: &Recovered) -> Result<Parts, StartFault>
-        requires least { 1 ≤ recovered.now.next }
-        requires most { recovered.now.next < 2 ^ 63 }
+    fn new(alloc: Global, recovered: &Recovered, keeping: Keeping) -> Result<Parts, StartFault>
+        requires stamp { (1 ≤ recovered.now.next) × (recovered.now.next < 2 ^ 63) }
+        requires some { KeepsSome keeping }
         ensures ok { IfOk result (λ parts. parts ≡ record {
           sizes = recovered.now.sizes;
-          log = idle_from (shape_of recovered.now.sizes) recovered.now.next;
+          log = started_log keeping (shape_of recovered.now.sizes) recovered.now.next;
           active = record { room = limit_of recovered.now.sizes.format; numbers = []; bytes = [] };
           frozen = record { room = limit_of recovered.now.sizes.format; numbers = []; bytes = [] };
         }) }
         ensures err { IfErr result (λ fault. fault ≡ StartFault.NoMemory) }
     {
-        let Ok(log) = Log::idle(alloc, &recovered.sizes, recovered.next) else {
+        let Ok(log) = log_of(alloc, recovered, keeping) else {
             return Err(StartFault::NoMemory);
         };
         let limit = recovered.sizes.format.limit() as usize;
@@ -70,6 +83,21 @@ impl Parts {
             active,
             frozen,
         })
+    }
+}
+
+// A log without records on a recovered medium.
+fn log_of(alloc: Global, recovered: &Recovered, keeping: Keeping) -> Result<Log, LogFault>
+    requires stamp { (1 ≤ recovered.now.next) × (recovered.now.next < 2 ^ 63) }
+    requires some { KeepsSome keeping }
+    ensures { IfOk result (λ log.
+        log ≡ started_log keeping (shape_of recovered.now.sizes) recovered.now.next) }
+{
+    match keeping {
+        Keeping::ReadBack => Log::idle(alloc, &recovered.sizes, recovered.next),
+        Keeping::Kept(most) => {
+            Log::keeping(alloc, &recovered.sizes, recovered.next, most as u64)
+        }
     }
 }
 
@@ -100,8 +128,22 @@ impl<M: Medium> Store<M> {
             (λ store. LeavesMedium M.state M.follows medium store.medium)
             (λ error. LeavesMedium M.state M.follows medium error.medium) }
     {
+        Store::started(alloc, medium, Keeping::ReadBack)
+    }
+
+    // Starts a store that does not go ahead.
+    fn started(alloc: Global, medium: M, keeping: Keeping) -> Result<Store<M>, StartError<M>>
+        requires { KeepsSome keeping }
+        ensures ok { IfOk result (λ store. IsStartedBy keeping (M.state medium)
+            (M.state store.medium) store.cached) }
+        ensures policy { IfOk result (λ store. store.goes_ahead ≡ false) }
+        ensures leaves { IfOk result (λ store.
+            LeavesMedium M.state M.follows medium store.medium) }
+        ensures refused { IfErr result (λ error.
+            RefusesStart M.state M.follows medium error.medium error.fault) }
+    {
         let mut medium = medium;
-        match Parts::recovered(alloc, &mut medium) {
+        match Parts::recovered(alloc, &mut medium, keeping) {
             Ok(parts) => Ok(Store {
                 medium,
                 sizes: parts.sizes,
@@ -132,14 +174,36 @@ impl<M: Medium> Store<M> {
             Ok(store) => store,
             Err(error) => return Err(error),
         };
-        store.goes_ahead = may_go_ahead(&store.sizes);
+        store.goes_ahead = may_go_by(&store.sizes, store.sizes.slots);
+        Ok(store)
+    }
+
+    /// Starts a store as `start_ahead` does, but one that keeps the bytes of the blocks of its
+    /// records in memory, and never reads its log back. At most `kept` records stand in its log at
+    /// once, and no more than it has slots; it goes ahead where these are three, in format 2. The
+    /// memory for their blocks is taken here too.
+    ///
+    /// # Errors
+    ///
+    /// Those of `start`.
+    pub fn start_keeping(alloc: Global, medium: M, kept: u8) -> Result<Store<M>, StartError<M>>
+        requires { 1 ≤ kept }
+        ensures { MatchResult result
+            (λ store. StartsKeeping M.state M.follows kept medium store)
+            (λ error. RefusesStart M.state M.follows medium error.medium error.fault) }
+    {
+        let mut store = match Store::started(alloc, medium, Keeping::Kept(kept)) {
+            Ok(store) => store,
+            Err(error) => return Err(error),
+        };
+        store.goes_ahead = may_go_by(&store.sizes, (kept as u64).min(store.sizes.slots));
         Ok(store)
     }
 }
 
-// Whether a store of a log with these sizes may go ahead.
-fn may_go_ahead(sizes: &Super) -> bool
-    ensures { result ≡ may_go_ahead (shape_of sizes.now) }
+// Whether a store of a log with these sizes, in which so many records may stand, may go ahead.
+fn may_go_by(sizes: &Super, ring: u64) -> bool
+    ensures { result ≡ may_go_by sizes.now.format ring }
 {
-    sizes.format.flushes() == 1 && 3 <= sizes.slots
+    sizes.format.flushes() == 1 && 3 <= ring
 }

@@ -24,14 +24,14 @@ returns-clause-ok g c =
     let found = c.in_ok-recovered.ensures.ok in
     let size = c.recover.ensures.leaves.moments.size_stays in
     let fits : sectors_of (shape_of sizes) ≤ after.size = omega (arith, found.stood.fits, size) in
-    let made : MakesParts before after sizes (started (shape_of sizes) recovered.next) = record {
-      started = starts before after recovered found (g.met.M.Medium.sound c.args.medium.now) (g.met.M.Medium.sound c.recover.new.m) size
-          c.in_ok-recovered.ensures.fresh;
+    let made : MakesParts c.args.keeping before after sizes (started c.args.keeping (shape_of sizes) recovered.next) = record {
+      started = starts c.args.keeping before after recovered found (g.met.M.Medium.sound c.args.medium.now)
+          (g.met.M.Medium.sound c.recover.new.m) size c.in_ok-recovered.ensures.fresh;
       kept = grind (arith, fits);
     } in
     IfOk-weaker c.new.result _ _
-    (λ parts is. subst (λ p. MakesParts before after p.sizes (record { log = p.log; active = p.active; frozen = p.frozen })) (sym is) made)
-    c.new.ensures.ok
+    (λ parts is. subst (λ p. MakesParts c.args.keeping before after p.sizes
+    (record { log = p.log; active = p.active; frozen = p.frozen })) (sym is) made) c.new.ensures.ok
 
 pub returns-clause-refused : goal.returns-clause-refused
 returns-clause-refused g c = IfErr-weaker c.new.result _ _ (λ fault is. rw is (record {

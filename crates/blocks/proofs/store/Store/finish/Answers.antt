@@ -25,7 +25,7 @@ returns-then-self g c =
     let some : 0 < old.log.steps_left = rw (← c.self.view_is) begins in
     let listed : 0 < length old.frozen.numbers = rw (← c.self.view_is) (c.self.invariant.some begins) in
     let few : old.log.steps_left ≤ most_steps old.log.shape.format = rw (← c.self.view_is) c.self.invariant.few_steps in
-    let finishing = finishes_under_way c.args.self.now.goes_ahead old.frozen.numbers (firsts_in old.frozen) old.log some in
+    let finishing = finishes_under_way c.args.self.now.goes_ahead old.frozen.numbers (firsts_in old.frozen) old.frozen.bytes old.log some in
     grind (arith, live, some, listed, few, finishing, c.write_out.ensures)
 
 -- there is nothing to write
@@ -90,7 +90,7 @@ returns g c =
     let room = c.in_ok-make_ready.ensures in
     let begins = c.begin.ensures in
     let wrote = c.write_out-2.ensures in
-    let first : c.begin.new.self.cached.log ≡ begun numbers (firsts_in old.frozen) c.make_ready.new.self.cached.log =
+    let first : c.begin.new.self.cached.log ≡ begun numbers (firsts_in old.frozen) old.frozen.bytes c.make_ready.new.self.cached.log =
     rw (← ready.room.frozen) (begins.begins.live c.in_ok-begin.ensures.answer).1 in
     let shape = ready.passes.turn.goes_on.layout_stays in
     let quiet = ap (λ m. sent (g.M.Medium.state m)) begins.keeps.medium in
@@ -101,18 +101,18 @@ returns g c =
     let few : c.begin.new.self.cached.log.steps_left ≤ most_steps old.log.shape.format =
     rw (first, shape) (few_steps_for old.log.shape.format (length numbers) within) in
     let finishes : OnOk c.write_out-2.result (c.write_out-2.new.self.cached.log ≡ finished ahead old.frozen old.log) =
-    on_ok_weaker c.write_out-2.result (λ written.
-    made_finished ahead numbers (firsts_in old.frozen) old.log _ _ idle some room.room.made (rw first at written)) wrote.batch.written in
+    on_ok_weaker c.write_out-2.result (λ written. made_finished ahead numbers (firsts_in old.frozen) old.frozen.bytes old.log _ _ idle some
+    room.room.made (rw first at written)) wrote.batch.written in
     let fill = λ (on : ahead ≡ true) (filling : IsFilling old.log).
-    fills numbers (firsts_in old.frozen) old.log filling (room.blocks on) some in
+    fills numbers (firsts_in old.frozen) old.frozen.bytes old.log filling (room.blocks on) some in
     let stay = λ (on : ahead ≡ true) (steady : IsSteady old.log).
-    stays_on numbers (firsts_in old.frozen) old.log steady (room.blocks on) in
+    stays_on numbers (firsts_in old.frozen) old.frozen.bytes old.log steady (room.blocks on) in
     let kept = kept_paid {Follows = g.M.Medium.follows} {sends = 0} g.met.M.Medium.follows_itself begins.keeps
     (λ lives. omega (arith, begins.begins.falls lives)) in
     record {
       passes = paid_then {last = c.begin.new.self.cached.log.steps_left} g.met.M.Medium.follows_through ready.passes room.answer
-          (paid_then g.met.M.Medium.follows_through kept c.in_ok-begin.ensures.answer wrote.passes (omega (arith, quiet, wrote.passes.sent)))
-          (omega (arith, ready.passes.sent, wrote.passes.sent, few, quiet));
+          (paid_then g.met.M.Medium.follows_through kept c.in_ok-begin.ensures.answer wrote.passes
+          (omega (arith, quiet, wrote.passes.sent))) (omega (arith, ready.passes.sent, wrote.passes.sent, few, quiet));
       batch = grind (arith, live, idle, some, wrote.answer, wrote.batch, begins.begins, room.room, finishes, fill, stay);
       cost = grind (arith, rw (first, shape) at wrote.exactly, calls, room.cost, finish_begun ahead numbers old.log idle some);
       flushes = grind (arith, rw (first, shape) at wrote.flushes, made, room.flushed, flushes_begun numbers old.log idle some);

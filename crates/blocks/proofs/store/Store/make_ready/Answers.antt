@@ -22,7 +22,7 @@ returns g c =
     let old = c.args.self.now.cached.log in
     let ahead : c.args.self.now.goes_ahead ≡ true = rw (← c.self.view_is) c.if-not-self.false in
     let under_way = c.self.invariant.none_under_way (rw (← c.self.view_is) at c.requires.live) (rw (← c.self.view_is) at c.requires.idle) in
-    let full : old.next - old.head < old.shape.slots → ⊥ = λ (free : old.next - old.head < old.shape.slots).
+    let full : old.next - old.head < old.ring → ⊥ = λ (free : old.next - old.head < old.ring).
     grind (arith, c.self.view_is, under_way, c.requires.idle, c.has_room.ensures.room, c.if-has_room.false) in
     let blocks : All (λ numbers. 0 < length numbers) old.waiting = rw (← c.self.view_is) c.has_room.ensures.owes.blocks in
     grind (arith, ahead, c.make_room-2.ensures, full_is old full, blocks)

@@ -1,7 +1,6 @@
 use Rattle.std.proofs.Common.{◌≤◌, ◌<◌, ℕ, length, ◌∙◌, ap, sym, arith, rules}
 use Rattle.std.proofs.lemmas.Bool.{false≢true}
 use Rattle.medium.specs.Sent.{sent, SendsUpTo}
-use Rattle.journal.specs.Places.{Shape}
 use Rattle.redo_log.specs.Value.{HasRoom, sends_of_oldest, most_retire_sends}
 use Rattle.blocks.specs.{StoreValue.steps_left, Passing.PassesPaid}
 use Rattle.blocks.proofs.Room.{IsFull, retires_none, retires_more, retires_refused, retires_room}
@@ -33,7 +32,7 @@ is_full g c =
       under_way = rw (← c.self-in-loop-self.view_is) (c.self-in-loop-self.invariant.none_under_way live idle);
       idle = c.loop-self.invariant.idle;
       ring = rw (← c.self.view_is) c.self.invariant.ring;
-      slots = rw (← c.self.view_is) (omega (arith, ap (λ (s : Shape). s.slots) c.self.invariant.shape, c.self.inside.sizes.some_slots));
+      some = rw (← c.self.view_is) c.self.invariant.some_ring;
     }
 
 -- the log had no room

@@ -1,4 +1,4 @@
-use Rattle.std.proofs.{Common.arith, Common.refl, Common.rules, lemmas.Bool.Decides.nat_tests}
+use Rattle.std.proofs.{Common.arith, Common.refl, lemmas.Bool.Decides.nat_tests}
 use Rattle.blocks.specs.StoreValue.{Cached}
 use Rattle.blocks.proofs.LogTurns.{past_fewer, passes_head, past_stays, paid_turn, turn_kept}
 use Rattle.blocks.proofs.store.Store.pass_head.Goals as goal
@@ -20,5 +20,7 @@ returns g c =
           (grind (arith, nat_tests)) (grind (arith, nat_tests)) (past_fewer s c.head_ahead.new.self (λ none. (called.none none).1)));
       way = rw (← c.self.view_is) (passes_head (rw (← c.self.view_is) at c.requires.live) c.head_ahead.result called
           (rw (← c.self.view_is) at c.requires.idle));
-      answer = search rules;
+      answer =
+          let stays = past_stays _ _ c.is_retired.ensures.owes (λ none. (called.none none).1) in
+          grind (arith, c.match-head_ahead.branch, called.answers, stays, c.requires.live, c.self.view_is);
     }

@@ -1,5 +1,5 @@
 use Rattle.std.proofs.Common.{refl, arith, rules}
-use Rattle.blocks.proofs.ReadCalls.{copy_keeps, newest_is, reads_newest, reads_one}
+use Rattle.blocks.proofs.ReadCalls.{copy_keeps, newest_is, reads_newest, reads_copied, logged_newest}
 use Rattle.blocks.proofs.SectorsRead.{none_read}
 use Rattle.blocks.proofs.store.Store.read_block.Goals as goal
 
@@ -22,8 +22,9 @@ returns g c =
     let none = rw (← c.self.view_is) at (c.in_default.ensures.gets.none refl) in
     let copy = c.read_copy.ensures in
     record {
-      reads = rw (← c.self.view_is, c.told.ensures) (reads_one c.read_copy.result copy.passes (omega (arith, readable.inside)) none
-          (copy_keeps copy.keeps) (λ book fits. copy.ok fits.view c.args.block fits.holds (search rules)));
+      reads = rw (← c.self.view_is, c.told.ensures) (reads_copied c.read_copy.result copy.passes (omega (arith, readable.inside)) none
+          (search (rules, logged_newest)) (copy_keeps copy.keeps)
+          (λ book fits. copy.ok fits.view c.args.block fits.holds (search rules)));
       next = c.in_default.ensures.next;
     }
 

@@ -66,8 +66,8 @@ returns-clause-batches g c =
       fills = grind (arith, first.rests, last.fills);
       stays = λ on steady. last.stays on (first.stays on steady);
       headroom =
-          let one = headroom_finished old.frozen.numbers (firsts_in old.frozen) old.log in
-          let both = headroom_finished old.active.numbers (firsts_in old.active) (finished true old.frozen old.log) in
+          let one = headroom_finished old.frozen.numbers (firsts_in old.frozen) old.frozen.bytes old.log in
+          let both = headroom_finished old.active.numbers (firsts_in old.active) old.active.bytes (finished true old.frozen old.log) in
           grind (arith, finishes, last.answers.answer, one, both);
     }
 
@@ -83,8 +83,8 @@ returns-clause-cost g c =
     let first = c.in_ok-finish.ensures in
     let cost = rw (froze g c, c.finish.ensures.batch.active, c.finish.ensures.passes.policy) at c.finish-2.ensures.cost in
     let flushed = rw (froze g c, c.finish.ensures.batch.active) at c.finish-2.ensures.flushes in
-    let same = calls_of ahead frozen active (firsts_in old.frozen) old.log _ first.batch.finishes in
-    let silent = flushes_of ahead frozen active (firsts_in old.frozen) old.log _ first.batch.finishes in
+    let same = calls_of ahead frozen active (firsts_in old.frozen) old.frozen.bytes old.log _ first.batch.finishes in
+    let silent = flushes_of ahead frozen active (firsts_in old.frozen) old.frozen.bytes old.log _ first.batch.finishes in
     let calls : OnOk c.finish-2.result ((g.M.Medium.state c.finish-2.new.self.medium).calls
     ≡ (g.M.Medium.state c.args.self.now.medium).calls + both_calls ahead frozen active old.log) =
     grind (arith, cost, same, first.cost) in

@@ -36,10 +36,10 @@ returns g c =
       passes = paid_written c.finish.ensures.passes done.answers.answer keeps;
       answers = search rules;
       quiet = λ empty. grind (arith, c.finish.ensures.batch, keeps.medium, empty);
-      batches = grind (arith, batch, done, headroom_finished old.frozen.numbers firsts old.log);
+      batches = grind (arith, batch, done, headroom_finished old.frozen.numbers firsts old.frozen.bytes old.log);
       cost =
           let each = λ (head : HasHeadroom old.log). one_each old.frozen.numbers old.log head done.some in
-          let records = λ (head : HasHeadroom old.log). one_durable old.frozen.numbers firsts old.log head done.some in
+          let records = λ (head : HasHeadroom old.log). one_durable old.frozen.numbers firsts old.frozen.bytes old.log head done.some in
           let one_batch = rw (← keeps.medium) at c.finish.ensures.one_batch in
           grind (arith, c.in_ok-finish.ensures, batch, done, flushes, each, records, one_batch);
     }
