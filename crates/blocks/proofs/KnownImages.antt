@@ -198,7 +198,8 @@ module _ (keeping : Keeping) (before after : State) (answer : Recovered) (from :
   rests ours premise =
       empty_holds (shape_of answer.sizes) answer.next (ring_by keeping answer.sizes.slots) (keeps_by keeping) from.array ours after
       (omega (arith, from.stood.fits, size_stays)) (found_home before after answer from)
-      (λ is image cut. fresh_log (shape_of answer.sizes) from.array answer.next image (fresh (shape_of answer.sizes) from.array answer.next (was_ours (premise is)) image cut))
+      (λ is image cut. fresh_log (shape_of answer.sizes) from.array answer.next image
+      (fresh (shape_of answer.sizes) from.array answer.next (was_ours (premise is)) image cut))
 
   abbrev fits : (ours : Bool) → (ours ≡ true → EachCut (IsOursForSome before.size) before)
       → FitsBook after (started keeping (shape_of answer.sizes) answer.next) (opened answer.sizes.blocks from.array answer.next ours)

@@ -20,7 +20,7 @@ pub record PassesOn {M : Type 0} (state : M → State) (Follows : M → M → Ty
   pub none_refused : is_dead new.cached ≡ false
       → (state new.medium).failures ≡ (state old.medium).failures
   pub follows : Follows old.medium new.medium
-  -- no sector at home is read
+  -- no sector at home is read, and none of a log that keeps its blocks
   pub looks : LooksAtLog (state old.medium) (state new.medium) old.cached
   pub policy : new.goes_ahead ≡ old.goes_ahead
 
@@ -53,7 +53,7 @@ TellsLife result s =
 
 -- A call writes nothing: what the store keeps stays, no content changes, and nothing else may be
 -- left by a cut. The medium comes after what it was, by calls alone, of which each read names a
--- sector of the log, or the home of one of count blocks from an address on.
+-- sector of the log where that is read back, or the home of one of count blocks from an address on.
 pub record KeepsStore {M : Type 0} (state : M → State) (Follows : M → M → Type 0)
     (address count : ℕ) (old new : StoreValue M) : Type 0 where
   pub stays : new.cached ≡ old.cached

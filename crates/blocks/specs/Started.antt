@@ -16,7 +16,8 @@ use Rattle.redo_log.specs.Value.{LogValue, empty_from}
 use Rattle.blocks.specs.declared.start.Keeping.{Keeping}
 use Rattle.blocks.specs.declared.start.Keeping.TheVariants.{ReadBack, Kept}
 use Rattle.blocks.specs.{Ahead.may_go_ahead, Ahead.may_go_by, Headroom.HasHeadroom}
-use Rattle.blocks.specs.{Steady.IsFilling, Steady.ReachesSteady, Finding.MayFind, Kept.Invariant, Opening.OpensOn}
+use Rattle.blocks.specs.{Steady.IsFilling, Steady.ReachesSteady, Finding.MayFind}
+use Rattle.blocks.specs.{Kept.Invariant, Opening.OpensOn}
 use Rattle.blocks.specs.StoreValue.{Cached, layout_of, blocks_of, is_dead, active_of, steps_left}
 use Rattle.blocks.specs.StoreValue.{FitsBook, StoreValue, slots_of}
 
