@@ -9,7 +9,7 @@ pub use Rattle.blocks.specs.Ahead.{oldest_retired}
 use Rattle.blocks.specs.Ahead.{ahead_room, ahead_room_calls}
 use Rattle.blocks.specs.StoreValue.{wants, waiting, firsts_in}
 
--- there is room for count records at least
+-- at least count slots are free, of as many as there may be records at once
 abbrev pub HasSlots : ℕ → LogValue → Type 0
 HasSlots count log = (log.next - log.head) + count ≤ log.ring
 
