@@ -1,4 +1,4 @@
-use Rattle.std.proofs.Common.{◌≡◌, ◌≤◌, ◌<◌, ◌+◌, ◌-◌, ◌==◌, ℕ, List, ◌++◌, refl, ap, sym, ◌∙◌, subst, length, drop, arith, lit<}
+use Rattle.std.proofs.Common.{◌≡◌, ◌≤◌, ◌<◌, ◌+◌, ◌-◌, ◌==◌, ℕ, List, [], ◌∷◌, ◌++◌, refl, ap, sym, ◌∙◌, subst, length, drop, arith, lit<}
 use Rattle.std.proofs.Common.{length-append, length-drop}
 use Rattle.std.specs.Prelude.{find}
 use Rattle.std.proofs.Math.ListN.{get_or-append}
@@ -137,17 +137,21 @@ read_capacity_16_past : (block more : List ℕ) → 16 ≤ length block
 read_capacity_16_past block more enough =
     rw (number_past 10 4 block more (omega arith)) refl
 
+-- a block that is long enough for its command is not empty
+has_some : (block : List ℕ) → command_size (byte_at 0 block) ≤ length block → 0 < length block
+has_some [] enough = absurd (omega (arith, enough))
+has_some (first ∷ rest) enough = omega arith
+
 -- bytes past the command do not matter
-pub past : (n limit : ℕ) (block more : List ℕ) → 0 < length block
-    → command_size (byte_at 0 block) ≤ length block
+pub past : (n limit : ℕ) (block more : List ℕ) → command_size (byte_at 0 block) ≤ length block
     → command_of n limit (block ++ more) ≡ command_of n limit block
 unfolding command_of
-past n limit block more some enough =
+past n limit block more enough =
     let code = byte_at 0 block in
     let whole = block ++ more in
     let size = sized code (length block) in
     ap (λ (k : ℕ). judged_by_row whole (find (λ (row : Row). row.code == k) (table n limit whole)))
-    (byte_past 0 block more some)
+    (byte_past 0 block more (has_some block enough))
     ∙ by_same_rows whole block code (table n limit whole) (table n limit block) (
       refl,
       (λ same. row_past block more test_unit_ready test_unit_ready refl (lit< tt)

@@ -1,5 +1,5 @@
 //! How a command descriptor block is decoded.
-ghost use Rattle.std.specs.Prelude.{◌≡◌, ◌<◌, ◌≤◌, ◌++◌, ℕ, List, IfErr, IfOk, length};
+ghost use Rattle.std.specs.Prelude.{◌≡◌, ◌≤◌, ◌++◌, ℕ, List, IfErr, IfOk, length};
 ghost use Rattle.spec.specs.declared.command.Command.{Command};
 ghost use Rattle.scsi_commands.specs.Supported.{IsRefusal, IsSupported, command_size};
 ghost use Rattle.spec.specs.Commands.{byte_at, command_of};
@@ -15,7 +15,7 @@ use spec::Command;
 /// The command in a command descriptor block, or the sense with which it is refused: for a medium
 /// of `n` blocks, and transfers of at most `limit` blocks.
 ///
-/// A block has 1 to 16 bytes. Those past the command's are ignored.
+/// Bytes past the command's are ignored, and no command is empty.
 ///
 /// # Errors
 ///
@@ -25,7 +25,6 @@ use spec::Command;
 /// length of a parameter list, 5/39/00 for saved mode pages, and 5/21/00 for blocks past the end of
 /// the medium.
 pub fn parse(block: &[u8], n: u64, limit: u32) -> Result<Command, Sense>
-    requires { 0 < length block.now }
     ensures value { result ≡ command_of n limit block.now }
 
     // An accepted command may be carried out as it stands, and a refusal is one of five.
@@ -38,16 +37,26 @@ pub fn parse(block: &[u8], n: u64, limit: u32) -> Result<Command, Sense>
     ensures past { (more : List ℕ) → command_size (byte_at 0 block.now) ≤ length block.now
         → command_of n limit (block.now ++ more) ≡ result }
 {
-    by_operation_code(block[0], block, n, limit)
+    by_operation_code(block, n, limit)
 }
 
-// The command by its operation code, which is the first byte of the block.
+/// The operation code of a command block: its first byte. In a block of no bytes it counts as 0,
+/// the code of a command that the block is too short for.
+pub fn operation_code(block: &[u8]) -> u8
+    ensures { result ≡ byte_at 0 block.now }
+{
+    match block.first() {
+        Some(&code) => code,
+        None => 0,
+    }
+}
+
+// The command by its operation code.
 #[tactic(auto, using(crate::proofs::Judged::judging), unfolding(spec::specs::Commands::command_of))]
-fn by_operation_code(code: u8, block: &[u8], n: u64, limit: u32) -> Result<Command, Sense>
-    requires { code ≡ byte_at 0 block.now }
+fn by_operation_code(block: &[u8], n: u64, limit: u32) -> Result<Command, Sense>
     ensures { result ≡ command_of n limit block.now }
 {
-    match code {
+    match operation_code(block) {
         0x00 => test_unit_ready(block),
         0x03 => request_sense(block),
         0x12 => inquiry(block),

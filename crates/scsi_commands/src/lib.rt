@@ -21,7 +21,7 @@ mod waiting;
 
 pub use caching::{mode_select, mode_sense};
 pub use codes::Sense;
-pub use decode::parse;
+pub use decode::{operation_code, parse};
 pub use identification::Identity;
 pub use laws::sense_codes;
 pub use spec::{BlockRange, Command, SenseKey, Transfer};

@@ -21,7 +21,7 @@ returns-clause-refusal c =
 
 pub returns-clause-past : goal.returns-clause-past
 returns-clause-past c =
-    λ more enough. past c.args.n c.args.limit c.args.block.now more c.requires enough
+    λ more enough. past c.args.n c.args.limit c.args.block.now more enough
     ∙ sym c.by_operation_code.ensures
 
 pub returns-clause-written : goal.returns-clause-written
