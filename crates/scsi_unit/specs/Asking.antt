@@ -8,11 +8,10 @@ use Rattle.spec.specs.declared.intent.Intent.TheVariants as intent
 use Rattle.spec.specs.Rules.{needs_medium, moves}
 use Rattle.scsi_unit.specs.UnitValue.{UnitValue, unit_limit, intention_of}
 
--- a command block, the bytes taken for it, as many as it intends to take, and room for those that
--- it intends to send
+-- the bytes taken for a command block, as many as it intends to take, and room for those that it
+-- intends to send
 pub record CanCarryOut {M : Type 0} (unit : UnitValue M) (block taken out : List ℕ)
     : Type 0 where
-  pub some : 0 < length block
   pub taken_all : (n : ℕ) → intention_of unit block ≡ intent.Out n → length taken ≡ n
   pub room : (n : ℕ) → intention_of unit block ≡ intent.In n → n ≤ length out
 

@@ -1,5 +1,5 @@
 //! The checks of a command, and what it is about to move.
-ghost use Rattle.std.specs.Prelude.{◌≡◌, ◌<◌, ◌≤◌, ◌*◌, ℕ, List, length, unwrap_or, IfOk};
+ghost use Rattle.std.specs.Prelude.{◌≡◌, ◌≤◌, ◌*◌, ℕ, List, unwrap_or, IfOk};
 ghost use Rattle.blocks.specs.StoreValue.{blocks_of, is_dead};
 ghost use Rattle.scsi_commands.specs.Supported.{IsSupported};
 ghost use Rattle.spec.specs.Inquiry.{inquiry_size};
@@ -10,7 +10,7 @@ ghost use Rattle.scsi_unit.specs.Serving.{command_for};
 
 use crate::{Intent, Unit};
 use medium::Medium;
-use scsi_commands::{Command, Identity, Sense, parse};
+use scsi_commands::{Command, Identity, Sense, operation_code, parse};
 
 /// The bytes of a logical block.
 pub const BLOCK: u32 = 512;
@@ -54,7 +54,6 @@ impl<M: Medium> Unit<M> {
     /// The command of a command block, or the sense with which it is refused.
     #[tactic(auto, unfolding(spec::specs::Rules::command_by))]
     pub(crate) fn command(&self, block: &[u8]) -> Result<Command, Sense>
-        requires { 0 < length block.now }
         ensures value { result ≡ command_for self.now block.now }
         ensures supported { IfOk result
             (IsSupported (blocks_of self.now.store.cached) (unit_limit self.now)) }
@@ -63,7 +62,7 @@ impl<M: Medium> Unit<M> {
     {
         // The store says here how many steps it has left at most.
         let _ = self.store.medium();
-        if self.kept.attention() && !passes_attention(block[0]) {
+        if self.kept.attention() && !passes_attention(operation_code(block)) {
             return Err(Sense::POWER_ON_OR_RESET_OCCURRED);
         }
         let command = parse(block, self.store.blocks(), self.store.limit())?;

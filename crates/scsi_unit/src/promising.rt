@@ -1,6 +1,6 @@
 //! Which commands promise: they are good only when all accepted writes are durable. And which ask
 //! the medium for no write and no flush.
-ghost use Rattle.std.specs.Prelude.{◌≡◌, ◌↔◌, ◌<◌, ◌≤◌, ◌+◌, IsTrue, length};
+ghost use Rattle.std.specs.Prelude.{◌≡◌, ◌↔◌, ◌≤◌, ◌+◌, IsTrue};
 ghost use Rattle.blocks.specs.StoreValue.{blocks_of};
 ghost use Rattle.spec.specs.Book.{Book};
 ghost use Rattle.spec.specs.Rules.{checked, forces_reading};
@@ -15,12 +15,11 @@ use medium::Medium;
 use scsi_commands::{Command, Transfer};
 
 impl<M: Medium> Unit<M> {
-    /// Whether a command block, of 1 to 16 bytes, is one that is good only when all accepted writes
-    /// are durable, if it were carried out now: a READ or WRITE of some blocks with FUA, a WRITE of
-    /// some blocks without the write cache, or SYNCHRONIZE CACHE. A MODE SELECT is one where the
-    /// write cache is enabled, since it may disable it. One that is refused is none.
+    /// Whether a command block is one that is good only when all accepted writes are durable, if it
+    /// were carried out now: a READ or WRITE of some blocks with FUA, a WRITE of some blocks
+    /// without the write cache, or SYNCHRONIZE CACHE. A MODE SELECT is one where the write cache is
+    /// enabled, since it may disable it. One that is refused is none.
     pub fn promises(&self, block: &[u8]) -> bool
-        requires { 0 < length block.now }
         ensures is { result ≡ promises_for (command_for self.now block.now) self.now.write_cache }
         ensures by_book { (book : Book) → IsOfSize self.now book
             → result ≡ promises_for (checked (state_of self.now book) block.now)
@@ -32,11 +31,10 @@ impl<M: Medium> Unit<M> {
         }
     }
 
-    /// Whether a command block, of 1 to 16 bytes, would be carried out by reads of the medium
-    /// alone: a WRITE that promises nothing and is taken at once, or another command that promises
-    /// nothing or finds no record left to write. So is one that is refused.
+    /// Whether a command block would be carried out by reads of the medium alone: a WRITE that
+    /// promises nothing and is taken at once, or another command that promises nothing or finds no
+    /// record left to write. So is one that is refused.
     pub fn is_quiet(&self, block: &[u8]) -> bool
-        requires { 0 < length block.now }
         ensures is { IsTrue result ↔ IsQuietFor (command_for self.now block.now)
             self.now.write_cache self.now.store.cached }
         ensures by_book { (book : Book) → IsOfSize self.now book

@@ -1,5 +1,5 @@
 //! Which home sectors a command reads.
-ghost use Rattle.std.specs.Prelude.{◌≡◌, ◌<◌, ◌≤◌, length, IfSome};
+ghost use Rattle.std.specs.Prelude.{◌≡◌, IfSome};
 ghost use Rattle.scsi_unit.specs.UnitValue.{unit_limit};
 ghost use Rattle.scsi_unit.specs.Serving.{command_for};
 ghost use Rattle.scsi_unit.specs.Reading.{first_home_of, home_sectors_of, read_of, AreHome};
@@ -19,7 +19,6 @@ impl<M: Medium> Unit<M> {
     /// The home sectors of the blocks that a command block would read, if it were carried out now:
     /// those of a READ of some blocks that passes all checks, and none else.
     pub fn home_sectors(&self, block: &[u8]) -> Option<HomeSectors>
-        requires { 0 < length block.now }
         ensures is { result ≡ home_sectors_of (first_home_of self.now)
             (read_of (command_for self.now block.now)) }
         ensures bounds { IfSome result (λ wanted. AreHome (unit_limit self.now)

@@ -7,7 +7,7 @@ ghost use Rattle.medium.specs.Moments.{EachCut, IsUnchanged};
 ghost use Rattle.spec.specs.Book.{Book};
 ghost use Rattle.blocks.specs.Finding.{MayFind};
 ghost use Rattle.blocks.specs.Settled.{IsSettled};
-ghost use Rattle.blocks.specs.StoreValue.{is_dead, steps_left, HasLimits, FitsBook};
+ghost use Rattle.blocks.specs.StoreValue.{is_dead, steps_left, HasLimits};
 ghost use Rattle.spec.specs.Rules.{opened_unit, intention};
 ghost use Rattle.scsi_unit.specs.UnitValue.{unit_limit, state_of, intention_of, answer_of};
 ghost use Rattle.scsi_unit.specs.UnitValue.{FitsUnit, TellsLimit, ArmsUnit};
@@ -17,7 +17,7 @@ ghost use Rattle.blocks.specs.Prepared.{TellsWork};
 ghost use Rattle.blocks.specs.Written.{IsWritten};
 ghost use Rattle.blocks.specs.declared.work.Work.TheVariants.{Settle};
 ghost use Rattle.scsi_unit.specs.Asking.{CanCarryOut};
-ghost use Rattle.scsi_unit.specs.Serving.{Serves, IsSparing, TicksOver, WorksUnit};
+ghost use Rattle.scsi_unit.specs.Serving.{Serves, IsSparing, WorksUnit};
 ghost use Rattle.scsi_unit.specs.Calls.{PassesOn};
 ghost use Rattle.scsi_unit.specs.Performing.{settled_kept};
 
@@ -65,11 +65,10 @@ impl<M: Medium> Unit<M> {
         self.store.limit()
     }
 
-    /// What a command block is about to move: 1 to 16 bytes, of which those past the command are
-    /// ignored. At most `limit` blocks are moved.
+    /// What a command block is about to move. Bytes past the command are ignored, and at most
+    /// `limit` blocks are moved.
     #[tactic(auto, unfolding(spec::specs::Rules::intention_by))]
     pub fn intend(&self, block: &[u8]) -> Intent
-        requires { 0 < length block.now }
         ensures intention { result ≡ intention_of self.now block.now }
         ensures by_book { (book : Book) → FitsUnit (M.state self.now.store.medium) self.now book
             → result ≡ intention (state_of self.now book) block.now }
@@ -82,10 +81,10 @@ impl<M: Medium> Unit<M> {
         }
     }
 
-    /// Carries out a command block, of 1 to 16 bytes, over the data taken for it, and writes the
-    /// data to send to the front of `out`. The answer is the number of these bytes. Where the block
-    /// intends to take data, `taken` has as many bytes; else it is ignored. Where it intends to
-    /// send data, `out` has room for as many bytes; else nothing is sent, and `out` may be empty.
+    /// Carries out a command block over the data taken for it, and writes the data to send to the
+    /// front of `out`. The answer is the number of these bytes. Where the block intends to take
+    /// data, `taken` has as many bytes; else it is ignored. Where it intends to send data, `out`
+    /// has room for as many bytes; else nothing is sent, and `out` may be empty.
     ///
     /// # Errors
     ///
@@ -109,9 +108,7 @@ impl<M: Medium> Unit<M> {
     /// Where it faults the unit, no command fails with a write error: those that need the medium
     /// fail from then on with an internal target failure.
     pub fn tick(&mut self)
-        ensures ticks { TicksOver Settle (M.state self.old.store.medium)
-            (M.state self.new.store.medium) self.old self.new }
-        ensures follows { M.follows self.old.store.medium self.new.store.medium }
+        ensures { WorksUnit Settle M.state M.follows self.old self.new }
     {
         self.work(Work::Settle);
     }
