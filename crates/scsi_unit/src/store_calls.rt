@@ -1,6 +1,6 @@
 //! The calls of the store that the unit makes.
 ghost use Rattle.std.specs.Prelude.{◌≡◌, ◌≤◌, ◌*◌, false, length};
-ghost use Rattle.blocks.specs.StoreValue.{transfer_limit, is_dead};
+ghost use Rattle.blocks.specs.StoreValue.{is_dead};
 ghost use Rattle.scsi_unit.specs.Asking.{CanTransfer};
 ghost use Rattle.scsi_unit.specs.StoreCalls.{MakesDurable, ReadsBlocks, WritesBlocks, StepsBehind};
 
@@ -9,8 +9,8 @@ use blocks::{Store, Work};
 use medium::Medium;
 use scsi_commands::{Sense, Transfer};
 
-/// Makes all accepted writes durable, where that is wanted.
-pub(crate) fn make_durable<M: Medium>(store: &mut Store<M>, wanted: bool) -> Result<(), Sense>
+/// Makes all accepted writes durable, where that is wanted. Else nothing is done.
+pub(crate) fn synchronize_if<M: Medium>(store: &mut Store<M>, wanted: bool) -> Result<(), Sense>
     requires live { is_dead store.old.cached ≡ false }
     ensures { MakesDurable M.follows wanted (M.state store.old.medium) (M.state store.new.medium)
         store.old store.new result }

@@ -14,7 +14,7 @@ ghost use Rattle.scsi_unit.specs.Reading.{some_read};
 ghost use Rattle.scsi_unit.specs.StoreCalls.{SendsRead};
 
 use crate::Unit;
-use crate::store_calls::{make_durable, read_blocks, write_blocks};
+use crate::store_calls::{read_blocks, synchronize_if, write_blocks};
 use medium::Medium;
 use scsi_commands::{Sense, Transfer, mode_select};
 
@@ -39,7 +39,7 @@ impl<M: Medium> Unit<M> {
         if transfer.count == 0 {
             return Ok(0);
         }
-        make_durable(&mut self.store, transfer.fua)?;
+        synchronize_if(&mut self.store, transfer.fua)?;
         read_blocks(&mut self.store, transfer, out)
     }
 
@@ -65,7 +65,7 @@ impl<M: Medium> Unit<M> {
         }
         write_blocks(&mut self.store, transfer, taken)?;
         let through = goes_through(transfer.fua, self.write_cache);
-        make_durable(&mut self.store, through)
+        synchronize_if(&mut self.store, through)
     }
 
     /// SYNCHRONIZE CACHE: all accepted writes are made durable.
@@ -82,7 +82,7 @@ impl<M: Medium> Unit<M> {
             (M.state self.new.store.medium) self.old }
         ensures follows { M.follows self.old.store.medium self.new.store.medium }
     {
-        make_durable(&mut self.store, true)
+        synchronize_if(&mut self.store, true)
     }
 
     /// MODE SELECT: WCE goes from 1 to 0 when all accepted writes are durable.
@@ -104,7 +104,7 @@ impl<M: Medium> Unit<M> {
     {
         let enabled = mode_select(&taken[..usize::from(list_len)], self.write_cache)?;
         let clears = is_disabled(self.write_cache, enabled);
-        make_durable(&mut self.store, clears)?;
+        synchronize_if(&mut self.store, clears)?;
         self.write_cache = enabled;
         Ok(())
     }

@@ -11,23 +11,23 @@ returns-then-transfer-eq0-clause-performs g c taken =
     let none = c.if-transfer-eq0.true in
     by_table (g.met.M.Medium.sound c.args.self.now.store.medium) refl refl refl (λ book fits. grind (arith, nat_tests, none))
 
-pub returns-in_err-make_durable-clause-performs : goal.returns-in_err-make_durable-clause-performs
-returns-in_err-make_durable-clause-performs g c taken =
+pub returns-in_err-synchronize_if-clause-performs : goal.returns-in_err-synchronize_if-clause-performs
+returns-in_err-synchronize_if-clause-performs g c taken =
     let p = err_from_is_err_and c.from_residual.result c.from_residual.ensures.1 in
-    let unwanted = c.in_err-make_durable.ensures.unwanted in
+    let unwanted = c.in_err-synchronize_if.ensures.unwanted in
     rw (p.1, p.2)
-    (dies_writing c.requires.live (command.Read10 c.args.transfer) c.in_err-make_durable.ensures refl
+    (dies_writing c.requires.live (command.Read10 c.args.transfer) c.in_err-synchronize_if.ensures refl
     (grind (arith, nat_tests, unwanted, c.if-transfer-eq0.false)))
 
 pub returns-clause-performs : goal.returns-clause-performs
 returns-clause-performs g c taken =
-    reads_blocks_of c.requires.live c.if-transfer-eq0.false c.read_blocks.result c.read_blocks.new.out c.in_ok-make_durable.ensures
+    reads_blocks_of c.requires.live c.if-transfer-eq0.false c.read_blocks.result c.read_blocks.new.out c.in_ok-synchronize_if.ensures
     c.read_blocks.ensures
 
-pub returns-in_err-make_durable-clause-bounded : goal.returns-in_err-make_durable-clause-bounded
-returns-in_err-make_durable-clause-bounded g c =
+pub returns-in_err-synchronize_if-clause-bounded : goal.returns-in_err-synchronize_if-clause-bounded
+returns-in_err-synchronize_if-clause-bounded g c =
     let some = c.if-transfer-eq0.false in
-    synced c.requires.live c.in_err-make_durable.ensures (λ plain. grind (arith, nat_tests, some, plain)) (grind (arith, nat_tests, some))
+    synced c.requires.live c.in_err-synchronize_if.ensures (λ plain. grind (arith, nat_tests, some, plain)) (grind (arith, nat_tests, some))
 
 pub returns-clause-bounded : goal.returns-clause-bounded
-returns-clause-bounded g c = read_on c.requires.live c.if-transfer-eq0.false c.in_ok-make_durable.ensures c.read_blocks.ensures
+returns-clause-bounded g c = read_on c.requires.live c.if-transfer-eq0.false c.in_ok-synchronize_if.ensures c.read_blocks.ensures

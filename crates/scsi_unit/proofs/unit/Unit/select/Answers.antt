@@ -13,28 +13,28 @@ returns-in_err-enabled-clause-performs g c =
     rw (p.1, p.2)
     (by_table (g.met.M.Medium.sound c.args.self.now.store.medium) refl refl refl (λ book fits. grind (arith, refused, c.from.ensures)))
 
-pub returns-in_err-make_durable-clause-performs : goal.returns-in_err-make_durable-clause-performs
-returns-in_err-make_durable-clause-performs g c =
-    let p = err_from_is_err_and c.from_residual-in_err-make_durable.result c.from_residual-in_err-make_durable.ensures.1 in
+pub returns-in_err-synchronize_if-clause-performs : goal.returns-in_err-synchronize_if-clause-performs
+returns-in_err-synchronize_if-clause-performs g c =
+    let p = err_from_is_err_and c.from_residual-in_err-synchronize_if.result c.from_residual-in_err-synchronize_if.ensures.1 in
     let chosen = sym c.mode_select.ensures.answer ∙ c.in_ok-enabled.was in
-    let unwanted = c.in_err-make_durable.ensures.unwanted in
+    let unwanted = c.in_err-synchronize_if.ensures.unwanted in
     rw (p.1, p.2)
-    (dies_writing c.requires.live (command.ModeSelect c.args.list_len) c.in_err-make_durable.ensures refl
+    (dies_writing c.requires.live (command.ModeSelect c.args.list_len) c.in_err-synchronize_if.ensures refl
     (grind (arith, nat_tests, unwanted, chosen, c.from.ensures, c.is_disabled-clears.ensures)))
 
 pub returns-clause-performs : goal.returns-clause-performs
 returns-clause-performs g c =
     let chosen = sym c.mode_select.ensures.answer ∙ c.in_ok-enabled.was in
-    selects_bit c.requires.live (rw c.is_disabled-clears.ensures at c.in_ok-make_durable.ensures) (grind (arith, chosen, c.from.ensures))
+    selects_bit c.requires.live (rw c.is_disabled-clears.ensures at c.in_ok-synchronize_if.ensures) (grind (arith, chosen, c.from.ensures))
 
-pub returns-in_err-make_durable-clause-bounded : goal.returns-in_err-make_durable-clause-bounded
-returns-in_err-make_durable-clause-bounded g c =
+pub returns-in_err-synchronize_if-clause-bounded : goal.returns-in_err-synchronize_if-clause-bounded
+returns-in_err-synchronize_if-clause-bounded g c =
     let chosen = sym c.mode_select.ensures.answer ∙ c.in_ok-enabled.was in
     let clears = c.is_disabled-clears.ensures in
-    synced c.requires.live c.make_durable.ensures (λ plain. grind (arith, clears, plain)) (grind (arith, chosen, c.from.ensures, clears))
+    synced c.requires.live c.synchronize_if.ensures (λ plain. grind (arith, clears, plain)) (grind (arith, chosen, c.from.ensures, clears))
 
 pub returns-clause-bounded : goal.returns-clause-bounded
 returns-clause-bounded g c =
     let chosen = sym c.mode_select.ensures.answer ∙ c.in_ok-enabled.was in
     let clears = c.is_disabled-clears.ensures in
-    synced c.requires.live c.make_durable.ensures (λ plain. grind (arith, clears, plain)) (grind (arith, chosen, c.from.ensures, clears))
+    synced c.requires.live c.synchronize_if.ensures (λ plain. grind (arith, clears, plain)) (grind (arith, chosen, c.from.ensures, clears))

@@ -20,8 +20,8 @@ returns-in_err-write_blocks-clause-performs g c =
 
 pub returns-clause-performs : goal.returns-clause-performs
 returns-clause-performs g c =
-    writes_blocks c.requires.live c.if-transfer-eq0.false c.in_ok-write_blocks.ensures c.make_durable.result
-    (rw c.goes_through-through.ensures at c.make_durable.ensures)
+    writes_blocks c.requires.live c.if-transfer-eq0.false c.in_ok-write_blocks.ensures c.synchronize_if.result
+    (rw c.goes_through-through.ensures at c.synchronize_if.ensures)
 
 pub returns-in_err-write_blocks-clause-bounded : goal.returns-in_err-write_blocks-clause-bounded
 returns-in_err-write_blocks-clause-bounded g c = write_stops c.if-transfer-eq0.false c.in_err-write_blocks.ensures
@@ -29,8 +29,8 @@ returns-in_err-write_blocks-clause-bounded g c = write_stops c.if-transfer-eq0.f
 pub returns-clause-bounded : goal.returns-clause-bounded
 returns-clause-bounded g c =
     write_on c.requires.live c.if-transfer-eq0.false c.in_ok-write_blocks.ensures
-    (rw c.goes_through-through.ensures at c.make_durable.ensures) c.requires.within.few
+    (rw c.goes_through-through.ensures at c.synchronize_if.ensures) c.requires.within.few
 
 pub returns-clause-spares : goal.returns-clause-spares
 returns-clause-spares g c =
-    spares_writing c.in_ok-write_blocks.ensures (rw c.goes_through-through.ensures at c.make_durable.ensures) c.if-transfer-eq0.false
+    spares_writing c.in_ok-write_blocks.ensures (rw c.goes_through-through.ensures at c.synchronize_if.ensures) c.if-transfer-eq0.false
