@@ -1,6 +1,6 @@
 -- What an event has the unit do: carry out a command, or make a step in the background.
 use Rattle.spec.specs.declared.event.Event.TheVariants as event
-use Rattle.std.specs.Prelude.{◌≡◌, ⊤, ◌<◌, ◌≤◌, ℕ, Bool, true, false, List, [], ◌++◌, length, take}
+use Rattle.std.specs.Prelude.{◌≡◌, ⊤, ◌≤◌, ℕ, Bool, true, false, List, [], ◌++◌, length, take}
 use Rattle.spec.specs.declared.wrapper.Cbw.{Cbw}
 use Rattle.spec.specs.declared.way.Way.{Way}
 use Rattle.spec.specs.declared.case.Case.{Case}
@@ -59,9 +59,8 @@ EventCarriesOut s event.Tick block taken = ⊥
 abbrev pub CarriesOutNone : (List ℕ → List ℕ → Type 0) → Type 0
 CarriesOutNone CarriedOut = (block taken : List ℕ) → CarriedOut block taken → ⊥
 
--- this command block, of some bytes, is carried out, and no other
+-- this command block is carried out, and no other
 pub record CarriesOutOnly (CarriedOut : List ℕ → List ℕ → Type 0) (block : List ℕ) : Type 0 where
-  pub some_block : 0 < length block
   pub taken : List ℕ
   pub carried_out : CarriedOut block taken
   pub only : (other bytes : List ℕ) → CarriedOut other bytes → other ≡ block
@@ -71,10 +70,10 @@ abbrev pub RunsNone : {M : Type 0} → UnitValue M → (Book → List ℕ → Li
 RunsNone unit CarriedOut =
     (book : Book) → IsOfSize unit book → CarriesOutNone (CarriedOut book)
 
-pub record RunsOne {M : Type 0} (unit : UnitValue M) (CarriedOut : Book → List ℕ → List ℕ → Type 0)
-    (block : List ℕ) : Type 0 where
-  pub some_block : 0 < length block
-  pub alone : (book : Book) → IsOfSize unit book → CarriesOutOnly (CarriedOut book) block
+abbrev pub RunsOne : {M : Type 0} → UnitValue M → (Book → List ℕ → List ℕ → Type 0) → List ℕ
+    → Type 0
+RunsOne unit CarriedOut block =
+    (book : Book) → IsOfSize unit book → CarriesOutOnly (CarriedOut book) block
 
 -- an event has the unit do something
 abbrev pub Acts : Conversation UnitState → Event → Type 0

@@ -199,7 +199,8 @@ IsRearmed old new = new ≡ record old {
   };
 }
 
--- the medium is armed so: nothing else of the disk changes, and it fits what it fitted before
+-- the medium is armed so, or lets go of a call: nothing else of the disk changes, and it fits what
+-- it fitted before
 pub record ArmsDisk {M : Type 0} (state : M → State) (Arms : M → M → Type 0)
     (old new : DiskValue M) : Type 0 where
   pub armed : Arms old.unit.store.medium new.unit.store.medium

@@ -93,13 +93,18 @@ pub record AwaitsEvents (lives : LivesValue) (events : List Event) (answers : Ro
   pub within : AreWithin lives.device.packet_size events
   pub room : length answers.list + length events ≤ answers.room
 
--- Lives may be lived: the power is on, nothing is unflushed and no fuse is armed, no packet has
--- more bytes than this, and the answers have room.
-pub record AwaitsLives (most : ℕ) (medium : Sim) (lives : List Life) (answers : Room) : Type 0 where
+-- Lives may be lived on a medium: the power is on, nothing is unflushed and no fuse is armed, and
+-- each event has room for its answer.
+pub record AwaitsLives (medium : Sim) (lives : List Life) (answers : Room) : Type 0 where
   pub rests : IsAtRest medium
   pub unfused : medium.power.fuse ≡ None
-  pub within : LivesAreWithin most lives
   pub room : length answers.list + events_in lives ≤ answers.room
+
+-- so may lives of which no packet has more bytes than this
+pub record AwaitsLivesWithin (most : ℕ) (medium : Sim) (lives : List Life) (answers : Room)
+    : Type 0 where
+  pub awaits : AwaitsLives medium lives answers
+  pub within : LivesAreWithin most lives
 
 -- lives went on by these actions, and the answers to `events` events were appended
 pub record AppendsFor (before after : LivesValue) (old new : Room) (actions : List Action)

@@ -30,7 +30,7 @@ use Rattle.bot_machine.specs.Fitting.{IsWithin}
 use Rattle.bot_machine.specs.Disk.{DiskValue, over, FitsDisk}
 use Rattle.bot_machine.specs.Opening.{IsNotOpened}
 use Rattle.spec.specs.Lives.{Action, Place, before_first, between, runs, off, Standing, Opens, arms}
-use Rattle.spec.specs.Lives.{fails, starts, LivesRun}
+use Rattle.spec.specs.Lives.{fails, starts, plays, LivesRun}
 use Rattle.spec.specs.Promise as promise
 
 -- what is seen of lives: what disk it is, and its medium, with the disk where one runs
@@ -242,6 +242,14 @@ pub record LifeBegins (before : LivesValue) (result : Result (Unit {0}) StartFau
   pub begun : OnOk result (HasBegun before.state after.state)
   pub err : IfErr result (λ fault. LivesRefuseStart before fault after)
   pub follows : ComesAfter (medium_in before.state) (medium_in after.state)
+
+-- An event came to lives, and a disk was started first where none ran: lives go on by both. The
+-- answer is that of a disk without power just where the power is off.
+pub record LivesAnswer (before : LivesValue) (event : Event) (answer : Answer) (after : LivesValue)
+    : Type 0 where
+  pub goes_on : LivesGoOn before (starts ∷ plays event ∷ []) (answer ∷ []) after
+  pub begun : HasBegun before.state after.state
+  pub off : (answer ≡ Off) ↔ ((medium_in after.state).power.off ≡ true)
 
 -- what an event leaves that was answered so: the answer is that of a disk without power just where
 -- the power is off

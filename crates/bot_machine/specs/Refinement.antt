@@ -63,7 +63,6 @@ line_of bulk buffer =
 pub record IsTaking (limit : ℕ) (intention : List ℕ → Intention) (t : Taking) : Type 0 where
   pub is_case : IsCase t.exchange.case t.exchange.command.host t.exchange.intended
   pub moment : moment_of t.exchange.case ≡ after_data
-  pub some_block : 0 < length t.exchange.command.block.items
   pub some_due : 0 < t.due
   pub within : t.due ≤ size_of_way t.exchange.command.host
   pub room : size_of_way t.exchange.intended ≤ 512 * limit

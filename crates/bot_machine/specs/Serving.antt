@@ -35,7 +35,6 @@ pub record IsBegun {M : Type 0} (unit : UnitValue M) (packet : List ℕ) (exchan
     : Type 0 where
   pub spelled : SpellsCommand packet exchange.command
   pub only : (other : Cbw) → SpellsCommand packet other → other ≡ exchange.command
-  pub some_block : 0 < length exchange.command.block.items
   pub intended : exchange.intended ≡ way_of (intention_of unit exchange.command.block.items)
   pub few : (n : ℕ) → exchange.intended ≡ ways.Out n → n ≤ 512 * unit_limit unit
   pub room : (n : ℕ) → exchange.intended ≡ ways.In n → n ≤ 512 * unit_limit unit
@@ -105,7 +104,6 @@ pub record EndsData {M : Type 0} (state : M → State) (Follows : M → M → Ty
 pub record CanCarryOut {M : Type 0} (unit : UnitValue M) (exchange : Exchange)
     (bytes out : List ℕ) : Type 0 where
   pub is_case : IsCase exchange.case exchange.command.host exchange.intended
-  pub some_block : 0 < length exchange.command.block.items
   pub sends : (n : ℕ) → exchange.intended ≡ ways.In n
       → intention_of unit exchange.command.block.items ≡ intent.In n
   pub takes : (n : ℕ) → intention_of unit exchange.command.block.items ≡ intent.Out n

@@ -12,7 +12,7 @@ pub struct Answers {
 }
 
 impl Model for Answers {
-    ghost use Rattle.std.specs.Prelude.{◌≤◌, length, vec_capacity};
+    ghost use Rattle.std.specs.Prelude.{length, vec_capacity};
     ghost use Rattle.bot_machine.specs.Answers.{Room};
 
     ghost Value = { Room };

@@ -1,5 +1,5 @@
 //! A disk: the transport over a logical unit.
-ghost use Rattle.std.specs.Prelude.{⊤, ◌↔◌, ◌≡◌, ◌⊎◌, ◌≤◌, ◌<◌, ◌/◌, ℕ, false, true, length};
+ghost use Rattle.std.specs.Prelude.{⊤, ◌↔◌, ◌≡◌, ◌⊎◌, ◌≤◌, ◌<◌, ◌/◌, false, true, length};
 ghost use Rattle.std.specs.Prelude.{[], IsTrue, None};
 ghost use Rattle.medium.specs.Inlet.{AreHeld};
 ghost use Rattle.std.specs.Borrow.{sem, follows_so};
@@ -9,7 +9,6 @@ ghost use Rattle.spec.specs.Book.{Book};
 ghost use Rattle.scsi_unit.specs.Books.{MayFind};
 ghost use Rattle.scsi_unit.specs.Background.{IsSettled, IsWritten, TellsWork, HasLimits, Settle};
 ghost use Rattle.scsi_unit.specs.Background.{is_dead, steps_left};
-ghost use Rattle.scsi_unit.specs.Serving.{TicksOver};
 ghost use Rattle.scsi_unit.specs.Starting.{HasLimit};
 ghost use Rattle.scsi_unit.specs.UnitValue.{unit_limit, TellsLimit};
 ghost use Rattle.spec.specs.Exchange.{in_answer, after_in, after_request};
@@ -20,7 +19,6 @@ ghost use Rattle.bot_machine.specs.Disk.{FitsDisk, IsStep, WorksDisk, IsRearmed,
 ghost use Rattle.bot_machine.specs.Disk.{AnswersSetup};
 ghost use Rattle.bot_machine.specs.Turns.{owes_status};
 ghost use Rattle.spec.specs.declared.event.Event.TheVariants as event;
-ghost use Rattle.spec.specs.declared.event.Answer.TheVariants as answer;
 ghost use Rattle.bot_machine.specs.contracts.disk.Disk.{the_row};
 
 use crate::bulk_out::{open, take_data};
@@ -250,12 +248,7 @@ impl<M: Medium> Disk<M> {
 
     /// Makes a step in the background towards rest, of at most two calls of the medium.
     pub fn tick(&mut self)
-        ensures step { IsStep (M.state self.old.unit.store.medium)
-            (M.state self.new.unit.store.medium) self.old event.Tick answer.Ticked self.new }
-        ensures ticks { TicksOver Settle (M.state self.old.unit.store.medium)
-            (M.state self.new.unit.store.medium) self.old.unit self.new.unit }
-        ensures line { self.new.line ≡ self.old.line }
-        ensures follows { M.follows self.old.unit.store.medium self.new.unit.store.medium }
+        ensures { WorksDisk Settle M.state M.follows self.old self.new }
     {
         self.work(Work::Settle);
     }
@@ -289,12 +282,7 @@ impl<M: Switch> Disk<M> {
 impl<M: Outlet> Disk<M> {
     /// Lets go of the call that the medium's device is to carry out next, if there is one.
     pub fn pop(&mut self)
-        ensures given { M.given self.old.unit.store.medium self.new.unit.store.medium }
-        ensures unchanged { IsUnchanged (M.state self.old.unit.store.medium)
-            (M.state self.new.unit.store.medium) }
-        ensures others { IsRearmed self.old self.new }
-        ensures fits { (book : Book) → FitsDisk (M.state self.old.unit.store.medium) self.old book
-            → FitsDisk (M.state self.new.unit.store.medium) self.new book }
+        ensures { ArmsDisk M.state M.given self.old self.new }
     {
         self.unit.pop();
     }

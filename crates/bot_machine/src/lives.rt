@@ -1,13 +1,10 @@
 //! One life after another on the same medium. This module is about a disk that can lose power, over
 //! the simulated medium, which alone can be cut. A controller needs none of it.
-ghost use Rattle.std.specs.Prelude.{◌≡◌, ◌<◌, ◌↔◌, ℕ, [], ◌∷◌, None, Some, true, false, OnOk};
-ghost use Rattle.std.specs.Prelude.{IfOk, IfErr};
-ghost use Rattle.medium.specs.Sim.{state_of, IsCut, IsFused, IsFailing, ComesAfter};
+ghost use Rattle.std.specs.Prelude.{◌≡◌, ◌<◌, [], ◌∷◌, None, Some, IfOk, IfErr};
+ghost use Rattle.medium.specs.Sim.{IsCut, IsFused, IsFailing, ComesAfter};
 ghost use Rattle.medium.specs.Writes.{keeps};
-ghost use Rattle.spec.specs.Book.{Book};
-ghost use Rattle.spec.specs.Lives.{starts, plays, cuts, arms, fails};
-ghost use Rattle.spec.specs.Promise.{first_standing};
-ghost use Rattle.bot_machine.specs.Lifetimes.{AreNew, StandsFirst};
+ghost use Rattle.spec.specs.Lives.{plays, cuts, arms, fails};
+ghost use Rattle.bot_machine.specs.Lifetimes.{AreNew};
 ghost use Rattle.bot_machine.specs.Device.{device_by, device_of};
 ghost use Rattle.bot_machine.specs.Fitting.{IsWithin};
 ghost use Rattle.spec.specs.declared.packet_size.PacketSize.TheVariants.{High512};
@@ -57,9 +54,9 @@ impl Model for Lives {
 }
 
 impl Lives {
-    ghost use Rattle.bot_machine.specs.LivesValue.{medium_in, AwaitsEvent, HasBegun, IsAtRest};
-    ghost use Rattle.bot_machine.specs.LivesValue.{OpensOn, HasLimit, FitsLives, LivesGoOn};
-    ghost use Rattle.bot_machine.specs.LivesValue.{LivesRefuseStart, LifeBegins, DiskAnswers};
+    ghost use Rattle.bot_machine.specs.LivesValue.{medium_in, AwaitsEvent};
+    ghost use Rattle.bot_machine.specs.LivesValue.{LivesGoOn, LivesRefuseStart, LivesAnswer};
+    ghost use Rattle.bot_machine.specs.LivesValue.{LifeBegins, DiskAnswers};
     ghost use Rattle.bot_machine.specs.declared.lives.disk_state.DiskState.TheVariants.{Stopped};
 
     /// No life has been yet, and packets have at most 512 bytes (high speed): see `new_with`.
@@ -71,14 +68,7 @@ impl Lives {
 
     /// No life has been yet. Packets are of this size, and the disks retire late: see `new_by`.
     pub fn new_with(medium: SimMedium, identity: Identity, size: PacketSize) -> Lives
-        ensures value { result ≡ record {
-          device = device_of identity size;
-          state = Stopped medium;
-        } }
-        ensures first { (limit : ℕ) (book : Book) → IsAtRest medium → medium.power.fuse ≡ None
-            → OpensOn (state_of medium) book
-            → HasLimit (state_of medium).size limit (state_of medium).content
-            → FitsLives result (first_standing limit book) }
+        ensures { AreNew (device_of identity size) medium result }
     {
         Lives::new_by(medium, identity, size, Retiring::Late)
     }
@@ -93,11 +83,7 @@ impl Lives {
         size: PacketSize,
         retiring: Retiring,
     ) -> Lives
-        ensures value { result ≡ record {
-          device = device_by identity size retiring;
-          state = Stopped medium;
-        } }
-        ensures first { StandsFirst medium result }
+        ensures { AreNew (device_by identity size retiring) medium result }
     {
         Lives {
             identity,
@@ -179,11 +165,7 @@ impl Lives {
     /// The fault with which the start was refused, where the power is still on. No disk runs then.
     pub fn event(&mut self, alloc: Global, event: &Event) -> Result<Answer, StartFault>
         requires { IsWithin self.old.device.packet_size event.now }
-        ensures ok { IfOk result (λ answer. LivesGoOn self.old (starts ∷ plays event.now ∷ [])
-            (answer ∷ []) self.new) }
-        ensures begun { OnOk result (HasBegun self.old.state self.new.state) }
-        ensures off { IfOk result (λ answer. (answer ≡ Answer.Off)
-            ↔ ((medium_in self.new.state).power.off ≡ true)) }
+        ensures ok { IfOk result (λ answer. LivesAnswer self.old event.now answer self.new) }
         ensures err { IfErr result (λ fault. LivesRefuseStart self.old fault self.new) }
         ensures follows { ComesAfter (medium_in self.old.state) (medium_in self.new.state) }
     {

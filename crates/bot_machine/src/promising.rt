@@ -1,6 +1,6 @@
 //! Which packets have a command carried out that promises, and which ask the medium for no write
 //! and no flush.
-ghost use Rattle.std.specs.Prelude.{◌≡◌, ◌↔◌, ◌<◌, ℕ, List, true, false, length, IsTrue};
+ghost use Rattle.std.specs.Prelude.{◌≡◌, ◌↔◌, ℕ, List, true, false, IsTrue};
 ghost use Rattle.std.specs.Prelude.{MatchOption};
 ghost use Rattle.spec.specs.Book.{Book};
 ghost use Rattle.spec.specs.declared.event.Event.TheVariants as event;
@@ -36,7 +36,6 @@ fn block_at_once<M: Medium>(unit: &Unit<M>, packet: &[u8]) -> Option<ArrayVec<u8
 
 // The command block whose data this packet, of at most `most` bytes, ends.
 fn block_of_data(pending: &Taking, packet: &[u8], most: u32) -> Option<ArrayVec<u8, 16>>
-    requires { 0 < length pending.now.exchange.command.block.items }
     ensures { (bytes : List ℕ) → MatchOption result
         (CarriesOutNone (CarriesOutLast most pending.now.exchange.command
         pending.now.exchange.intended bytes pending.now.due packet.now))

@@ -1,5 +1,5 @@
 //! Which home sectors an event reads.
-ghost use Rattle.std.specs.Prelude.{◌≡◌, ◌<◌, ◌≤◌, IfSome, MatchOption, Some, length};
+ghost use Rattle.std.specs.Prelude.{◌≡◌, IfSome, MatchOption, Some};
 ghost use Rattle.scsi_unit.specs.Reading.{AreHome};
 ghost use Rattle.scsi_unit.specs.UnitValue.{unit_limit};
 ghost use Rattle.bot_machine.specs.Reading.{sectors_in, ReadsHome, ReadsNoHome};
@@ -40,7 +40,6 @@ fn wrapper_reads<M: Medium>(unit: &Unit<M>, packet: &[u8]) -> Option<HomeSectors
 
 // The home sectors of the blocks that an exchange reads at once.
 fn exchange_reads<M: Medium>(unit: &Unit<M>, exchange: &Exchange) -> Option<HomeSectors>
-    requires { 0 < length exchange.now.command.block.items }
     ensures { ExchangeReads (M.state unit.now.store.medium) unit.now exchange.now result }
 {
     sectors_in(

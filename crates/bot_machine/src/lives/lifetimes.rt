@@ -1,5 +1,5 @@
 //! Whole lives of a disk, one after the other.
-ghost use Rattle.std.specs.Prelude.{◌≡◌, ◌≤◌, ◌+◌, [], None, List, length, map, OnOk, IfOk, IfErr};
+ghost use Rattle.std.specs.Prelude.{◌≡◌, ◌≤◌, ◌+◌, [], List, length, map, OnOk, IfOk, IfErr};
 ghost use Rattle.std.specs.Prelude.{MatchOption};
 ghost use Rattle.medium.specs.Sim.{IsFused};
 ghost use Rattle.spec.specs.declared.event.Answer.{Answer};
@@ -8,11 +8,11 @@ ghost use Rattle.bot_machine.specs.Device.{device_by, device_of};
 ghost use Rattle.bot_machine.specs.Fitting.{AreWithin};
 ghost use Rattle.spec.specs.Packets.{bytes_of};
 ghost use Rattle.spec.specs.declared.packet_size.PacketSize.TheVariants.{High512};
-ghost use Rattle.bot_machine.specs.LivesValue.{medium_in, IsAtRest};
-ghost use Rattle.bot_machine.specs.LivesValue.{LivesGoOn, RestsAlone};
-ghost use Rattle.bot_machine.specs.Lifetimes.{actions_of, armed_by, events_in, Appends, AppendsFor};
+ghost use Rattle.bot_machine.specs.LivesValue.{medium_in, LivesGoOn, RestsAlone};
+ghost use Rattle.bot_machine.specs.Lifetimes.{actions_of, armed_by, Appends, AppendsFor};
 ghost use Rattle.bot_machine.specs.Lifetimes.{KeepPromise, KeepPromiseUpTo, AreLived, AreLivedUpTo};
-ghost use Rattle.bot_machine.specs.Lifetimes.{IsNotLived, AwaitsEvents, AwaitsLives};
+ghost use Rattle.bot_machine.specs.Lifetimes.{AwaitsEvents, AwaitsLives, AwaitsLivesWithin};
+ghost use Rattle.bot_machine.specs.Lifetimes.{IsNotLived};
 
 use crate::answers::Answers;
 use crate::lives::Lives;
@@ -34,9 +34,7 @@ pub fn run_lives(
     lives: &[Life],
     answers: &mut Answers,
 ) -> Result<SimMedium, StartError<SimMedium>>
-    requires rests { IsAtRest medium }
-    requires unfused { medium.power.fuse ≡ None }
-    requires room { length answers.old.list + events_in lives.now ≤ answers.old.room }
+    requires { AwaitsLives medium lives.now answers.old }
     ensures promise { IfOk result (λ after. (told : List Answer)
         × Appends told answers.old answers.new
         × KeepPromise medium (device_of identity High512) lives.now told after) }
@@ -68,7 +66,7 @@ pub fn run_lives_with(
     lives: &[Life],
     answers: &mut Answers,
 ) -> Result<SimMedium, StartError<SimMedium>>
-    requires { AwaitsLives (bytes_of size) medium lives.now answers.old }
+    requires { AwaitsLivesWithin (bytes_of size) medium lives.now answers.old }
     ensures promise { IfOk result (λ after. (told : List Answer)
         × Appends told answers.old answers.new
         × KeepPromise medium (device_of identity size) lives.now told after) }
@@ -113,7 +111,7 @@ pub fn run_lives_by(
     lives: &[Life],
     answers: &mut Answers,
 ) -> Result<SimMedium, StartError<SimMedium>>
-    requires { AwaitsLives (bytes_of size) medium lives.now answers.old }
+    requires { AwaitsLivesWithin (bytes_of size) medium lives.now answers.old }
     ensures promise { IfOk result (λ after. (told : List Answer)
         × Appends told answers.old answers.new
         × KeepPromise medium (device_by identity size retiring) lives.now told after) }

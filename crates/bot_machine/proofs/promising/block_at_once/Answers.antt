@@ -8,14 +8,10 @@ pub returns-in_default : goal.returns-in_default
 returns-in_default g c = λ book size block taken carries. c.in_default.ensures carries.command carries.spelled
 
 pub returns-in-AtOnce : goal.returns-in-AtOnce
-returns-in-AtOnce g c = record {
-  some_block = c.in-Some.ensures.some_block;
-  alone = λ book size. record {
-    some_block = c.in-Some.ensures.some_block;
-    taken = [];
-    carried_out = carries_out _ book size _ c.in-Some.exchange c.in-Some.ensures c.in-AtOnce.ensures;
-    only = λ other bytes carries. (carried_at_once _ book size _ c.in-Some.exchange c.in-Some.ensures other bytes carries).1;
-  };
+returns-in-AtOnce g c = λ book size. record {
+  taken = [];
+  carried_out = carries_out _ book size _ c.in-Some.exchange c.in-Some.ensures c.in-AtOnce.ensures;
+  only = λ other bytes carries. (carried_at_once _ book size _ c.in-Some.exchange c.in-Some.ensures other bytes carries).1;
 }
 
 pub returns-in-AfterData : goal.returns-in-AfterData

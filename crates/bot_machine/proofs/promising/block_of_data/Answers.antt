@@ -6,7 +6,6 @@ pub returns : goal.returns
 returns c = λ bytes.
     let is = (rw c.unwrap.ensures at c.try_from.ensures).0 ∙ c.as_slice.ensures.value in
     rw is (record {
-      some_block = c.requires;
       taken = take (size_of_way c.args.pending.now.exchange.intended) (bytes ++ c.args.packet.now);
       carried_out = record { size = c.if-packet-pending.false; last = c.if-pending-most.false; block_is = refl; taken_is = refl };
       only = λ other came carries. carries.block_is;

@@ -16,8 +16,8 @@ returns g c =
       parts = c.foresee.ensures.parts (window_of played) follows;
       kept = event_kept old played c.args.event.now answer step follows;
       served = event_served old played c.args.event.now answer step (c.foresee.ensures.served (window_of played) follows);
-      carried = c.pop.ensures.given.0;
+      carried = c.pop.ensures.armed.0;
       others = c.pop.ensures.others;
-      again = ready_again g.D.DeviceFile.told old played c.pop.new.self follows step.few.layout_stays c.pop.ensures.given.0
+      again = ready_again g.D.DeviceFile.told old played c.pop.new.self follows step.few.layout_stays c.pop.ensures.armed.0
           c.pop.ensures.others;
     }

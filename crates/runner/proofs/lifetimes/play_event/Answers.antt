@@ -5,16 +5,16 @@ use Rattle.runner.proofs.lifetimes.play_event.Goals as goal
 
 pub returns-in-Ok-clause-played : goal.returns-in-Ok-clause-played
 returns-in-Ok-clause-played g c =
-    let answered = c.in_ok-answer.ensures in
+    let told = c.in_ok-answer.ensures.ok in
     tells-event (g.W.Write.contents c.args.out.now) (g.W.Write.contents c.write_out.new.out)
-    (acted-event c.args.lives.now c.event.new.self c.args.event.now c.in_ok-answer.answer answered.ok answered.off c.event.ensures.follows)
+    (acted-event c.args.lives.now c.event.new.self c.args.event.now c.in_ok-answer.answer told.goes_on told.off c.event.ensures.follows)
     (rw (c.as_slice.ensures.value ∙ c.event_line.ensures) at c.in-Ok.ensures.ok)
 
 pub returns-in-Err-clause-broken : goal.returns-in-Err-clause-broken
 returns-in-Err-clause-broken g c =
-    let answered = c.in_ok-answer.ensures in
+    let told = c.in_ok-answer.ensures.ok in
     breaks-writer (g.W.Write.contents c.args.out.now) (g.W.Write.contents c.write_out.new.out)
-    (acted-event c.args.lives.now c.event.new.self c.args.event.now c.in_ok-answer.answer answered.ok answered.off c.event.ensures.follows)
+    (acted-event c.args.lives.now c.event.new.self c.args.event.now c.in_ok-answer.answer told.goes_on told.off c.event.ensures.follows)
     (rw (c.as_slice.ensures.value ∙ c.event_line.ensures) at c.in-Err.ensures.err)
 
 pub returns-in_err-answer-clause-broken : goal.returns-in_err-answer-clause-broken

@@ -19,7 +19,7 @@ returns-in-DataOut g c =
     rw (← c.self.view_is, c.if-self.false, c.in-DataOut.is)
     (match_so c.block_of_data.result
     ((rw c.bytes.ensures at c.block_of_data.ensures) (take c.in-DataOut.pending.filled c.self.inside.transfer.items))
-    (λ none book size. none) (λ block one. record { some_block = one.some_block; alone = λ book size. one }))
+    (λ none book size. none) (λ block one book size. one))
 
 pub returns-in_default : goal.returns-in_default
 returns-in_default g c =

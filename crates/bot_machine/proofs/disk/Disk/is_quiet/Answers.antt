@@ -6,8 +6,8 @@ returns-in-Some g c =
     let carried = rw (← c.self.view_is) at c.in-Some.ensures in
     let told = rw c.as_slice.ensures.value at c.is_quiet.ensures.by_book in
     rw (← c.self.view_is) (λ book size. (
-      (λ yes other taken carries. rw ((carried.alone book size).only other taken carries) ((told book size).0 yes)),
-      (λ all. (told book size).1 (all c.in-Some.block.items (carried.alone book size).taken (carried.alone book size).carried_out)),
+      (λ yes other taken carries. rw ((carried book size).only other taken carries) ((told book size).0 yes)),
+      (λ all. (told book size).1 (all c.in-Some.block.items (carried book size).taken (carried book size).carried_out)),
     ))
 
 pub returns-in-None : goal.returns-in-None

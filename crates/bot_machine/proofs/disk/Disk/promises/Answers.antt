@@ -6,11 +6,11 @@ returns-in-Some g c =
     let carried = rw (← c.self.view_is) at c.in-Some.ensures in
     let told = rw c.as_slice.ensures.value at c.promises.ensures.by_book in
     rw (← c.self.view_is) (record {
-      no = λ is book size other taken carries. rw ((carried.alone book size).only other taken carries) (sym (told book size) ∙ is);
+      no = λ is book size other taken carries. rw ((carried book size).only other taken carries) (sym (told book size) ∙ is);
       yes = λ is book size. record {
         block = c.in-Some.block.items;
-        taken = (carried.alone book size).taken;
-        carried_out = (carried.alone book size).carried_out;
+        taken = (carried book size).taken;
+        carried_out = (carried book size).carried_out;
         promising = sym (told book size) ∙ is;
       };
     })

@@ -8,15 +8,17 @@ use Rattle.bot_machine.proofs.lives.Lives.event.Goals as goal
 
 pub returns-clause-ok : goal.returns-clause-ok
 returns-clause-ok c =
-    lives_go_on c.args.self.now c.start.new.self c.play.new.self (starts ∷ []) (plays c.args.event.now ∷ []) [] (c.play.result ∷ [])
-    c.in_ok-start.ensures.ok c.play.ensures.goes_on
-
-pub returns-clause-begun : goal.returns-clause-begun
-returns-clause-begun c = record {
-  started = c.play.ensures.plays.started;
-  stood = λ m was on. c.in_ok-start.ensures.begun.stood m was
-      (on_before (medium_in c.start.new.self.state) (medium_in c.play.new.self.state) c.play.ensures.plays.follows on);
-}
+    let played = c.play.ensures.plays in
+    record {
+      goes_on = lives_go_on c.args.self.now c.start.new.self c.play.new.self (starts ∷ []) (plays c.args.event.now ∷ []) []
+          (c.play.result ∷ []) c.in_ok-start.ensures.ok c.play.ensures.goes_on;
+      begun = record {
+        started = played.started;
+        stood = λ m was on. c.in_ok-start.ensures.begun.stood m was
+            (on_before (medium_in c.start.new.self.state) (medium_in c.play.new.self.state) played.follows on);
+      };
+      off = played.off;
+    }
 
 pub returns-clause-follows : goal.returns-clause-follows
 returns-clause-follows c =

@@ -14,7 +14,7 @@ loop-life-init c =
     let answers = c.args.answers.now in
     record {
       run = subst (λ (x : LivesValue). AppendsFor first x answers answers [] 0) (sym c.new_by-run.ensures.value) (none_yet first answers);
-      ended = rw c.new_by-run.ensures.value (record { rests = c.requires.rests; unfused = c.requires.unfused; alone = refl });
+      ended = rw c.new_by-run.ensures.value (record { rests = c.requires.awaits.rests; unfused = c.requires.awaits.unfused; alone = refl });
     }
 
 pub live-requires-clause-within : goal.live-requires-clause-within
@@ -29,7 +29,7 @@ live-requires-clause-room c =
     let rooms = ap (λ (x : Room). x.room) appends.appends in
     let told = appends.one_each in
     let left = room_left c.args.lives.now c.loop-life.life-index c.life-item.result c.loop-life-test.true c.life-item.is in
-    let room = c.requires.room in
+    let room = c.requires.awaits.room in
     omega (arith, lists, rooms, told, left, room, length-append c.args.answers.now.list appends.told)
 
 pub returns-in-Err-clause-moves_until : goal.returns-in-Err-clause-moves_until
@@ -38,11 +38,12 @@ returns-in-Err-clause-moves_until c =
     let i = c.loop-life.life-index in
     let life = c.life-item.result in
     let lived = c.loop-life.invariant.run in
-    let ended = c.loop-life.invariant.ended in (
+    let ended = c.loop-life.invariant.ended in
+    let awaits = c.requires.awaits in (
       lived.told,
       c.in-Err.ensures.err.unanswered ∙ lived.appends,
       rw c.into_medium.ensures
-          (lived_up_to c.args.medium (device_by c.args.identity c.args.size c.args.retiring) c.requires.rests c.requires.unfused
+          (lived_up_to c.args.medium (device_by c.args.identity c.args.size c.args.retiring) awaits.rests awaits.unfused
           c.loop-life.run c.live.new.run lived.told lives (take i lives) (drop (suc i) lives) life c.in-Err.fault
           (apart lives i life c.loop-life-test.true c.life-item.is) lived.goes_on lived.one_each ended
           c.in-Err.ensures.err.cause c.in-Err.ensures.err.stops),
@@ -73,7 +74,7 @@ returns-clause-moves c =
       run.told,
       run.appends,
       rw c.into_medium-2.ensures
-          (all_lived c.args.medium (device_by c.args.identity c.args.size c.args.retiring) c.requires.rests c.requires.unfused
+          (all_lived c.args.medium (device_by c.args.identity c.args.size c.args.retiring) c.requires.awaits.rests c.requires.awaits.unfused
           c.loop-life.run run.told lives run.goes_on run.one_each ended),
     )
 

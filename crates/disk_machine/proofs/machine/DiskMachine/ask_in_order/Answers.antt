@@ -7,7 +7,7 @@ pub returns-in-Some-Flush : goal.returns-in-Some-Flush
 returns-in-Some-Flush c = λ free room none. (
   record {
     free = free;
-    gone = c.pop.ensures.given;
+    gone = c.pop.ensures.armed;
     rest = record { others = c.pop.ensures.others; fits = c.pop.ensures.fits };
     others = refl;
   },
