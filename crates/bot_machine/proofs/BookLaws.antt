@@ -1,29 +1,17 @@
 -- What an event has a unit do, and what that does to the book of a life.
 use Rattle.std.proofs.Common.{◌≡◌, ℕ, Bool, true, false, List, [], Option, None, refl, ap, ◌∙◌, arith, ◌⊎◌, inl, inr, ⊎_elim, length}
-use Rattle.std.proofs.Common.{Result, Ok, Err, sym, subst}
-use Rattle.std.proofs.lemmas.Bool.Decides.{nat_tests}
+use Rattle.std.proofs.{Common.{Result, Ok, Err, sym, subst}, lemmas.Bool.Decides.nat_tests}
 use Rattle.std.specs.Prelude.{Result, if◌then◌else◌}
-use Rattle.spec.specs.Blocks.{Write}
-use Rattle.spec.specs.Sense.{Sense}
-use Rattle.spec.specs.declared.wrapper.Cbw.{Cbw}
-use Rattle.spec.specs.declared.way.Way.{Way}
-use Rattle.spec.specs.declared.case.Case.{Case}
-use Rattle.spec.specs.declared.event.Event.{Event}
-use Rattle.spec.specs.declared.event.Event.TheVariants as event
-use Rattle.spec.specs.declared.event.Answer.{Answer}
-use Rattle.spec.specs.Rules.{UnitState, CarriesOut, Ticks, write_in_progress, checked}
-use Rattle.spec.specs.Exchange.{Script, finished, taking}
+use Rattle.spec.specs.{Blocks.Write, Sense.Sense, declared.wrapper.Cbw.Cbw, declared.way.Way.Way, declared.case.Case.Case}
+use Rattle.spec.specs.{declared.event.Event.Event, declared.event.Answer.Answer}
+use Rattle.spec.specs.{Rules.{UnitState, CarriesOut, Ticks, write_in_progress, checked}, Exchange.{Script, finished, taking}}
 use Rattle.spec.specs.Conversation.{Conversation, OpensExchange, Takes, OutStep}
-use Rattle.spec.specs.UnitConversation.{Intends, UnitStep, write_of_packet, write_of_event}
+use Rattle.spec.specs.{UnitConversation.{Intends, UnitStep, write_of_packet, write_of_event}, Book.Book, declared.command.Command.Command}
+use Rattle.spec.specs.declared.event.Event.TheVariants as event
 use Rattle.bot_machine.specs.Acts.{CarriesOutAtOnce, CarriesOutLast, PacketCarriesOut, EventCarriesOut}
-use Rattle.bot_machine.proofs.Wrappers.{at_once-writes_none, carries_at_once}
-use Rattle.bot_machine.proofs.UnitLaws.{keeps_writes, stays_faulted, ticks_only}
-use Rattle.spec.specs.Book.{Book}
-use Rattle.spec.specs.declared.command.Command.{Command}
-use Rattle.scsi_unit.specs.Laws.{IsSameLife, is_promising}
-use Rattle.scsi_unit.specs.Promising.{promises_for}
-use Rattle.bot_machine.specs.BookLaws.{GrowsBy, MarkMoves, FaultStays, AreBookLaws}
-use Rattle.bot_machine.specs.Promising.{promises_by}
+use Rattle.bot_machine.specs.{BookLaws.{GrowsBy, MarkMoves, FaultStays, AreBookLaws}, Promising.promises_by}
+use Rattle.bot_machine.proofs.{Wrappers.{at_once-writes_none, carries_at_once}, UnitLaws.{keeps_writes, stays_faulted, ticks_only}}
+use Rattle.scsi_unit.specs.{Laws.{IsSameLife, is_promising}, Promising.promises_for}
 
 -- something that holds with no write where the unit makes a step in the background at most
 module _ (P : Option Write → Type 0) (refused : Bool) (old new : Conversation UnitState)

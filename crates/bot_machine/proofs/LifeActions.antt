@@ -1,42 +1,19 @@
 -- What happens in a life: an event comes, the power is cut, a fuse or a failure is armed.
-use Rattle.std.proofs.Common.{if◌then◌else◌, arith, inl, inr}
-use Rattle.std.proofs.Common.{◌≡◌, ℕ, Bool, true, false, nat_lt, List, [], ◌∷◌, None, Some, Option, refl, sym, subst, ◌∙◌, ap}
-use Rattle.std.proofs.lemmas.Bool.{false≢true}
-use Rattle.std.proofs.lemmas.List.{append-nil}
-use Rattle.medium.specs.Medium.{State, Image, CutLeaves}
-use Rattle.medium.specs.Moments.{EachCut, IsFlushed}
-use Rattle.medium.specs.Tally.{of_all}
-use Rattle.medium.specs.Sim.{Sim, state_of, IsCut, ComesAfter}
-use Rattle.medium.specs.SimLaws.{is_sound}
-use Rattle.medium.specs.declared.power.Power.{Power}
-use Rattle.medium.specs.Power.{faults_in}
-use Rattle.medium.proofs.SimCalls.{KeepsPower, keeps_power}
-use Rattle.medium.proofs.Moments.{at_exit, only_image}
-use Rattle.medium.proofs.KeptBlocks.{none_flushed}
-use Rattle.bot_machine.specs.Device.{presented, Device}
-use Rattle.scsi_unit.specs.Starting.{StandsForOpening}
-use Rattle.spec.specs.Book.{Book}
-use Rattle.scsi_unit.specs.Books.{MayFind, FoundWith, StandsAs}
-use Rattle.spec.specs.declared.event.Event.{Event}
-use Rattle.spec.specs.declared.event.Answer.{Answer}
-use Rattle.spec.specs.declared.event.Answer.TheVariants.{Off}
-use Rattle.bot_machine.specs.declared.lives.disk_state.DiskState.{DiskState}
-use Rattle.bot_machine.specs.declared.lives.disk_state.DiskState.TheVariants.{Stopped, Running}
-use Rattle.spec.specs.Conversation.{Conversation}
-use Rattle.spec.specs.UnitConversation.{write_of_event, UnitStep}
-use Rattle.bot_machine.specs.Disk.{DiskValue, over, FitsDisk, IsStep}
-use Rattle.spec.specs.Rules.{UnitState}
-use Rattle.scsi_unit.specs.UnitValue.{unit_limit}
-use Rattle.bot_machine.proofs.UnitLaws.{limit_between_calls}
-use Rattle.bot_machine.proofs.Runs.{one_counted}
-use Rattle.spec.specs.Lives.{Action, plays, cuts, arms, fails, Remains, Place, before_first, runs, off, Standing, after_cut, LivesStep}
-use Rattle.spec.specs.Lives.{LivesRun}
-use Rattle.spec.specs.Blocks.{Array}
-use Rattle.bot_machine.specs.Moving.{Does, EventMovesIn, EventMoves}
+use Rattle.std.proofs.Common.{if◌then◌else◌, arith, inl, inr, ◌≡◌, ℕ, Bool, true, false, nat_lt, List, [], ◌∷◌, None, Some, Option, refl}
+use Rattle.std.proofs.{Common.{sym, subst, ◌∙◌, ap}, lemmas.Bool.false≢true, lemmas.List.append-nil}
+use Rattle.medium.specs.{Medium.{State, Image, CutLeaves}, Moments.{EachCut, IsFlushed}, Tally.of_all}
+use Rattle.medium.specs.{Sim.{Sim, state_of, IsCut, ComesAfter}, SimLaws.is_sound, declared.power.Power.Power, Power.faults_in}
+use Rattle.medium.proofs.{SimCalls.{KeepsPower, keeps_power}, Moments.{at_exit, only_image}, KeptBlocks.none_flushed}
+use Rattle.bot_machine.specs.{Device.{presented, Device}, declared.lives.disk_state.DiskState.DiskState}
+use Rattle.bot_machine.specs.{declared.lives.disk_state.DiskState.TheVariants.{Stopped, Running}, Disk.{DiskValue, over, FitsDisk, IsStep}}
+use Rattle.bot_machine.specs.{Moving.{Does, EventMovesIn, EventMoves}, LivesValue.{LivesValue, medium_in, state_in, OpensOn, HasLimit}}
+use Rattle.bot_machine.specs.LivesValue.{IsAt, LimitAt, book_at, FoundAt, FitsLives, LivesGoTo, LivesGoOn, AreCaused}
+use Rattle.scsi_unit.specs.{Starting.StandsForOpening, Books.{MayFind, FoundWith, StandsAs}, UnitValue.unit_limit, Serving.has_refused}
+use Rattle.spec.specs.{Book.Book, declared.event.Event.Event, declared.event.Answer.Answer, declared.event.Answer.TheVariants.Off}
+use Rattle.spec.specs.{Conversation.Conversation, UnitConversation.{write_of_event, UnitStep}, Rules.UnitState, Lives.{Action, plays, cuts}}
+use Rattle.spec.specs.{Lives.{arms, fails, Remains, Place, before_first, runs, off, Standing, after_cut, LivesStep, LivesRun}, Blocks.Array}
+use Rattle.bot_machine.proofs.{UnitLaws.limit_between_calls, Runs.one_counted}
 use Rattle.bot_machine.proofs.Moved.{one_move, none_refused, some_refused, caused_once, one_fuse_more}
-use Rattle.bot_machine.specs.LivesValue.{LivesValue, medium_in, state_in, OpensOn, HasLimit, IsAt, LimitAt, book_at, FoundAt, FitsLives}
-use Rattle.bot_machine.specs.LivesValue.{LivesGoTo, LivesGoOn, AreCaused}
-use Rattle.scsi_unit.specs.Serving.{has_refused}
 
 -- one action is a run
 pub one_run : (device : Device) (refused : Bool) (old new : Standing) (action : Action) (answers : List Answer)

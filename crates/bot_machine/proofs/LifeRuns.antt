@@ -1,32 +1,19 @@
 -- Lives go on: one run of actions after another, and whole lives from the first.
 use Rattle.std.proofs.Common.{◌≡◌, ℕ, ◌+◌, ◌≤◌, Bool, List, [], ◌∷◌, ◌++◌, length-append, refl, sym, subst, ◌∙◌, ap, arith, append_assoc}
 use Rattle.std.proofs.Common.{◌<◌, suc, None, length, take, drop, get_or, drop-cons}
-use Rattle.std.proofs.lemmas.List.{append-nil, take_more, take-append-drop}
-use Rattle.bot_machine.specs.Device.{presented, Device}
-use Rattle.scsi_unit.specs.StartFaults.{StartFault}
-use Rattle.spec.specs.Book.{Book}
-use Rattle.spec.specs.declared.event.Answer.{Answer}
-use Rattle.bot_machine.specs.Answers.{Room}
-use Rattle.spec.specs.Conversation.{refused_events}
-use Rattle.spec.specs.Lives.{Action, starts, Standing, LivesRun}
-use Rattle.bot_machine.specs.declared.lives.disk_state.DiskState.TheVariants.{Stopped}
-use Rattle.bot_machine.specs.Moving.{MovesBy}
-use Rattle.bot_machine.specs.Lifetimes.{StandsFirst, AppendsFor, actions_of, actions_of_all, armed_by, events_in, AreLived, AreLivedUpTo}
-use Rattle.bot_machine.specs.Lifetimes.{KeepsPromiseUpTo, IsRefusedFor}
-use Rattle.bot_machine.specs.LivesValue.{LivesValue, medium_in, state_in, FitsLives, LivesGoTo, LivesGoOn}
-use Rattle.bot_machine.specs.LivesValue.{MayRefuse, LivesStopAt, LivesStop, IsAtRest, OpensOn, HasLimit, RestsAlone}
-use Rattle.bot_machine.proofs.Runs.{refused_events-append, counted}
-use Rattle.bot_machine.proofs.Moved.{MovesBy-append, caused_through, few_causes}
-use Rattle.std.proofs.lemmas.List.Sums.{sum_by-append, sum_by-take-le}
-use Rattle.std.specs.Prelude.{Option, Some, MatchOption}
-use Rattle.medium.specs.Medium.{State, Image, CutLeaves}
-use Rattle.medium.specs.Sim.{Sim, state_of, IsFused}
-use Rattle.bot_machine.specs.declared.lives.life.Life.{Life}
-use Rattle.bot_machine.specs.Opening.{IsNotOpened}
+use Rattle.std.proofs.{lemmas.List.{append-nil, take_more, take-append-drop}, lemmas.List.Sums.{sum_by-append, sum_by-take-le}}
+use Rattle.bot_machine.specs.{Device.{presented, Device}, Answers.Room, declared.lives.disk_state.DiskState.TheVariants.Stopped}
+use Rattle.bot_machine.specs.{Moving.MovesBy, Lifetimes.{StandsFirst, AppendsFor, actions_of, actions_of_all, armed_by, events_in}}
+use Rattle.bot_machine.specs.{Lifetimes.{AreLived, AreLivedUpTo, KeepsPromiseUpTo, IsRefusedFor}, LivesValue.{LivesValue, medium_in}}
+use Rattle.bot_machine.specs.LivesValue.{state_in, FitsLives, LivesGoTo, LivesGoOn, MayRefuse, LivesStopAt, LivesStop, IsAtRest, OpensOn}
+use Rattle.bot_machine.specs.{LivesValue.{HasLimit, RestsAlone}, declared.lives.life.Life.Life, Opening.IsNotOpened}
+use Rattle.scsi_unit.specs.{StartFaults.StartFault, Books.StandsAs, Starting.StandsForSome}
+use Rattle.spec.specs.{Book.Book, declared.event.Answer.Answer, Conversation.refused_events, Lives.{Action, starts, Standing, LivesRun}}
 use Rattle.spec.specs.Promise.{first_standing, AreKept, AreKeptUpTo}
-use Rattle.scsi_unit.specs.Books.{StandsAs}
-use Rattle.scsi_unit.specs.Starting.{StandsForSome}
+use Rattle.bot_machine.proofs.{Runs.{refused_events-append, counted}, Moved.{MovesBy-append, caused_through, few_causes}}
 use Rattle.bot_machine.proofs.LifeStarts.{first_found, first_limited}
+use Rattle.std.specs.Prelude.{Option, Some, MatchOption}
+use Rattle.medium.specs.{Medium.{State, Image, CutLeaves}, Sim.{Sim, state_of, IsFused}}
 
 -- one run after another
 pub LivesRun-append : (device : Device) (xs ys : List Action) (told more : List Answer)

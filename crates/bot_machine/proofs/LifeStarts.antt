@@ -1,38 +1,22 @@
 -- How a life begins, with what the medium was left with, and what comes of its start: a disk runs, power goes, or it is refused.
 use Rattle.std.proofs.Common.{◌≡◌, ◌≤◌, ◌⊎◌, ℕ, Bool, true, false, [], Some, None, Option, refl, sym, ◌∙◌, ap, inl, inr, ⊎_elim, arith, ◌+◌}
-use Rattle.std.proofs.Common.{◌∷◌, subst}
-use Rattle.std.proofs.lemmas.Bool.{false≢true, cases_Bool}
-use Rattle.spec.specs.Blocks.{Write, Array}
-use Rattle.medium.specs.Medium.{State, Image}
-use Rattle.medium.specs.Moments.{EachCut}
-use Rattle.medium.specs.Sim.{Sim, state_of, ComesAfter}
-use Rattle.medium.specs.SimLaws.{is_sound}
-use Rattle.medium.proofs.Moments.{only_image, content_has, at_exit}
-use Rattle.medium.proofs.KeptBlocks.{none_flushed}
-use Rattle.spec.specs.Book.{Book, after_first, opened, with_write}
-use Rattle.scsi_unit.specs.Books.{StandsAs, MayFind, FoundWith}
-use Rattle.spec.specs.Rules.{with_progress, UnitState}
-use Rattle.bot_machine.specs.Device.{Device, presented}
-use Rattle.scsi_unit.specs.Starting.{IsOursForSome, OpensOn, blocks_of, Stands, IsCauseFor}
-use Rattle.bot_machine.specs.Disk.{DiskValue, FitsDisk, over}
-use Rattle.bot_machine.specs.Opening.{IsOpened, IsNotOpened, StartLeaves}
-use Rattle.spec.specs.Lives.{Remains, Place, before_first, between, runs, off, Standing, Presentation, IsLeft, Opens, KeepsLimit}
-use Rattle.spec.specs.Lives.{LifeBegins, StartsAt, starts, started}
+use Rattle.std.proofs.{Common.{◌∷◌, subst}, lemmas.Bool.{false≢true, cases_Bool}}
+use Rattle.spec.specs.{Blocks.{Write, Array}, Book.{Book, after_first, opened, with_write}, Rules.{with_progress, UnitState}, Lives.Remains}
+use Rattle.spec.specs.Lives.{Place, before_first, between, runs, off, Standing, Presentation, IsLeft, Opens, KeepsLimit, LifeBegins}
+use Rattle.spec.specs.{Lives.{StartsAt, starts, started}, Exchange.{Line, at_rest}, UnitConversation.on_line}
+use Rattle.medium.specs.{Medium.{State, Image}, Moments.EachCut, Sim.{Sim, state_of, ComesAfter}, SimLaws.is_sound}
+use Rattle.medium.proofs.{Moments.{only_image, content_has, at_exit}, KeptBlocks.none_flushed, SimCalls.keeps_power}
+use Rattle.scsi_unit.specs.{Books.{StandsAs, MayFind, FoundWith}, Starting.{IsOursForSome, OpensOn, blocks_of, Stands, IsCauseFor}}
+use Rattle.scsi_unit.specs.{StartFaults.StartFault, Serving.has_refused}
+use Rattle.bot_machine.specs.{Device.{Device, presented}, Disk.{DiskValue, FitsDisk, over}, Opening.{IsOpened, IsNotOpened, StartLeaves}}
 use Rattle.bot_machine.specs.LivesValue.{HasLimit, IsAt, LimitAt, book_at, LeavesLimit, FoundAt, medium_in, state_in, HasBegun, FitsLives}
 use Rattle.bot_machine.specs.LivesValue.{LivesGoTo, LivesGoOn, MayRefuse, LivesStop}
 use Rattle.bot_machine.specs.declared.lives.disk_state.DiskState.TheVariants.{Stopped, Running}
+use Rattle.bot_machine.specs.{declared.lives.disk_state.DiskState.DiskState, Moving.StartsIn}
 use Rattle.bot_machine.proofs.UnitLaws.{knows_images, between_calls, limit_between_calls, start_keeps_limit}
-use Rattle.medium.proofs.SimCalls.{keeps_power}
-use Rattle.scsi_unit.specs.StartFaults.{StartFault}
-use Rattle.scsi_unit.specs.UnitValue.{unit_limit, state_of as unit_state}
-use Rattle.bot_machine.specs.declared.lives.disk_state.DiskState.{DiskState}
-use Rattle.spec.specs.Exchange.{Line, at_rest}
-use Rattle.spec.specs.UnitConversation.{on_line}
-use Rattle.scsi_unit.specs.Serving.{has_refused}
-use Rattle.bot_machine.specs.Moving.{StartsIn}
 use Rattle.bot_machine.proofs.Moved.{some_refused, caused_once}
-use Rattle.bot_machine.proofs.LifeActions.{lives_at, stays, called_once, one_run, armed_then, on_or_off}
-use Rattle.bot_machine.proofs.Runs.{one_counted}
+use Rattle.bot_machine.proofs.{LifeActions.{lives_at, stays, called_once, one_run, armed_then, on_or_off}, Runs.one_counted}
+use Rattle.scsi_unit.specs.UnitValue.{unit_limit, state_of as unit_state}
 
 -- ---- what a life has left
 

@@ -1,23 +1,13 @@
 -- What is done to a disk and to its medium, one action after another.
 use Rattle.std.proofs.Common.{◌≡◌, ◌<◌, Bool, true, false, List, [], ◌∷◌, ◌++◌, refl, sym, subst, ◌∙◌, ap, arith, append_assoc, ℕ, ◌+◌, ◌≤◌}
-use Rattle.std.proofs.Common.{if◌then◌else◌, Some}
-use Rattle.std.proofs.lemmas.Bool.{lt-ltb, le-ltb}
-use Rattle.std.proofs.lemmas.List.{append-nil}
-use Rattle.bot_machine.specs.Device.{Device}
+use Rattle.std.proofs.{Common.{if◌then◌else◌, Some}, lemmas.Bool.{lt-ltb, le-ltb}, lemmas.List.append-nil, lemmas.List.Sums.sum_by-append}
+use Rattle.bot_machine.specs.{Device.Device, declared.lives.disk_state.DiskState.DiskState, Moving.{state_in, Does, MovesBy}}
+use Rattle.bot_machine.specs.{LivesValue.{is_fault, faults_armed, AreCaused}, Lifetimes.causes_in}
 use Rattle.scsi_unit.specs.Serving.{has_refused}
 use Rattle.bot_machine.proofs.Runs.{refused_events-append}
-use Rattle.medium.specs.Medium.{State}
-use Rattle.spec.specs.declared.event.Answer.{Answer}
-use Rattle.bot_machine.specs.declared.lives.disk_state.DiskState.{DiskState}
-use Rattle.spec.specs.Lives.{Action}
-use Rattle.bot_machine.specs.Moving.{state_in, Does, MovesBy}
-use Rattle.std.proofs.lemmas.List.Sums.{sum_by-append}
-use Rattle.medium.specs.Power.{faults_in}
-use Rattle.medium.specs.Sim.{Sim, state_of, ComesAfter}
+use Rattle.medium.specs.{Medium.State, Power.faults_in, Sim.{Sim, state_of, ComesAfter}}
+use Rattle.spec.specs.{declared.event.Answer.Answer, Lives.Action, Conversation.refused_events}
 use Rattle.medium.proofs.SimCalls.{keeps_power}
-use Rattle.spec.specs.Conversation.{refused_events}
-use Rattle.bot_machine.specs.LivesValue.{is_fault, faults_armed, AreCaused}
-use Rattle.bot_machine.specs.Lifetimes.{causes_in}
 
 -- where no more calls were refused, none was
 pub none_refused : (before after : State) → after.failures ≡ before.failures → false ≡ has_refused before after

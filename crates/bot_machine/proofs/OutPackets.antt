@@ -1,40 +1,28 @@
 -- What a packet to Bulk-Out does, by whether it is halted and by what is left of the exchange.
-use Rattle.std.proofs.Common.{◌≡◌, ap, ℕ, List, [], ◌∷◌, refl, subst, sym, ◌⊎◌, ◌<◌, true, false, inl, slice_range, ◌∙◌, arith}
-use Rattle.bot_machine.specs.declared.bulk_state.Taking.{Taking}
-use Rattle.bot_machine.specs.declared.bulk_state.Phase.{Phase}
+use Rattle.std.proofs.Common.{◌≡◌, ap, ℕ, List, [], ◌∷◌, refl, subst, sym, ◌⊎◌, ◌<◌, true, false, inl, slice_range, ◌∙◌, arith, rules}
+use Rattle.bot_machine.specs.{declared.bulk_state.Taking.Taking, declared.bulk_state.Phase.Phase}
 use Rattle.bot_machine.specs.declared.bulk_state.Phase.TheVariants.{Command, DataOut, DataIn, Status}
-use Rattle.std.specs.Prelude.{Option, Some, None, Result}
-use Rattle.spec.specs.declared.case.Endpoint.{Endpoint}
-use Rattle.spec.specs.declared.case.Endpoint.TheVariants as endpoint
-use Rattle.spec.specs.StatusWrapper.{status_wrapper}
-use Rattle.spec.specs.Sense.{Sense}
-use Rattle.spec.specs.Exchange.{Line, Script, sending, laid_out, in_answer, after_in}
 use Rattle.bot_machine.specs.Disk.{status_of_answer, Tells, DiskValue, over, TicksIn, Proceeds, IsStepBy, IsStep, Elapses, TakesFew}
+use Rattle.bot_machine.specs.{Acts.{CarriesOutNone, PacketCarriesOut, EventCarriesOut}, Promising.SendsBy}
+use Rattle.bot_machine.specs.{Refinement.{left_of, halt_of, IsInPhase}, Reading.{LooksBesides, LooksIn, ReadsAt}}
+use Rattle.bot_machine.specs.{Serving.{ServesPacket, HandsOn}, declared.bulk_state.BulkState.BulkState}
+use Rattle.std.specs.Prelude.{Option, Some, None, Result}
+use Rattle.spec.specs.{declared.case.Endpoint.Endpoint, StatusWrapper.status_wrapper, Sense.Sense}
+use Rattle.spec.specs.{Exchange.{Line, Script, sending, laid_out, in_answer, after_in}, Book.Book}
+use Rattle.spec.specs.{Rules.{UnitState, CarriesOut, Ticks, Intention}, declared.event.Event.Event, declared.event.Answer.Answer}
+use Rattle.spec.specs.{Conversation.{OutStep, SetupStep}, UnitConversation.{Intends, UnitStep, write_of_packet, write_of_event, on_line}}
+use Rattle.spec.specs.Packets.{packets_of}
+use Rattle.spec.specs.declared.case.Endpoint.TheVariants as endpoint
 use Rattle.medium.specs.Medium.{State, IsSound}
 use Rattle.medium.proofs.SectorsRead.{no_looks, looks_wider}
-use Rattle.scsi_unit.specs.Background.{Work, Settle, is_dead}
-use Rattle.scsi_unit.specs.Reading.{first_home_of}
-use Rattle.spec.specs.Book.{Book}
-use Rattle.spec.specs.Rules.{UnitState, CarriesOut, Ticks, Intention}
-use Rattle.scsi_unit.specs.Calls.{IsBounded}
+use Rattle.scsi_unit.specs.{Background.{Work, Settle}, Reading.first_home_of, Calls.IsBounded}
 use Rattle.scsi_unit.specs.Serving.{has_refused, IsSparing, TicksOver}
 use Rattle.scsi_unit.specs.UnitValue.{UnitValue, unit_limit, state_of, FitsUnit, IsOfSize, intention_of}
-use Rattle.spec.specs.declared.event.Event.{Event}
 use Rattle.spec.specs.declared.event.Event.TheVariants as event
-use Rattle.spec.specs.declared.event.Answer.{Answer}
 use Rattle.spec.specs.declared.event.Answer.TheVariants as answer
-use Rattle.spec.specs.Conversation.{OutStep, SetupStep}
-use Rattle.spec.specs.UnitConversation.{Intends, UnitStep, write_of_packet, write_of_event, on_line}
-use Rattle.bot_machine.specs.Acts.{CarriesOutNone, PacketCarriesOut, EventCarriesOut}
 use Rattle.spec.specs.declared.intent.Intent.TheVariants as intent
-use Rattle.bot_machine.specs.Promising.{SendsBy}
-use Rattle.bot_machine.specs.Refinement.{left_of, halt_of, IsInPhase}
-use Rattle.spec.specs.Packets.{packets_of}
-use Rattle.bot_machine.specs.Reading.{LooksBesides, LooksIn, ReadsAt}
-use Rattle.bot_machine.specs.Serving.{ServesPacket, HandsOn}
 use Rattle.bot_machine.proofs.UnitLaws.{few_ticks, none_made, step_made, staying_so, proceeding, fits_size, promises_by_book, quiet_by_book}
 use Rattle.bot_machine.proofs.Wrappers.{besides, waits_to_send_none}
-use Rattle.bot_machine.specs.declared.bulk_state.BulkState.{BulkState}
 
 pub one_taking : (taking other : Taking) → DataOut taking ≡ DataOut other → taking ≡ other
 one_taking taking other same = cc
@@ -63,16 +51,7 @@ pub no_time : (m : State) → Elapses m m
 no_time m = record { failures_stay = omega arith; size_stays = refl }
 
 pub no_calls : {M : Type 0} (m : State) (unit : UnitValue M) → TakesFew m m unit unit
-no_calls m unit =
-    record {
-      calls = omega arith;
-      sent = omega arith;
-      one_batch = λ all. none_made m unit;
-      layout_stays = refl;
-      policy_stays = refl;
-      headroom = λ on head live. head;
-      faulted = λ dead. (refl, dead);
-    }
+no_calls m unit = let none = none_made m unit in grind (arith, none)
 
 -- nothing was written
 pub sends_none : {M : Type 0} (m : State) (unit : UnitValue M) (by : UnitState) (CarriedOut : List ℕ → List ℕ → Type 0)
@@ -195,23 +174,14 @@ ticked work before after old new ticks line = record {
   rests = λ book fits none. absurd (none tt);
   ticks = (ticks, line);
   spares = λ book fits block taken carries. absurd carries;
-  few = record {
-    calls = few_ticks before.calls after.calls old.unit ticks.few;
-    sent = omega (arith, ticks.sent);
-    one_batch = λ all. step_made before after old.unit ticks.sent;
-    layout_stays = ticks.layout_stays;
-    policy_stays = ticks.policy_stays;
-    headroom = ticks.headroom;
-    faulted = λ dead. ((ticks.faulted dead).1.calls_stay, ap is_dead (ticks.faulted dead).0 ∙ dead);
-  };
+  few =
+      let few = few_ticks before.calls after.calls old.unit ticks.few in
+      let one = step_made before after old.unit ticks.sent in grind (arith, few, one, ticks);
   plain = λ book size none. step_made before after old.unit ticks.sent;
   quiet = λ book size loud. absurd loud;
   looks = looks_wider (λ s. s < first_home_of old.unit) (λ s. (s < first_home_of old.unit) ⊎ ReadsAt old event.Tick s) before after
       (λ s low. inl low) ticks.looks;
-  elapses = record {
-    failures_stay = ticks.failures_stay;
-    size_stays = ticks.size_stays;
-  };
+  elapses = search (rules, ticks);
   limit_stays = ticks.limit_stays;
   packets_stay = ap (λ (l : Line). l.packet_size) line;
 }
@@ -262,29 +232,16 @@ pub unit_stays : {M : Type 0} (state : M → State) (Follows : M → M → Type 
     (from to : BulkState)
     → ((m : M) → Follows m m) → IsInPhase (unit_limit unit) (intention_of unit) to.phase → to.size ≡ from.size
     → HandsOn state Follows At unit unit from to
-unit_stays state Follows At unit from to itself phase size = record {
-  phase = phase;
-  limit = refl;
-  size = size;
-  few = no_calls (state unit.store.medium) unit;
-  looks = none_besides At (state unit.store.medium) unit;
-  elapses = no_time (state unit.store.medium);
-  follows = itself unit.store.medium;
-}
+unit_stays state Follows At unit from to itself phase size =
+    let m = state unit.store.medium in search (rules, no_calls m unit, none_besides At m unit, no_time m, itself, phase, size)
 
 -- what is passed on where this holds of a home sector that was read, too
 pub passes_wider : {M : Type 0} (state : M → State) (Follows : M → M → Type 0) (At Other : ℕ → Type 0) (old new : UnitValue M)
     (from as_large to : BulkState) → from.size ≡ as_large.size → ((s : ℕ) → At s → Other s) → HandsOn state Follows At old new from to
     → HandsOn state Follows Other old new as_large to
-passes_wider state Follows At Other old new from as_large to same wider p = record {
-  phase = p.phase;
-  limit = p.limit;
-  size = p.size ∙ same;
-  few = p.few;
-  looks = besides (state old.store.medium) (state new.store.medium) old At Other wider p.looks;
-  elapses = p.elapses;
-  follows = p.follows;
-}
+passes_wider state Follows At Other old new from as_large to same wider p =
+    let looks = besides (state old.store.medium) (state new.store.medium) old At Other wider p.looks in
+    let size = p.size ∙ same in search (rules, looks, size, p)
 
 -- a command that waits for its data sends none, and no read was made
 pub ruleset nothing_read = (waits_to_send_none, none_besides)

@@ -1,20 +1,14 @@
 -- Data in packets: cut off its front, sent one after another, taken into the front of a buffer.
-use Rattle.std.proofs.Common.{◌<◌, ◌≤◌, arith, ◌≡◌, ℕ, suc, ◌+◌, ◌-◌, ◌/◌, min, List, [], ◌∷◌, length, take, drop, slice_range}
-use Rattle.std.proofs.Common.{sym, ap, ◌∙◌, length-drop, length-take, Bool, false, refl, nat_le, ◌++◌}
-use Rattle.spec.specs.declared.packet_size.PacketSize.{PacketSize}
-use Rattle.spec.specs.declared.packet_size.PacketSize.TheVariants.{Full64, High512}
-use Rattle.spec.specs.Packets.{bytes_of, packets_of, cut_into}
-use Rattle.std.proofs.Math.Nat.{add-div_right, div-eq_of_lt}
-use Rattle.std.proofs.lemmas.List.{take-take, drop-take, drop-drop, drop_all, take_all, take-append-le}
-use Rattle.std.specs.Prelude.{None, Option, if◌then◌else◌, ◌==◌, ◌&&◌}
-use Rattle.spec.specs.declared.case.Case.{Case}
-use Rattle.spec.specs.declared.case.Endpoint.{Endpoint}
-use Rattle.spec.specs.declared.event.Answer.TheVariants.{Data}
-use Rattle.bot_machine.specs.Refinement.{halt_of, sent_size}
-use Rattle.bot_machine.specs.Serving.{LiesIn}
-use Rattle.spec.specs.Exchange.{Line, Script, sending, in_answer, after_in, laid_out, sent_in, moment_of, after_data}
-use Rattle.std.proofs.Math.Seq.{take-append-add}
+use Rattle.std.proofs.Common.{◌<◌, ◌≤◌, arith, ◌≡◌, ℕ, suc, ◌+◌, ◌-◌, ◌/◌, min, List, [], ◌∷◌, length, take, drop, slice_range, sym, ap}
+use Rattle.std.proofs.{Common.{◌∙◌, length-drop, length-take, Bool, false, refl, nat_le, ◌++◌}, Math.Nat.{add-div_right, div-eq_of_lt}}
+use Rattle.std.proofs.{lemmas.List.{take-take, drop-take, drop-drop, drop_all, take_all, take-append-le}, Math.Seq.take-append-add}
 use Rattle.std.proofs.lemmas.Bool.Decides.{nat_tests}
+use Rattle.spec.specs.{declared.packet_size.PacketSize.PacketSize, declared.packet_size.PacketSize.TheVariants.{Full64, High512}}
+use Rattle.spec.specs.{Packets.{bytes_of, packets_of, cut_into}, declared.case.Case.Case, declared.case.Endpoint.Endpoint}
+use Rattle.spec.specs.declared.event.Answer.TheVariants.{Data}
+use Rattle.spec.specs.Exchange.{Line, Script, sending, in_answer, after_in, laid_out, sent_in, moment_of, after_data}
+use Rattle.std.specs.Prelude.{None, Option, if◌then◌else◌, ◌==◌, ◌&&◌}
+use Rattle.bot_machine.specs.{Refinement.{halt_of, sent_size}, Serving.LiesIn}
 
 pub some_bytes : (size : PacketSize) → 0 < bytes_of size
 some_bytes Full64 = omega arith

@@ -1,31 +1,19 @@
 -- A run goes on by one step, and tells statuses by turns.
 use Rattle.std.proofs.Common.{◌≡◌, inl, inr, ℕ, Bool, true, false, List, [], ◌∷◌, ◌++◌, Option, Some, None, Result, Ok, Err, refl, ap, ◌⊎◌}
-use Rattle.std.proofs.Common.{if◌then◌else◌, arith, ◌+◌, ◌≤◌, nat_lt, sym, subst, ◌∙◌, ⊎_elim}
-use Rattle.spec.specs.declared.wrapper.Cbw.{Cbw}
-use Rattle.spec.specs.declared.way.Way.{Way}
-use Rattle.spec.specs.declared.case.Case.{Case}
-use Rattle.spec.specs.declared.case.Endpoint.{Endpoint}
-use Rattle.spec.specs.declared.status.Status.{Status}
-use Rattle.spec.specs.declared.status.Status.TheVariants.{Passed, Failed}
-use Rattle.spec.specs.declared.event.Event.{Event}
+use Rattle.std.proofs.{Common.{if◌then◌else◌, arith, ◌+◌, ◌≤◌, nat_lt, sym, subst, ◌∙◌, ⊎_elim}, lemmas.Bool.Decides.nat_tests}
+use Rattle.spec.specs.{declared.wrapper.Cbw.Cbw, declared.way.Way.Way, declared.case.Case.Case, declared.case.Endpoint.Endpoint}
+use Rattle.spec.specs.{declared.status.Status.Status, declared.status.Status.TheVariants.{Passed, Failed}, declared.event.Event.Event}
+use Rattle.spec.specs.{declared.event.Answer.Answer, CommandWrapper.field_at, Requests.Request, Exchange.{Script, finished, taking}}
+use Rattle.spec.specs.Exchange.{sending, Line, laid_out, Moment, moment_of, told, told_at_once, after_packet, after_request, sent_in}
+use Rattle.spec.specs.{Exchange.case_if_failed, Conversation.{Conversation, Begins, OutStep, SetupStep, Step, Run, refused_events}}
+use Rattle.spec.specs.{Book.Book, Rules.{UnitState, CarriesOut, Ticks}, UnitConversation.{Intends, write_of_event, UnitStep, UnitRun}}
 use Rattle.spec.specs.declared.event.Event.TheVariants as event
-use Rattle.spec.specs.declared.event.Answer.{Answer}
-use Rattle.spec.specs.CommandWrapper.{field_at}
-use Rattle.spec.specs.Requests.{Request}
-use Rattle.spec.specs.Exchange.{Script, finished, taking, sending, Line, laid_out, Moment, moment_of, told, told_at_once, after_packet}
-use Rattle.spec.specs.Exchange.{after_request, sent_in, case_if_failed}
-use Rattle.spec.specs.Conversation.{Conversation, Begins, OutStep, SetupStep, Step, Run, refused_events}
 use Rattle.bot_machine.specs.Turns.{Mark, marks_of_out, marks_of_in, marks_of_setup, marks_of, IsStatusOf, ByTurns, marks_in}
+use Rattle.bot_machine.specs.Disk.{DiskValue, over, FoundIn, RunsOn, IsStep, StepsThrough, IsRun}
 use Rattle.std.specs.Prelude.{Result}
-use Rattle.std.proofs.lemmas.Bool.Decides.{nat_tests}
 use Rattle.medium.specs.Medium.{State, Image, IsSound}
 use Rattle.medium.proofs.Moments.{started, joined, weaker}
-use Rattle.spec.specs.Book.{Book}
-use Rattle.scsi_unit.specs.Books.{FoundWith}
-use Rattle.spec.specs.Rules.{UnitState, CarriesOut, Ticks}
-use Rattle.scsi_unit.specs.Serving.{has_refused}
-use Rattle.spec.specs.UnitConversation.{Intends, write_of_event, UnitStep, UnitRun}
-use Rattle.bot_machine.specs.Disk.{DiskValue, over, FoundIn, RunsOn, IsStep, StepsThrough, IsRun}
+use Rattle.scsi_unit.specs.{Books.FoundWith, Serving.has_refused}
 use Rattle.bot_machine.proofs.UnitLaws.{between_calls}
 
 -- what is left of an exchange tells the status of the command with this tag, or nothing is left to tell

@@ -1,33 +1,20 @@
 -- What a host sees where the medium refuses nothing and stamps are left: neither steps in the background nor when records go home.
 use Rattle.std.proofs.Common.{◌≡◌, inl, inr, ℕ, Bool, true, false, List, [], sym, ap, ◌∙◌, arith, ◌∷◌, refl, subst}
 use Rattle.std.proofs.lemmas.Bool.Decides.{nat_tests}
-use Rattle.spec.specs.declared.wrapper.Cbw.{Cbw}
-use Rattle.spec.specs.declared.way.Way.{Way}
-use Rattle.spec.specs.declared.case.Case.{Case}
-use Rattle.spec.specs.Cases.{IsCase}
-use Rattle.spec.specs.CommandWrapper.{SpellsCommand}
-use Rattle.bot_machine.proofs.Wrappers.{one_wrapper, one_case, at_once-writes_none}
-use Rattle.spec.specs.Book.{StampsOut, Book}
-use Rattle.spec.specs.Rules.{UnitState, CarriesOut, Ticks, write_in_progress, with_progress, opened_unit}
-use Rattle.spec.specs.declared.event.Event.{Event}
-use Rattle.spec.specs.declared.event.Event.TheVariants as event
-use Rattle.spec.specs.declared.event.Answer.{Answer}
-use Rattle.spec.specs.Requests.{Request, setup_packet}
+use Rattle.spec.specs.{declared.wrapper.Cbw.Cbw, declared.way.Way.Way, declared.case.Case.Case, Cases.IsCase, CommandWrapper.SpellsCommand}
+use Rattle.spec.specs.{Book.{StampsOut, Book}, Rules.{UnitState, CarriesOut, Ticks, write_in_progress, with_progress, opened_unit}}
+use Rattle.spec.specs.{declared.event.Event.Event, declared.event.Answer.Answer, Requests.{Request, setup_packet}}
 use Rattle.spec.specs.Exchange.{Line, Script, finished, taking, sending, Moment, at_once, moment_of, at_rest}
 use Rattle.spec.specs.Conversation.{Conversation, IsCarriedOut, Begins, OpensExchange, Takes, OutStep, SetupStep}
-use Rattle.spec.specs.UnitConversation.{Intends, write_of_packet, UnitStep, UnitRun, on_line}
+use Rattle.spec.specs.{UnitConversation.{Intends, write_of_packet, UnitStep, UnitRun, on_line}, Lives.Action}
+use Rattle.bot_machine.proofs.{Wrappers.{one_wrapper, one_case, at_once-writes_none}, UnitLaws.{is_function, ticks_only, knows_images}}
+use Rattle.bot_machine.proofs.Moved.{moves_keep}
+use Rattle.spec.specs.declared.event.Event.TheVariants as event
 use Rattle.bot_machine.specs.Striking.{TicksAreStruck, HasStamps, without_ticks, answers_without_ticks, IsUntroubled}
-use Rattle.bot_machine.proofs.UnitLaws.{is_function, ticks_only, knows_images}
+use Rattle.bot_machine.specs.{declared.lives.disk_state.DiskState.DiskState, Device.Device, Disk.{DiskValue, over}, Opening.IsOpened}
+use Rattle.bot_machine.specs.{Moving.Does, Policy.{DiskRetires, KeepsPolicy, PolicyIsUnseen}}
 use Rattle.medium.specs.Medium.{State}
 use Rattle.scsi_unit.specs.UnitValue.{unit_limit, state_of as unit_state}
-use Rattle.bot_machine.specs.declared.lives.disk_state.DiskState.{DiskState}
-use Rattle.bot_machine.specs.Device.{Device}
-use Rattle.bot_machine.specs.Disk.{DiskValue, over}
-use Rattle.bot_machine.specs.Opening.{IsOpened}
-use Rattle.spec.specs.Lives.{Action}
-use Rattle.bot_machine.specs.Moving.{Does}
-use Rattle.bot_machine.proofs.Moved.{moves_keep}
-use Rattle.bot_machine.specs.Policy.{DiskRetires, KeepsPolicy, PolicyIsUnseen}
 
 -- conversations are the same where line and unit are
 pub same_conversation : (one other : Conversation UnitState) → one.line ≡ other.line → one.unit ≡ other.unit → one ≡ other

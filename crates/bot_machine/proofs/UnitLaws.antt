@@ -1,25 +1,16 @@
 -- What the laws of the unit say of the commands and steps that a disk has it do, and how it proceeds by these.
 use Rattle.std.proofs.Common.{◌≡◌, ℕ, List, None, true, ap, ◌∙◌, refl, subst}
 use Rattle.std.specs.Prelude.{Result, Option, None}
-use Rattle.spec.specs.Book.{Book}
-use Rattle.spec.specs.Sense.{Sense}
-use Rattle.spec.specs.Rules.{UnitState}
+use Rattle.spec.specs.{Book.Book, Sense.Sense, Rules.UnitState, StatusWrapper.status_wrapper, Blocks.Write}
 pub use Rattle.scsi_unit.proofs.UnitLaws.{is_function, keeps_writes, keeps_intentions, ticks_only, stays_faulted, between_calls}
 pub use Rattle.scsi_unit.proofs.UnitLaws.{limit_between_calls, start_keeps_limit, fits_size, knows_images, few_ticks, intends_by_book}
 pub use Rattle.scsi_unit.proofs.UnitLaws.{promises_by_book, quiet_by_book, none_made, step_made, steps_to_write, written_live, ahead_fewer}
 pub use Rattle.scsi_unit.proofs.UnitLaws.{both_empty, plain_quiet}
-use Rattle.spec.specs.StatusWrapper.{status_wrapper}
-use Rattle.medium.specs.Medium.{State, IsSound}
-use Rattle.scsi_unit.specs.Background.{is_dead}
-use Rattle.scsi_unit.specs.Serving.{IsSparing}
-use Rattle.scsi_unit.specs.UnitValue.{UnitValue, state_of, FitsUnit}
+use Rattle.medium.specs.{Medium.{State, IsSound}, Moments.LeavesOnly}
+use Rattle.scsi_unit.specs.{Background.is_dead, Serving.IsSparing, UnitValue.{UnitValue, state_of, FitsUnit}, Books.{MayFind, FoundWith}}
 use Rattle.scsi_unit.proofs.FaultedUnit.{wants_none}
-use Rattle.bot_machine.specs.Faulting.{TurnsGoodAlone}
-use Rattle.spec.specs.Blocks.{Write}
-use Rattle.medium.specs.Moments.{LeavesOnly}
+use Rattle.bot_machine.specs.{Faulting.TurnsGoodAlone, Disk.Proceeds}
 use Rattle.medium.proofs.Moments.{started}
-use Rattle.scsi_unit.specs.Books.{MayFind, FoundWith}
-use Rattle.bot_machine.specs.Disk.{Proceeds}
 
 -- a faulted unit carries out a command without a call of the medium
 pub faulted_rests : {M : Type 0} (state : M → State) (block taken : List ℕ) (old : UnitValue M) (answer : Result (List ℕ) Sense)

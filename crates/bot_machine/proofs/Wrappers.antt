@@ -1,33 +1,21 @@
 -- A packet that spells a command block wrapper: the one exchange that it begins, and what that reads.
 use Rattle.std.proofs.Common.{◌≡◌, ◌≢◌, ℕ, List, arith, ◌⊎◌, ◌<◌, ⊎_elim, inl, inr, Option, Some, None, MatchOption, false, sym, ap, ◌∙◌}
 use Rattle.std.proofs.Common.{subst, Bool, [], refl}
-use Rattle.spec.specs.declared.wrapper.Cbw.{Cbw}
-use Rattle.spec.specs.declared.way.Way.{Way}
-use Rattle.spec.specs.declared.way.Way.TheVariants.{In, Out}
-use Rattle.spec.specs.declared.case.Case.{Case}
-use Rattle.spec.specs.declared.case.Outcome.{Outcome}
-use Rattle.spec.specs.CommandWrapper.{SpellsCommand, SpellsNone}
-use Rattle.spec.specs.Cases.{IsCase}
+use Rattle.spec.specs.{declared.wrapper.Cbw.Cbw, declared.way.Way.Way, declared.way.Way.TheVariants.{In, Out}, declared.case.Case.Case}
+use Rattle.spec.specs.{declared.case.Outcome.Outcome, CommandWrapper.{SpellsCommand, SpellsNone}, Cases.IsCase}
 use Rattle.spec.specs.Exchange.{at_once, after_data, moment_of, finished, Line}
-use Rattle.bot_machine.specs.Cases.{IsFit}
+use Rattle.spec.specs.Rules.{Intention, UnitState, CarriesOut, Ticks, intention, write_in_progress}
+use Rattle.spec.specs.{UnitConversation.{way_of, Intends, on_line}, Book.Book, Conversation.{Conversation, Begins, OpensExchange}}
+use Rattle.bot_machine.specs.{Cases.IsFit, declared.exchange.Exchange.Exchange, Disk.DiskValue, Reading.{sectors_in, sectors_for}}
+use Rattle.bot_machine.specs.Reading.{WrapperReads, WrapperReadsNone, ReadsHome, ReadsNoHome, LooksBesides, WrapperReadsAt}
+use Rattle.bot_machine.specs.{Serving.IsBegun, Acts.CarriesOutAtOnce}
 use Rattle.medium.specs.Medium.{State}
 use Rattle.medium.proofs.SectorsRead.{looks_wider}
 use Rattle.scsi_unit.proofs.SectorsRead.{sends_none-reads_none}
-use Rattle.spec.specs.Rules.{Intention, UnitState, CarriesOut, Ticks, intention, write_in_progress}
 use Rattle.spec.specs.declared.intent.Intent.TheVariants as intent
-use Rattle.scsi_unit.specs.Reading.{first_home_of, home_sectors_of, IsOneOf}
-use Rattle.scsi_unit.specs.UnitValue.{UnitValue, intention_of, state_of, IsOfSize}
+use Rattle.scsi_unit.specs.{Reading.{first_home_of, home_sectors_of, IsOneOf}, UnitValue.{UnitValue, intention_of, state_of, IsOfSize}}
 use Rattle.scsi_unit.specs.declared.reading.HomeSectors.{HomeSectors}
-use Rattle.bot_machine.specs.declared.exchange.Exchange.{Exchange}
-use Rattle.spec.specs.UnitConversation.{way_of, Intends, on_line}
-use Rattle.bot_machine.specs.Disk.{DiskValue}
-use Rattle.bot_machine.specs.Reading.{sectors_in, sectors_for, WrapperReads, WrapperReadsNone, ReadsHome, ReadsNoHome, LooksBesides}
-use Rattle.bot_machine.specs.Reading.{WrapperReadsAt}
-use Rattle.bot_machine.specs.Serving.{IsBegun}
 use Rattle.std.specs.Prelude.{None}
-use Rattle.spec.specs.Book.{Book}
-use Rattle.spec.specs.Conversation.{Conversation, Begins, OpensExchange}
-use Rattle.bot_machine.specs.Acts.{CarriesOutAtOnce}
 use Rattle.bot_machine.proofs.UnitLaws.{intends_by_book, keeps_intentions}
 
 pub one_wrapper : (packet : List ℕ) (one other : Cbw) → SpellsCommand packet one → SpellsCommand packet other → one ≡ other

@@ -1,18 +1,12 @@
 -- What an event has the unit do: carry out a command, or make a step in the background.
 use Rattle.spec.specs.declared.event.Event.TheVariants as event
 use Rattle.std.specs.Prelude.{◌≡◌, ⊤, ◌≤◌, ℕ, Bool, true, false, List, [], ◌++◌, length, take}
-use Rattle.spec.specs.declared.wrapper.Cbw.{Cbw}
-use Rattle.spec.specs.declared.way.Way.{Way}
-use Rattle.spec.specs.declared.case.Case.{Case}
-use Rattle.spec.specs.CommandWrapper.{SpellsCommand}
-use Rattle.spec.specs.Cases.{IsCase, size_of_way}
-use Rattle.spec.specs.Book.{Book}
-use Rattle.spec.specs.Rules.{UnitState}
-use Rattle.scsi_unit.specs.UnitValue.{UnitValue, IsOfSize}
-use Rattle.spec.specs.declared.event.Event.{Event}
+use Rattle.spec.specs.{declared.wrapper.Cbw.Cbw, declared.way.Way.Way, declared.case.Case.Case}
+use Rattle.spec.specs.{CommandWrapper.SpellsCommand, Cases.{IsCase, size_of_way}, Book.Book}
+use Rattle.spec.specs.{Rules.UnitState, declared.event.Event.Event}
 use Rattle.spec.specs.Exchange.{Script, finished, taking, sending, at_once, moment_of}
-use Rattle.spec.specs.Conversation.{Conversation}
-use Rattle.spec.specs.UnitConversation.{Intends}
+use Rattle.spec.specs.{Conversation.Conversation, UnitConversation.Intends}
+use Rattle.scsi_unit.specs.UnitValue.{UnitValue, IsOfSize}
 
 -- the packet spells the wrapper of a command that is carried out at once, over no bytes
 pub record CarriesOutAtOnce (packet : List ℕ) (unit : UnitState) (block taken : List ℕ)

@@ -2,11 +2,10 @@
 use Rattle.std.specs.Prelude.{ℕ, ◌≤◌, List, length}
 use Rattle.spec.specs.declared.event.Answer.{Answer}
 use Rattle.spec.specs.declared.event.Answer.TheVariants as answer
-use Rattle.bot_machine.specs.declared.event.OutAnswer.{OutAnswer}
-use Rattle.bot_machine.specs.declared.event.OutAnswer.TheVariants as out
-use Rattle.bot_machine.specs.declared.event.InAnswer.{InAnswer}
-use Rattle.bot_machine.specs.declared.event.InAnswer.TheVariants as in_token
+use Rattle.bot_machine.specs.{declared.event.OutAnswer.OutAnswer, declared.event.InAnswer.InAnswer}
 use Rattle.bot_machine.specs.declared.event.SetupAnswer.{SetupAnswer}
+use Rattle.bot_machine.specs.declared.event.OutAnswer.TheVariants as out
+use Rattle.bot_machine.specs.declared.event.InAnswer.TheVariants as in_token
 use Rattle.bot_machine.specs.declared.event.SetupAnswer.TheVariants as setup
 
 abbrev pub answer_to_out : OutAnswer → Answer

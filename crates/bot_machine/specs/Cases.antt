@@ -2,12 +2,9 @@
 use Rattle.spec.specs.declared.case.Endpoint.TheVariants as endpoint
 use Rattle.std.specs.Prelude.{◌≡◌, ◌<◌, ◌≤◌, ◌⊎◌, ◌↔◌, ⊤, ℕ, ◌+◌, nat_le, IsTrue, if◌then◌else◌}
 use Rattle.std.specs.Prelude.{Some}
-use Rattle.spec.specs.declared.way.Way.{Way}
-use Rattle.spec.specs.declared.way.Way.TheVariants.{Nothing, In, Out}
-use Rattle.spec.specs.declared.case.Case.{Case}
-use Rattle.spec.specs.declared.case.Case.TheVariants.{C4}
-use Rattle.spec.specs.declared.case.Outcome.{Outcome}
-use Rattle.spec.specs.Cases.{IsCase, size_of_way}
+use Rattle.spec.specs.{declared.way.Way.Way, declared.way.Way.TheVariants.{Nothing, In, Out}}
+use Rattle.spec.specs.{declared.case.Case.Case, declared.case.Case.TheVariants.C4}
+use Rattle.spec.specs.{declared.case.Outcome.Outcome, Cases.{IsCase, size_of_way}}
 
 -- no direction without a byte
 abbrev pub IsWellFormed : Way → Type 0

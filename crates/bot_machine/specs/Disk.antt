@@ -2,35 +2,24 @@
 use Rattle.spec.specs.declared.event.Event.TheVariants as happens
 use Rattle.std.specs.Prelude.{⊤, ◌≡◌, ◌≤◌, ◌⊎◌, ℕ, ◌+◌, Bool, true, List, [], ◌∷◌, Option, None}
 use Rattle.std.specs.Prelude.{Result, Ok, Err}
-use Rattle.spec.specs.declared.case.Endpoint.{Endpoint}
-use Rattle.spec.specs.declared.status.Status.{Status}
+use Rattle.spec.specs.{declared.case.Endpoint.Endpoint, declared.status.Status.Status}
 use Rattle.spec.specs.declared.status.Status.TheVariants.{Passed, Failed}
-use Rattle.spec.specs.StatusWrapper.{status_wrapper}
-use Rattle.spec.specs.Blocks.{Write}
-use Rattle.medium.specs.Medium.{State, Image}
-use Rattle.medium.specs.Moments.{LeavesOnly, EachCut, IsUnchanged}
-use Rattle.medium.specs.Sent.{SendsUpTo}
-use Rattle.spec.specs.Sense.{Sense}
-use Rattle.scsi_unit.specs.Background.{Work, Settle, is_dead}
-use Rattle.spec.specs.Book.{Book}
-use Rattle.scsi_unit.specs.Books.{MayFind, FoundWith}
-use Rattle.spec.specs.Rules.{UnitState, CarriesOut, Ticks}
-use Rattle.scsi_unit.specs.Calls.{IsBounded, IsWritten, SendsOneBatch, most_calls, most_sends}
-use Rattle.scsi_unit.specs.Costs.{KeepsHeadroom}
-use Rattle.scsi_unit.specs.Serving.{has_refused, IsSparing, TicksOver}
-use Rattle.scsi_unit.specs.Starting.{layout_of}
-use Rattle.scsi_unit.specs.UnitValue.{UnitValue, unit_limit, state_of, FitsUnit, IsOfSize}
-use Rattle.spec.specs.declared.event.Event.{Event}
-use Rattle.spec.specs.declared.event.Answer.{Answer}
-use Rattle.spec.specs.declared.event.Answer.TheVariants.{Ticked}
-pub use Rattle.bot_machine.specs.DiskValue.{DiskValue}
+use Rattle.spec.specs.{StatusWrapper.status_wrapper, Blocks.Write, Sense.Sense, Book.Book}
+use Rattle.spec.specs.{Rules.{UnitState, CarriesOut, Ticks}, declared.event.Event.Event}
+use Rattle.spec.specs.{declared.event.Answer.Answer, declared.event.Answer.TheVariants.Ticked}
 use Rattle.spec.specs.Exchange.{Line, finished, sending}
 use Rattle.spec.specs.Conversation.{Conversation, refused_events, SetupStep}
-use Rattle.bot_machine.specs.Turns.{ByTurns, marks_in}
 use Rattle.spec.specs.UnitConversation.{Intends, write_of_event, UnitRun, UnitStep, on_line}
-use Rattle.bot_machine.specs.Acts.{EventCarriesOut, Acts}
-use Rattle.bot_machine.specs.Promising.{PromisesNone, QuietIn}
-use Rattle.bot_machine.specs.Reading.{LooksIn}
+use Rattle.medium.specs.{Medium.{State, Image}, Moments.{LeavesOnly, EachCut, IsUnchanged}}
+use Rattle.medium.specs.Sent.{SendsUpTo}
+use Rattle.scsi_unit.specs.{Background.{Work, Settle, is_dead}, Books.{MayFind, FoundWith}}
+use Rattle.scsi_unit.specs.Calls.{IsBounded, IsWritten, SendsOneBatch, most_calls, most_sends}
+use Rattle.scsi_unit.specs.{Costs.KeepsHeadroom, Serving.{has_refused, IsSparing, TicksOver}}
+use Rattle.scsi_unit.specs.Starting.{layout_of}
+use Rattle.scsi_unit.specs.UnitValue.{UnitValue, unit_limit, state_of, FitsUnit, IsOfSize}
+pub use Rattle.bot_machine.specs.DiskValue.{DiskValue}
+use Rattle.bot_machine.specs.{Turns.{ByTurns, marks_in}, Acts.{EventCarriesOut, Acts}}
+use Rattle.bot_machine.specs.{Promising.{PromisesNone, QuietIn}, Reading.LooksIn}
 
 -- the conversation of a disk, with a book of its life
 abbrev pub over : {M : Type 0} → DiskValue M → Book → Conversation UnitState

@@ -3,12 +3,10 @@
 use Rattle.std.specs.Prelude.{◌≡◌, ℕ, ◌==◌, Bool, false, List, if◌then◌else◌, slice_index}
 use Rattle.std.specs.Prelude.{slice_set}
 use Rattle.spec.specs.declared.status.Status.TheVariants.{Passed, Failed, PhaseError}
-use Rattle.spec.specs.StatusWrapper.{status_wrapper}
-use Rattle.spec.specs.Rules.{UnitState}
-use Rattle.scsi_unit.specs.Faulting.{faulted_state, faulted_unit}
-use Rattle.spec.specs.Conversation.{Conversation}
-use Rattle.bot_machine.specs.DiskValue.{DiskValue}
+use Rattle.spec.specs.{StatusWrapper.status_wrapper, Rules.UnitState, Conversation.Conversation}
 use Rattle.spec.specs.Exchange.{Script, Line, finished, taking, sending}
+use Rattle.scsi_unit.specs.Faulting.{faulted_state, faulted_unit}
+use Rattle.bot_machine.specs.DiskValue.{DiskValue}
 
 -- byte 12 of a status wrapper is its status, which tells that the command passed
 abbrev pub is_good : List ℕ → Bool

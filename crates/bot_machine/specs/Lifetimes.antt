@@ -1,30 +1,19 @@
 -- Whole lives, told at once.
 use Rattle.std.specs.Prelude.{◌≡◌, ◌≤◌, ℕ, ◌+◌, ◌-◌, Bool, true, false, List, [], ◌∷◌, ◌++◌, map}
 use Rattle.std.specs.Prelude.{length, sum_by, Option, None, Some}
-use Rattle.medium.specs.Sim.{Sim, state_of}
-use Rattle.medium.specs.Power.{faults_in}
-use Rattle.medium.specs.Writes.{keeps}
-use Rattle.scsi_unit.specs.StartFaults.{StartFault}
-use Rattle.spec.specs.Book.{Book}
-use Rattle.scsi_unit.specs.Books.{StandsAs}
-use Rattle.scsi_unit.specs.Serving.{has_refused}
-use Rattle.spec.specs.declared.event.Event.{Event}
-use Rattle.spec.specs.declared.event.Answer.{Answer}
-use Rattle.bot_machine.specs.declared.lives.life.Life.{Life}
-use Rattle.bot_machine.specs.Answers.{Room}
-use Rattle.bot_machine.specs.Device.{presented, Device}
-use Rattle.spec.specs.Conversation.{refused_events}
-use Rattle.bot_machine.specs.Opening.{IsNotOpened}
-use Rattle.spec.specs.Lives.{Action, arms, starts, plays, cuts}
-use Rattle.bot_machine.specs.declared.lives.disk_state.DiskState.TheVariants.{Stopped}
-use Rattle.bot_machine.specs.Moving.{MovesBy, IsRefusedStart}
-use Rattle.bot_machine.specs.LivesValue.{LivesValue, HasStarted, LivesGoOn, LivesStop, IsAtRest}
-use Rattle.bot_machine.specs.LivesValue.{OpensOn, HasLimit, FitsLives, MayRefuse, faults_armed}
-use Rattle.bot_machine.specs.LivesValue.{state_in}
-use Rattle.bot_machine.specs.Fitting.{AreWithin, LivesAreWithin}
-use Rattle.medium.specs.Medium.{CutLeaves}
+use Rattle.medium.specs.{Sim.{Sim, state_of}, Power.faults_in, Writes.keeps, Medium.CutLeaves}
+use Rattle.scsi_unit.specs.{StartFaults.StartFault, Books.StandsAs, Serving.has_refused}
 use Rattle.scsi_unit.specs.Starting.{StandsForSome}
+use Rattle.spec.specs.{Book.Book, declared.event.Event.Event, declared.event.Answer.Answer}
+use Rattle.spec.specs.{Conversation.refused_events, Lives.{Action, arms, starts, plays, cuts}}
 use Rattle.spec.specs.Promise.{first_standing, IsKept, IsKeptUpTo}
+use Rattle.bot_machine.specs.{declared.lives.life.Life.Life, Answers.Room}
+use Rattle.bot_machine.specs.{Device.{presented, Device}, Opening.IsNotOpened}
+use Rattle.bot_machine.specs.declared.lives.disk_state.DiskState.TheVariants.{Stopped}
+use Rattle.bot_machine.specs.{Moving.{MovesBy, IsRefusedStart}, LivesValue.{LivesValue, HasStarted}}
+use Rattle.bot_machine.specs.LivesValue.{LivesGoOn, LivesStop, IsAtRest, OpensOn, HasLimit}
+use Rattle.bot_machine.specs.LivesValue.{FitsLives, MayRefuse, faults_armed, state_in}
+use Rattle.bot_machine.specs.Fitting.{AreWithin, LivesAreWithin}
 
 -- what is done before the start of a life
 abbrev pub armed_by : Option ℕ → List Action

@@ -1,36 +1,26 @@
 -- Lives of a disk over a medium in memory, and where they stand.
 use Rattle.std.specs.Prelude.{◌≡◌, ◌↔◌, ℕ, ◌+◌, ◌^◌, ◌≤◌, ◌<◌, ⊤, Bool, true, false, List, [], ◌∷◌}
 use Rattle.std.specs.Prelude.{◌++◌, Option, None, Some, count_by, Result, OnOk, IfErr}
-use Rattle.medium.specs.Medium.{Image}
-use Rattle.medium.specs.Moments.{EachCut}
-use Rattle.medium.specs.Power.{faults_in, powered}
-use Rattle.medium.specs.Tally.{none}
+use Rattle.medium.specs.{Medium.Image, Moments.EachCut, Power.{faults_in, powered}, Tally.none}
 use Rattle.medium.specs.Sim.{Sim, state_of, ComesAfter}
 use Rattle.scsi_unit.specs.StartFaults.{StartFault, NoMemory, Read, Write, Flush, BadSuper}
 use Rattle.scsi_unit.specs.StartFaults.{BadVersion, BadSize, BadHead, StampsUsedUp, LogTooSmall}
-use Rattle.scsi_unit.specs.Serving.{has_refused}
-use Rattle.scsi_unit.specs.Starting.{Stands}
+use Rattle.scsi_unit.specs.{Serving.has_refused, Starting.Stands, Books.{StandsAs, MayFind}}
 -- the limit of a disk is that of the image that it starts on
 pub use Rattle.scsi_unit.specs.Starting.{HasLimit}
 pub use Rattle.bot_machine.specs.Moving.{medium_in, state_in}
 use Rattle.bot_machine.specs.Moving.{MovesBy, IsRefusedStart}
--- a first life over a medium opens with a book as its unit does
-pub use Rattle.scsi_unit.specs.Starting.{OpensOn}
-use Rattle.spec.specs.Book.{Book}
-use Rattle.scsi_unit.specs.Books.{StandsAs, MayFind}
-use Rattle.spec.specs.Rules.{UnitState}
-use Rattle.spec.specs.declared.event.Event.{Event}
-use Rattle.spec.specs.declared.event.Answer.{Answer}
-use Rattle.spec.specs.declared.event.Answer.TheVariants.{Off}
 use Rattle.bot_machine.specs.declared.lives.disk_state.DiskState.{DiskState}
 use Rattle.bot_machine.specs.declared.lives.disk_state.DiskState.TheVariants.{Stopped, Running}
-use Rattle.spec.specs.Conversation.{Conversation, refused_events}
-use Rattle.bot_machine.specs.Device.{presented, Device}
-use Rattle.bot_machine.specs.Fitting.{IsWithin}
-use Rattle.bot_machine.specs.Disk.{DiskValue, over, FitsDisk}
-use Rattle.bot_machine.specs.Opening.{IsNotOpened}
-use Rattle.spec.specs.Lives.{Action, Place, before_first, between, runs, off, Standing, Opens, arms}
-use Rattle.spec.specs.Lives.{fails, starts, plays, LivesRun}
+use Rattle.bot_machine.specs.{Device.{presented, Device}, Fitting.IsWithin}
+use Rattle.bot_machine.specs.{Disk.{DiskValue, over, FitsDisk}, Opening.IsNotOpened}
+-- a first life over a medium opens with a book as its unit does
+pub use Rattle.scsi_unit.specs.Starting.{OpensOn}
+use Rattle.spec.specs.{Book.Book, Rules.UnitState, declared.event.Event.Event}
+use Rattle.spec.specs.{declared.event.Answer.Answer, declared.event.Answer.TheVariants.Off}
+use Rattle.spec.specs.{Conversation.{Conversation, refused_events}, Lives.{Action, Place}}
+use Rattle.spec.specs.Lives.{before_first, between, runs, off, Standing, Opens, arms, fails, starts}
+use Rattle.spec.specs.Lives.{plays, LivesRun}
 use Rattle.spec.specs.Promise as promise
 
 -- what is seen of lives: what disk it is, and its medium, with the disk where one runs

@@ -1,17 +1,14 @@
 -- What is done over lives to the disk itself and to its medium, action by action.
 use Rattle.std.specs.Prelude.{◌≡◌, ℕ, Bool, true, false, List, [], ◌∷◌, ◌++◌, if◌then◌else◌}
-use Rattle.medium.specs.Medium.{State}
-use Rattle.medium.specs.Sim.{Sim, state_of, IsCut, IsFused, IsFailing, ComesAfter}
+use Rattle.medium.specs.{Medium.State, Sim.{Sim, state_of, IsCut, IsFused, IsFailing, ComesAfter}}
 use Rattle.scsi_unit.specs.StartFaults.{StartFault}
 pub use Rattle.scsi_unit.specs.Serving.{has_refused}
-use Rattle.spec.specs.declared.event.Event.{Event}
-use Rattle.spec.specs.declared.event.Answer.{Answer}
+use Rattle.spec.specs.{declared.event.Event.Event, declared.event.Answer.Answer}
 use Rattle.spec.specs.declared.event.Answer.TheVariants.{Off}
+use Rattle.spec.specs.Lives.{Action, arms, fails, starts, plays, cuts}
 use Rattle.bot_machine.specs.declared.lives.disk_state.DiskState.{DiskState}
 use Rattle.bot_machine.specs.declared.lives.disk_state.DiskState.TheVariants.{Stopped, Running}
-use Rattle.bot_machine.specs.Device.{Device}
-use Rattle.bot_machine.specs.Disk.{DiskValue, IsStep, IsRearmed}
-use Rattle.spec.specs.Lives.{Action, arms, fails, starts, plays, cuts}
+use Rattle.bot_machine.specs.{Device.Device, Disk.{DiskValue, IsStep, IsRearmed}}
 use Rattle.bot_machine.specs.Opening.{IsOpened, IsNotOpened, StartLeaves}
 
 -- the medium of a disk, or the medium alone

@@ -1,14 +1,11 @@
 -- Whether an event has a command carried out that promises, and whether it asks the medium for any
 -- write or flush.
 use Rattle.std.specs.Prelude.{◌≡◌, Bool, true, false, List, ℕ}
-use Rattle.medium.specs.Medium.{State}
-use Rattle.medium.specs.Sent.{SendsUpTo}
-use Rattle.spec.specs.declared.event.Event.{Event}
-use Rattle.spec.specs.Conversation.{Conversation}
+use Rattle.medium.specs.{Medium.State, Sent.SendsUpTo}
+use Rattle.spec.specs.{declared.event.Event.Event, Conversation.Conversation}
 use Rattle.spec.specs.Rules.{UnitState, checked}
 use Rattle.spec.specs.declared.event.Event.TheVariants as event
-use Rattle.scsi_unit.specs.Calls.{Cached, SendsOneBatch}
-use Rattle.scsi_unit.specs.Promising.{promises_for, IsQuietFor}
+use Rattle.scsi_unit.specs.{Calls.{Cached, SendsOneBatch}, Promising.{promises_for, IsQuietFor}}
 use Rattle.scsi_unit.specs.UnitValue.{UnitValue}
 use Rattle.bot_machine.specs.Acts.{EventCarriesOut}
 

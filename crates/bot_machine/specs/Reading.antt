@@ -1,21 +1,15 @@
 -- Which home sectors an event reads, and which sectors its reads name.
 use Rattle.std.specs.Prelude.{◌≡◌, ◌⊎◌, ◌<◌, ℕ, List, Option, Some, None, IfSome, false}
 use Rattle.medium.specs.Medium.{State, LooksOnly}
-use Rattle.spec.specs.declared.wrapper.Cbw.{Cbw}
-use Rattle.spec.specs.declared.case.Case.{Case}
-use Rattle.spec.specs.declared.case.Case.TheVariants.{C5, C6}
-use Rattle.spec.specs.Cases.{IsCase}
-use Rattle.spec.specs.CommandWrapper.{SpellsCommand}
-use Rattle.scsi_unit.specs.Reading.{first_home_of, home_sectors_of, read_of, IsOneOf, AreHome}
-use Rattle.scsi_unit.specs.Serving.{command_for}
-use Rattle.scsi_unit.specs.UnitValue.{UnitValue, unit_limit, intention_of}
-use Rattle.scsi_unit.specs.declared.reading.HomeSectors.{HomeSectors}
-use Rattle.spec.specs.declared.event.Event.{Event}
-use Rattle.spec.specs.declared.event.Event.TheVariants as happens
-use Rattle.bot_machine.specs.declared.exchange.Exchange.{Exchange}
-use Rattle.bot_machine.specs.DiskValue.{DiskValue}
-use Rattle.spec.specs.Exchange.{finished}
+use Rattle.spec.specs.{declared.wrapper.Cbw.Cbw, declared.case.Case.Case}
+use Rattle.spec.specs.{declared.case.Case.TheVariants.{C5, C6}, Cases.IsCase}
+use Rattle.spec.specs.{CommandWrapper.SpellsCommand, declared.event.Event.Event, Exchange.finished}
 use Rattle.spec.specs.UnitConversation.{way_of}
+use Rattle.scsi_unit.specs.Reading.{first_home_of, home_sectors_of, read_of, IsOneOf, AreHome}
+use Rattle.scsi_unit.specs.{Serving.command_for, UnitValue.{UnitValue, unit_limit, intention_of}}
+use Rattle.scsi_unit.specs.declared.reading.HomeSectors.{HomeSectors}
+use Rattle.spec.specs.declared.event.Event.TheVariants as happens
+use Rattle.bot_machine.specs.{declared.exchange.Exchange.Exchange, DiskValue.DiskValue}
 
 -- the home sectors of the blocks that a command block would have read
 abbrev pub sectors_for : {M : Type 0} → UnitValue M → List ℕ → Option HomeSectors

@@ -1,12 +1,13 @@
 -- What the disk's fields stand for.
 use Rattle.std.specs.Prelude.{◌≡◌, ◌≢◌, ⊤, ◌≤◌, ◌<◌, ℕ, ◌-◌, ◌*◌, min, Bool, true, false, List, []}
 use Rattle.std.specs.Prelude.{take, length, slice_range, Option, Some, None, ◌+◌}
-use Rattle.spec.specs.declared.case.Case.{Case}
-use Rattle.spec.specs.declared.case.Case.TheVariants.{C5, C6}
-use Rattle.spec.specs.declared.case.Endpoint.{Endpoint}
+use Rattle.spec.specs.{declared.case.Case.Case, declared.case.Case.TheVariants.{C5, C6}}
+use Rattle.spec.specs.{declared.case.Endpoint.Endpoint, Cases.{IsCase, size_of_way}}
+use Rattle.spec.specs.{Rules.Intention, Packets.{bytes_of, packets_of}}
+use Rattle.spec.specs.Requests.{Request, mass_storage_reset, get_max_lun, clear_halt, get_status}
+use Rattle.spec.specs.Exchange.{Script, Line, finished, taking, sending, Moment, at_once}
+use Rattle.spec.specs.Exchange.{after_data, never, moment_of, laid_out}
 use Rattle.spec.specs.declared.case.Endpoint.TheVariants as endpoint
-use Rattle.spec.specs.Cases.{IsCase, size_of_way}
-use Rattle.spec.specs.Rules.{Intention}
 use Rattle.spec.specs.declared.intent.Intent.TheVariants as intent
 use Rattle.bot_machine.specs.declared.exchange.When.{When}
 use Rattle.bot_machine.specs.declared.exchange.When.TheVariants.{AtOnce, AfterData, Never}
@@ -14,15 +15,10 @@ use Rattle.bot_machine.specs.declared.request.ControlRequest.{ControlRequest}
 use Rattle.bot_machine.specs.declared.request.ControlRequest.TheVariants.{MassStorageReset}
 use Rattle.bot_machine.specs.declared.request.ControlRequest.TheVariants.{GetMaxLun, ClearHalt}
 use Rattle.bot_machine.specs.declared.request.ControlRequest.TheVariants.{GetStatus}
-use Rattle.bot_machine.specs.declared.bulk_state.Taking.{Taking}
-use Rattle.bot_machine.specs.declared.bulk_state.Phase.{Phase}
+use Rattle.bot_machine.specs.{declared.bulk_state.Taking.Taking, declared.bulk_state.Phase.Phase}
 use Rattle.bot_machine.specs.declared.bulk_state.Phase.TheVariants.{Command, DataOut, DataIn}
 use Rattle.bot_machine.specs.declared.bulk_state.Phase.TheVariants.{Status}
 use Rattle.bot_machine.specs.declared.bulk_state.BulkState.{BulkState}
-use Rattle.spec.specs.Packets.{bytes_of, packets_of}
-use Rattle.spec.specs.Requests.{Request, mass_storage_reset, get_max_lun, clear_halt, get_status}
-use Rattle.spec.specs.Exchange.{Script, Line, finished, taking, sending, Moment, at_once}
-use Rattle.spec.specs.Exchange.{after_data, never, moment_of, laid_out}
 
 -- the halt that is still to come
 abbrev pub halt_of : Bool → Option Endpoint

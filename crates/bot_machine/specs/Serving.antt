@@ -1,33 +1,24 @@
 -- What the parts of an event do to the unit and to the line.
 use Rattle.std.specs.Prelude.{◌≡◌, ◌<◌, ◌≤◌, ◌*◌, ℕ, Bool, false, List, length, Result}
-use Rattle.spec.specs.declared.wrapper.Cbw.{Cbw}
-use Rattle.spec.specs.declared.case.Case.{Case}
-use Rattle.spec.specs.declared.way.Way.TheVariants as ways
-use Rattle.spec.specs.CommandWrapper.{SpellsCommand}
-use Rattle.spec.specs.Cases.{IsCase, size_of_way}
-use Rattle.spec.specs.declared.intent.Intent.TheVariants as intent
-use Rattle.medium.specs.Medium.{State}
-use Rattle.spec.specs.Sense.{Sense}
-use Rattle.spec.specs.Book.{Book}
-use Rattle.spec.specs.Rules.{CarriesOut, Ticks, write_in_progress}
-use Rattle.scsi_unit.specs.Calls.{IsBounded}
-use Rattle.scsi_unit.specs.Serving.{has_refused, IsSparing}
-use Rattle.scsi_unit.specs.UnitValue.{UnitValue, unit_limit, state_of, FitsUnit, IsOfSize}
-use Rattle.scsi_unit.specs.UnitValue.{intention_of}
-use Rattle.bot_machine.specs.declared.exchange.Exchange.{Exchange}
-use Rattle.bot_machine.specs.declared.bulk_state.Taking.{Taking}
-use Rattle.bot_machine.specs.declared.bulk_state.Phase.TheVariants.{Command, DataOut}
-use Rattle.bot_machine.specs.declared.bulk_state.BulkState.{BulkState}
-use Rattle.spec.specs.Packets.{bytes_of}
+use Rattle.spec.specs.{declared.wrapper.Cbw.Cbw, declared.case.Case.Case}
+use Rattle.spec.specs.{CommandWrapper.SpellsCommand, Cases.{IsCase, size_of_way}, Sense.Sense}
+use Rattle.spec.specs.{Book.Book, Rules.{CarriesOut, Ticks, write_in_progress}, Packets.bytes_of}
 use Rattle.spec.specs.declared.event.Answer.TheVariants.{Ack}
 use Rattle.spec.specs.Exchange.{Line, Script, moment_of, at_once}
 use Rattle.spec.specs.Conversation.{IsCarriedOut, OutStep}
 use Rattle.spec.specs.UnitConversation.{way_of, Intends, write_of_packet, on_line}
-use Rattle.bot_machine.specs.Acts.{CarriesOutNone, PacketCarriesOut}
-use Rattle.bot_machine.specs.Promising.{SendsBy}
+use Rattle.spec.specs.declared.way.Way.TheVariants as ways
+use Rattle.spec.specs.declared.intent.Intent.TheVariants as intent
+use Rattle.medium.specs.Medium.{State}
+use Rattle.scsi_unit.specs.{Calls.IsBounded, Serving.{has_refused, IsSparing}, UnitValue.UnitValue}
+use Rattle.scsi_unit.specs.UnitValue.{unit_limit, state_of, FitsUnit, IsOfSize, intention_of}
+use Rattle.bot_machine.specs.declared.exchange.Exchange.{Exchange}
+use Rattle.bot_machine.specs.declared.bulk_state.Taking.{Taking}
+use Rattle.bot_machine.specs.declared.bulk_state.Phase.TheVariants.{Command, DataOut}
+use Rattle.bot_machine.specs.declared.bulk_state.BulkState.{BulkState}
+use Rattle.bot_machine.specs.{Acts.{CarriesOutNone, PacketCarriesOut}, Promising.SendsBy}
 use Rattle.bot_machine.specs.Refinement.{line_of, IsTaking, IsInPhase}
-use Rattle.bot_machine.specs.Disk.{Proceeds, Elapses, TakesFew, Tells}
-use Rattle.bot_machine.specs.Reading.{LooksBesides}
+use Rattle.bot_machine.specs.{Disk.{Proceeds, Elapses, TakesFew, Tells}, Reading.LooksBesides}
 
 -- A packet spells a command wrapper, and begins this exchange: the one of its command, of what the
 -- unit intends for it, and of the case that this makes.

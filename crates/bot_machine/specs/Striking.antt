@@ -1,12 +1,9 @@
 -- Steps in the background may be struck: a host sees nothing of them.
 use Rattle.std.specs.Prelude.{◌≡◌, ⊤, Bool, false, List, [], ◌∷◌}
-use Rattle.spec.specs.Book.{StampsOut}
-use Rattle.spec.specs.Rules.{UnitState, with_progress}
-use Rattle.spec.specs.declared.event.Event.{Event}
-use Rattle.spec.specs.declared.event.Event.TheVariants as event
-use Rattle.spec.specs.declared.event.Answer.{Answer}
-use Rattle.spec.specs.Conversation.{Conversation}
+use Rattle.spec.specs.{Book.StampsOut, Rules.{UnitState, with_progress}, declared.event.Event.Event}
+use Rattle.spec.specs.{declared.event.Answer.Answer, Conversation.Conversation}
 use Rattle.spec.specs.UnitConversation.{write_of_event, UnitRun}
+use Rattle.spec.specs.declared.event.Event.TheVariants as event
 
 -- the events that are no steps in the background
 abbrev pub without_ticks : List Event → List Event

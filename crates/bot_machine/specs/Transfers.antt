@@ -1,18 +1,12 @@
 -- Transfers of a host: a command, its data in packets of some size, and what the host hears.
 use Rattle.std.specs.Prelude.{⊤, ◌≡◌, ◌<◌, ◌⊎◌, ℕ, Bool, List, [], ◌∷◌, ◌++◌, length, map, All}
-use Rattle.spec.specs.declared.wrapper.Cbw.{Cbw}
-use Rattle.spec.specs.declared.case.Endpoint.{Endpoint}
-use Rattle.spec.specs.CommandWrapper.{SpellsCommand}
-use Rattle.spec.specs.Cases.{size_of_way}
-use Rattle.spec.specs.Rules.{UnitState}
-use Rattle.spec.specs.declared.event.Event.{Event}
-use Rattle.spec.specs.declared.event.Event.TheVariants as event
-use Rattle.spec.specs.declared.event.Answer.{Answer}
-use Rattle.spec.specs.declared.event.Answer.TheVariants as answer
-use Rattle.spec.specs.Packets.{packets_of}
-use Rattle.spec.specs.Requests.{setup_packet, clear_halt}
-use Rattle.spec.specs.Exchange.{at_rest}
+use Rattle.spec.specs.{declared.wrapper.Cbw.Cbw, declared.case.Endpoint.Endpoint}
+use Rattle.spec.specs.{CommandWrapper.SpellsCommand, Cases.size_of_way, Rules.UnitState}
+use Rattle.spec.specs.{declared.event.Event.Event, declared.event.Answer.Answer, Packets.packets_of}
+use Rattle.spec.specs.{Requests.{setup_packet, clear_halt}, Exchange.at_rest}
 use Rattle.spec.specs.UnitConversation.{on_line, UnitRun}
+use Rattle.spec.specs.declared.event.Event.TheVariants as event
+use Rattle.spec.specs.declared.event.Answer.TheVariants as answer
 use Rattle.bot_machine.specs.Striking.{IsUntroubled}
 
 -- a command wrapper, and the bytes that the host sends after it: as many as it announces, or none

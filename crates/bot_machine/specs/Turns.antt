@@ -1,15 +1,12 @@
 -- Wrappers by turns: the command wrappers that a run takes, and the status wrappers that it sends.
 use Rattle.std.specs.Prelude.{◌≡◌, ⊤, ℕ, Bool, true, false, List, [], ◌∷◌, ◌++◌, Option, Some, None}
 use Rattle.std.specs.Prelude.{Result}
-use Rattle.spec.specs.declared.way.Way.{Way}
-use Rattle.spec.specs.declared.status.Status.{Status}
-use Rattle.spec.specs.CommandWrapper.{field_at}
-use Rattle.spec.specs.StatusWrapper.{status_wrapper}
-use Rattle.spec.specs.declared.event.Event.{Event}
-use Rattle.spec.specs.declared.event.Event.TheVariants as event
+use Rattle.spec.specs.{declared.way.Way.Way, declared.status.Status.Status, CommandWrapper.field_at}
+use Rattle.spec.specs.{StatusWrapper.status_wrapper, declared.event.Event.Event}
 use Rattle.spec.specs.declared.event.Answer.{Answer}
 use Rattle.spec.specs.Exchange.{Script, finished, taking, sending, Line}
 use Rattle.spec.specs.Conversation.{Conversation, Run}
+use Rattle.spec.specs.declared.event.Event.TheVariants as event
 
 -- a status wrapper is still to be sent, behind data or not
 abbrev pub owes_status : Script → Bool

@@ -1,7 +1,6 @@
 use Rattle.std.proofs.Common.{◌≡◌, List, [], ◌∷◌, ◌++◌, Bool, true, false, Result, Ok, Err, refl, sym, ◌∙◌}
 use Rattle.std.specs.Prelude.{if◌then◌else◌, IfOk, IfErr, ⊤}
-use Rattle.spec.specs.Sense.{Sense}
-use Rattle.spec.specs.Judging.{Test, judged}
+use Rattle.spec.specs.{Sense.Sense, Judging.{Test, judged}}
 
 one_passed : {A B : Type 0} (passed : Bool) (sense : Sense) (before : Result A Sense) (found : A)
     (with_more alone : Result B Sense) → (before ≡ Ok found → with_more ≡ alone)

@@ -1,15 +1,10 @@
 use Rattle.std.proofs.Common.{◌≡◌, ◌≤◌, ◌<◌, ◌+◌, ◌-◌, ◌==◌, ℕ, List, [], ◌∷◌, ◌++◌, refl, ap, sym, ◌∙◌, subst, length, drop, arith, lit<}
-use Rattle.std.proofs.Common.{length-append, length-drop}
+use Rattle.std.proofs.{Common.{length-append, length-drop}, Math.ListN.get_or-append, lemmas.List.drop-append-le, lemmas.Bool.le-leb}
 use Rattle.std.specs.Prelude.{find}
-use Rattle.std.proofs.Math.ListN.{get_or-append}
-use Rattle.std.proofs.lemmas.List.{drop-append-le}
-use Rattle.std.proofs.lemmas.Bool.{le-leb}
-use Rattle.byteorder.specs.Endian.{big_number}
-use Rattle.byteorder.specs.Numbers.{big_from-append}
-use Rattle.spec.specs.Judging.{Test, judged}
-use Rattle.spec.specs.Commands.{Row, byte_at, number_at, form_tests, judged_by, judged_by_row, command_of, table, test_unit_ready}
-use Rattle.spec.specs.Commands.{request_sense, inquiry, mode_select, mode_sense, read_capacity_10, read_capacity_16, read_10, write_10}
-use Rattle.spec.specs.Commands.{read_16, write_16, synchronize_cache_10, synchronize_cache_16}
+use Rattle.byteorder.specs.{Endian.big_number, Numbers.big_from-append}
+use Rattle.spec.specs.{Judging.{Test, judged}, Commands.{Row, byte_at, number_at, form_tests, judged_by, judged_by_row, command_of, table}}
+use Rattle.spec.specs.Commands.{test_unit_ready, request_sense, inquiry, mode_select, mode_sense, read_capacity_10, read_capacity_16}
+use Rattle.spec.specs.Commands.{read_10, write_10, read_16, write_16, synchronize_cache_10, synchronize_cache_16}
 use Rattle.scsi_commands.specs.Supported.{command_size}
 use Rattle.scsi_commands.proofs.Rows.{by_same_rows}
 

@@ -1,22 +1,16 @@
 use Rattle.std.proofs.Common.{◌≡◌, ◌≤◌, ◌+◌, ◌/◌, ◌%◌, ◌==◌, ◌&&◌, ℕ, List, [], ◌∷◌, ◌++◌, Bool, true, false, Some, None, Result, refl, inl}
-use Rattle.std.proofs.Common.{inr}
+use Rattle.std.proofs.{Common.inr, lemmas.Bool.{leb-true, ltb-true, eqb-true}}
 use Rattle.std.specs.Prelude.{IfOk, IfErr, if◌then◌else◌}
-use Rattle.std.proofs.lemmas.Bool.{leb-true, ltb-true, eqb-true}
-use Rattle.spec.specs.Sense.{Sense}
-use Rattle.spec.specs.SenseCodes.{invalid_field_in_cdb, logical_block_address_out_of_range, parameter_list_length_error}
-use Rattle.spec.specs.SenseCodes.{saving_parameters_not_supported}
-use Rattle.spec.specs.declared.command.Command.{Command}
-use Rattle.spec.specs.declared.command.Command.TheVariants.{Inquiry}
-use Rattle.spec.specs.declared.command.Transfer.{Transfer}
-use Rattle.spec.specs.declared.command.BlockRange.{BlockRange}
-use Rattle.spec.specs.Commands.{Row, byte_at, flag_at, is_one_of, form_tests, judged_by, command_of, table, number_at}
-use Rattle.spec.specs.Inquiry.{page_codes}
-use Rattle.spec.specs.Commands.{test_unit_ready, request_sense, inquiry, mode_select, mode_sense, read_capacity_10, read_capacity_16}
-use Rattle.spec.specs.Commands.{read_10, write_10, read_16, write_16, synchronize_cache_10, synchronize_cache_16, transfer_10, transfer_16}
-use Rattle.spec.specs.Commands.{range_10, range_16, transfer_tests, range_tests, mode_sense_tests}
+use Rattle.spec.specs.{Sense.Sense, SenseCodes.{invalid_field_in_cdb, logical_block_address_out_of_range, parameter_list_length_error}}
+use Rattle.spec.specs.{SenseCodes.saving_parameters_not_supported, declared.command.Command.Command}
+use Rattle.spec.specs.{declared.command.Command.TheVariants.Inquiry, declared.command.Transfer.Transfer}
+use Rattle.spec.specs.{declared.command.BlockRange.BlockRange, Commands.{Row, byte_at, flag_at, is_one_of, form_tests, judged_by}}
+use Rattle.spec.specs.Commands.{command_of, table, number_at, test_unit_ready, request_sense, inquiry, mode_select, mode_sense}
+use Rattle.spec.specs.Commands.{read_capacity_10, read_capacity_16, read_10, write_10, read_16, write_16, synchronize_cache_10}
+use Rattle.spec.specs.Commands.{synchronize_cache_16, transfer_10, transfer_16, range_10, range_16, transfer_tests, range_tests}
+use Rattle.spec.specs.{Commands.mode_sense_tests, Inquiry.page_codes}
 use Rattle.scsi_commands.specs.Supported.{IsWithin, HasModePage, IsSupported, IsRefusal}
-use Rattle.scsi_commands.proofs.Judged.{AllPassed, AllRefuse, AllPassed-last, AllRefuse-append, IfOk-judged, IfErr-judged}
-use Rattle.scsi_commands.proofs.Rows.{by_rows}
+use Rattle.scsi_commands.proofs.{Judged.{AllPassed, AllRefuse, AllPassed-last, AllRefuse-append, IfOk-judged, IfErr-judged}, Rows.by_rows}
 
 -- the command of a row is supported where the tests of its fields say so
 row_supported : (n limit : ℕ) (block : List ℕ) (row : Row)

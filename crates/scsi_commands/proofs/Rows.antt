@@ -1,9 +1,7 @@
 use Rattle.std.proofs.Common.{◌≡◌, ◌==◌, ℕ, List, [], ◌∷◌, Bool, true, false, Option, Some, Result, Err, refl, cond, ap}
 use Rattle.std.specs.Prelude.{⊤, find}
 use Rattle.std.proofs.lemmas.Bool.{eqb-true}
-use Rattle.spec.specs.Sense.{Sense}
-use Rattle.spec.specs.SenseCodes.{invalid_command_operation_code}
-use Rattle.spec.specs.declared.command.Command.{Command}
+use Rattle.spec.specs.{Sense.Sense, SenseCodes.invalid_command_operation_code, declared.command.Command.Command}
 use Rattle.spec.specs.Commands.{Row, judged_by, judged_by_row}
 
 -- what each row of an operation code says of a block has a property

@@ -1,7 +1,6 @@
 -- The senses that the code names, in the order of their constants.
 use Rattle.std.specs.Prelude.{List, [], ◌∷◌}
-use Rattle.spec.specs.Sense.{Sense}
-use Rattle.spec.specs.SenseCodes.{no_sense, invalid_command_operation_code}
+use Rattle.spec.specs.{Sense.Sense, SenseCodes.{no_sense, invalid_command_operation_code}}
 use Rattle.spec.specs.SenseCodes.{logical_block_address_out_of_range, invalid_field_in_cdb}
 use Rattle.spec.specs.SenseCodes.{invalid_field_in_parameter_list, parameter_list_length_error}
 use Rattle.spec.specs.SenseCodes.{saving_parameters_not_supported, power_on_or_reset_occurred}

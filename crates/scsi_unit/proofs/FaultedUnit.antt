@@ -1,12 +1,9 @@
 -- A unit that is told of a refusal of the device, and a faulted one.
-use Rattle.std.proofs.Common.{◌≡◌, ℕ, Bool, true, false, List, arith}
+use Rattle.std.proofs.{Common.{◌≡◌, ℕ, Bool, true, false, List, arith}, lemmas.Bool.Decides.nat_tests}
 use Rattle.std.specs.Prelude.{◌&&◌, IfOk}
-use Rattle.std.proofs.lemmas.Bool.Decides.{nat_tests}
 use Rattle.blocks.specs.StoreValue.{is_dead}
 use Rattle.spec.specs.Rules.{needs_medium, intention_by, command_by}
-use Rattle.scsi_unit.specs.Serving.{command_for, wants_medium}
-use Rattle.scsi_unit.specs.UnitValue.{UnitValue}
-use Rattle.scsi_unit.specs.Faulting.{faulted_unit, IsSteady}
+use Rattle.scsi_unit.specs.{Serving.{command_for, wants_medium}, UnitValue.UnitValue, Faulting.{faulted_unit, IsSteady}}
 
 -- what a faulted unit carries out needs no medium
 pub passed : (blocks limit : ℕ) (attention faulted : Bool) (block : List ℕ)

@@ -1,32 +1,22 @@
 -- A command moves what it intended to, and a write that it appends is one.
 use Rattle.std.proofs.Common.{◌≡◌, ◌≢◌, ◌<◌, ◌≤◌, ◌*◌, ◌+◌, ◌/◌, ℕ, zero, suc, Bool, List, [], length, take, drop, Some, None, Option}
-use Rattle.std.proofs.Common.{Result, Err, refl, arith, length-append}
+use Rattle.std.proofs.{Common.{Result, Err, refl, arith, length-append}, lemmas.Bool.Decides.nat_tests}
+use Rattle.std.proofs.{lemmas.List.{length-take, length-drop}, lemmas.List.Elements.{All-nil, All-cons}}
 use Rattle.std.specs.Prelude.{All, IfOk, min, unwrap_or}
-use Rattle.std.proofs.lemmas.Bool.Decides.{nat_tests}
-use Rattle.std.proofs.lemmas.List.{length-take, length-drop}
-use Rattle.std.proofs.lemmas.List.Elements.{All-nil, All-cons}
-use Rattle.spec.specs.Blocks.{Array, Write, IsWrite, chunks}
-use Rattle.spec.specs.Book.{array_of, blocks_at}
-use Rattle.spec.specs.Sense.{Sense}
-use Rattle.spec.specs.FixedSense.{fixed_sense}
-use Rattle.spec.specs.Identification.{Identification}
-use Rattle.spec.specs.Inquiry.{inquiry_data, inquiry_size, standard_data, supported_pages, unit_serial_number, device_identification}
-use Rattle.spec.specs.Inquiry.{block_limits}
-use Rattle.spec.specs.ModePage.{caching_page}
-use Rattle.spec.specs.Capacity.{capacity_10, capacity_16}
-use Rattle.spec.specs.declared.command.Command.{Command}
-use Rattle.spec.specs.declared.command.Command.TheVariants as command
-use Rattle.spec.specs.declared.command.Transfer.{Transfer}
-use Rattle.spec.specs.declared.intent.Intent.TheVariants as intent
+use Rattle.spec.specs.{Blocks.{Array, Write, IsWrite, chunks}, Book.{array_of, blocks_at}, Sense.Sense, FixedSense.fixed_sense}
+use Rattle.spec.specs.{Identification.Identification, Inquiry.{inquiry_data, inquiry_size, standard_data, supported_pages}}
+use Rattle.spec.specs.{Inquiry.{unit_serial_number, device_identification, block_limits}, ModePage.caching_page}
+use Rattle.spec.specs.{Capacity.{capacity_10, capacity_16}, declared.command.Command.Command, declared.command.Transfer.Transfer}
 use Rattle.spec.specs.Rules.{Intention, sends, UnitState, checked, command_by, intention_by, moves, moves_after, effect_of, write_after}
 use Rattle.spec.specs.Rules.{write_by, IsOutcome}
+use Rattle.spec.specs.declared.command.Command.TheVariants as command
+use Rattle.spec.specs.declared.intent.Intent.TheVariants as intent
 use Rattle.scsi_commands.specs.Supported.{IsSupported, IsWithin}
 use Rattle.scsi_commands.proofs.RowLaws.{supported}
-use Rattle.scsi_unit.specs.Laws.{IsSized, KeepsIntentions, WritesAreWrites}
+use Rattle.scsi_unit.specs.{Laws.{IsSized, KeepsIntentions, WritesAreWrites}, UnitValue.{UnitValue, unit_limit}}
+use Rattle.scsi_unit.specs.Calls.{SendsAsMeant, SendsOver}
 use Rattle.blocks.specs.StoreValue.{layout_of}
 use Rattle.blocks.proofs.Limits.{limit_least}
-use Rattle.scsi_unit.specs.UnitValue.{UnitValue, unit_limit}
-use Rattle.scsi_unit.specs.Calls.{SendsAsMeant, SendsOver}
 
 -- ---- how many bytes are moved
 

@@ -1,14 +1,10 @@
 -- What comes of a command, by the way that it went.
-use Rattle.std.proofs.Common.{◌≡◌, ◌⊎◌, inl, ℕ, Bool, true, false, List, [], ◌∷◌, ◌++◌, length, Some, None, Option, Result, Ok}
-use Rattle.std.proofs.Common.{Err, refl, arith}
+use Rattle.std.proofs.Common.{◌≡◌, ◌⊎◌, inl, ℕ, Bool, true, false, List, [], ◌∷◌, ◌++◌, length, Some, None, Option, Result, Ok, Err, refl}
+use Rattle.std.proofs.{Common.arith, lemmas.Bool.Decides.nat_tests}
 use Rattle.std.specs.Prelude.{if◌then◌else◌, ◌&&◌, IfOk}
-use Rattle.std.proofs.lemmas.Bool.Decides.{nat_tests}
-use Rattle.spec.specs.Blocks.{Write}
-use Rattle.spec.specs.Book.{Book, StampsOut}
-use Rattle.spec.specs.Sense.{Sense}
-use Rattle.spec.specs.declared.command.Command.{Command}
-use Rattle.spec.specs.Rules.{Ticks, intention, intention_by, command_by, UnitState, fails_with, effect_of, checked, write_after}
-use Rattle.spec.specs.Rules.{write_of_command, with_progress, IsOutcome, needs_medium, reads_blocks, wants_writing}
+use Rattle.spec.specs.{Blocks.Write, Book.{Book, StampsOut}, Sense.Sense, declared.command.Command.Command, Rules.{Ticks, intention}}
+use Rattle.spec.specs.Rules.{intention_by, command_by, UnitState, fails_with, effect_of, checked, write_after, write_of_command}
+use Rattle.spec.specs.Rules.{with_progress, IsOutcome, needs_medium, reads_blocks, wants_writing}
 use Rattle.scsi_unit.specs.Laws.{IsFunction, IsSameLife, KeepsLimit, KeepsWrites, StaysFaulted, TicksOnly, is_promising}
 use Rattle.scsi_unit.specs.Promising.{promises, promises_for}
 use Rattle.spec.specs.declared.intent.Intent.TheVariants as intent

@@ -1,26 +1,18 @@
 -- Commands performed by a unit: what its store did, as a line of the rules.
 use Rattle.std.proofs.Common.{◌≡◌, ◌≢◌, ◌⊎◌, ◌≤◌, inl, inr, ℕ, Bool, true, false, List, [], ◌∷◌, Some, None, Result, Ok, Err, arith, refl}
-use Rattle.std.proofs.Common.{length-append}
+use Rattle.std.proofs.{Common.length-append, lemmas.Bool.Decides.nat_tests}
 use Rattle.std.specs.Prelude.{◌||◌, ◌&&◌, not, if◌then◌else◌, take}
-use Rattle.std.proofs.lemmas.Bool.Decides.{nat_tests}
-use Rattle.medium.specs.Medium.{State, IsSound}
-use Rattle.medium.specs.Moments.{LeavesOnly}
+use Rattle.medium.specs.{Medium.{State, IsSound}, Moments.LeavesOnly}
 use Rattle.medium.proofs.Moments.{weaker, joined_same}
-use Rattle.spec.specs.Book.{Book, promised, with_write}
-use Rattle.blocks.specs.Finding.{MayFind, Found, FoundWith}
-use Rattle.blocks.specs.StoreValue.{Cached, StoreValue, FitsBook, is_dead, layout_of, blocks_of}
+use Rattle.spec.specs.{Book.{Book, promised, with_write}, Sense.Sense, declared.command.Command.Command, declared.command.Transfer.Transfer}
+use Rattle.spec.specs.{declared.command.BlockRange.BlockRange, Rules.{effect_of, write_of_command, write_after, wants_writing}}
+use Rattle.spec.specs.Rules.{with_progress, write_by, some_write, moves_blocks, MayFault, IsOutcome, IsByTable, selected_by}
+use Rattle.spec.specs.Capacity.{capacity_10}
+use Rattle.blocks.specs.{Finding.{MayFind, Found, FoundWith}, StoreValue.{Cached, StoreValue, FitsBook, is_dead, layout_of, blocks_of}}
 use Rattle.blocks.specs.Turns.{IsTurn}
 use Rattle.blocks.proofs.TurnsJoined.{stays, turns}
-use Rattle.spec.specs.Sense.{Sense}
-use Rattle.spec.specs.declared.command.Command.{Command}
 use Rattle.spec.specs.declared.command.Command.TheVariants as command
-use Rattle.spec.specs.declared.command.Transfer.{Transfer}
-use Rattle.spec.specs.declared.command.BlockRange.{BlockRange}
-use Rattle.spec.specs.Rules.{effect_of, write_of_command, write_after, wants_writing, with_progress, write_by, some_write, moves_blocks}
-use Rattle.spec.specs.Rules.{MayFault, IsOutcome, IsByTable, selected_by}
-use Rattle.spec.specs.Capacity.{capacity_10}
-use Rattle.scsi_unit.specs.UnitValue.{UnitValue, state_of, answer_of}
-use Rattle.scsi_unit.specs.Serving.{has_refused, command_for, Serves}
+use Rattle.scsi_unit.specs.{UnitValue.{UnitValue, state_of, answer_of}, Serving.{has_refused, command_for, Serves}}
 use Rattle.scsi_unit.specs.Performing.{settled, silent, Performs, settled_kept}
 use Rattle.scsi_unit.specs.StoreCalls.{TellsDeath, MakesDurable, ReadsBlocks, WritesBlocks}
 use Rattle.scsi_unit.proofs.UnitTurns.{may_fault, refused_so, limit_stays}

@@ -1,13 +1,8 @@
 -- A command that is not about to send anything reads no blocks.
-use Rattle.std.proofs.Common.{◌≡◌, ◌≢◌, ℕ, List, None, Result, arith}
-use Rattle.std.proofs.lemmas.Bool.Decides.{nat_tests}
-use Rattle.spec.specs.Sense.{Sense}
-use Rattle.spec.specs.declared.command.Command.{Command}
+use Rattle.std.proofs.{Common.{◌≡◌, ◌≢◌, ℕ, List, None, Result, arith}, lemmas.Bool.Decides.nat_tests}
+use Rattle.spec.specs.{Sense.Sense, declared.command.Command.Command, Rules.{moves_after, intention_by}}
 use Rattle.spec.specs.declared.intent.Intent.TheVariants as intent
-use Rattle.spec.specs.Rules.{moves_after, intention_by}
-use Rattle.scsi_unit.specs.Reading.{read_of}
-use Rattle.scsi_unit.specs.Serving.{command_for}
-use Rattle.scsi_unit.specs.UnitValue.{UnitValue, intention_of}
+use Rattle.scsi_unit.specs.{Reading.read_of, Serving.command_for, UnitValue.{UnitValue, intention_of}}
 use Rattle.scsi_unit.proofs.Intentions.{size_of}
 
 read_none : (told : Result Command Sense) → ((n : ℕ) → moves_after told ≢ intent.In n) → read_of told ≡ None

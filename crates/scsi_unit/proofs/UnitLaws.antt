@@ -5,26 +5,15 @@ pub use Rattle.scsi_unit.proofs.Outcomes.{is_function, keeps_writes, stays_fault
 pub use Rattle.scsi_unit.proofs.CommandCalls.{none_made, step_made, few_ticks}
 pub use Rattle.blocks.proofs.EmptyBatches.{steps_to_write, written_live, ahead_fewer, both_empty}
 use Rattle.std.specs.Prelude.{Result}
-use Rattle.std.proofs.Common.{◌≡◌, ℕ, Bool, List, [], true, false, ap, sym, subst, arith}
-use Rattle.std.proofs.lemmas.Bool.Decides.{nat_tests}
-use Rattle.spec.specs.Sense.{Sense}
-use Rattle.spec.specs.declared.command.Command.{Command}
-use Rattle.medium.specs.Medium.{State}
-use Rattle.medium.specs.Moments.{EachCut}
-use Rattle.spec.specs.Book.{Book}
-use Rattle.blocks.specs.Finding.{MayFind}
-use Rattle.blocks.specs.StoreValue.{is_dead}
-use Rattle.blocks.proofs.TurnsJoined.{exits}
-use Rattle.blocks.specs.Limit.{HasLimit}
-pub use Rattle.blocks.proofs.ImageLimit.{start_keeps_limit}
-use Rattle.blocks.proofs.ImageLimit.{some_limit, one_limit, cut_keeps_limit}
+use Rattle.std.proofs.{Common.{◌≡◌, ℕ, Bool, List, [], true, false, ap, sym, subst, arith}, lemmas.Bool.Decides.nat_tests}
+use Rattle.spec.specs.{Sense.Sense, declared.command.Command.Command, Book.Book, Rules.{intention, intention_by, checked, command_by}}
+use Rattle.medium.specs.{Medium.State, Moments.EachCut}
+use Rattle.blocks.specs.{Finding.MayFind, StoreValue.is_dead, Limit.HasLimit}
+use Rattle.blocks.proofs.{TurnsJoined.exits, ImageLimit.{some_limit, one_limit, cut_keeps_limit}}
 use Rattle.blocks.proofs.KnownImages.{found_ours, ours_for_opening, stands_for_opening, stands_for_some}
-use Rattle.spec.specs.Rules.{intention, intention_by, checked, command_by}
-use Rattle.scsi_unit.specs.Calls.{Cached}
-use Rattle.scsi_unit.specs.Promising.{promises_for, IsQuietFor}
-use Rattle.scsi_unit.specs.Serving.{command_for}
-use Rattle.scsi_unit.specs.UnitValue.{UnitValue, unit_limit, state_of, FitsUnit, IsOfSize, intention_of}
-use Rattle.scsi_unit.specs.Laws.{KnowsImages}
+pub use Rattle.blocks.proofs.ImageLimit.{start_keeps_limit}
+use Rattle.scsi_unit.specs.{Calls.Cached, Promising.{promises_for, IsQuietFor}, Serving.command_for}
+use Rattle.scsi_unit.specs.{UnitValue.{UnitValue, unit_limit, state_of, FitsUnit, IsOfSize, intention_of}, Laws.KnowsImages}
 
 pub knows_images : KnowsImages
 knows_images = record {

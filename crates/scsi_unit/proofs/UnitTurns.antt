@@ -1,19 +1,10 @@
 -- From the turns of a store to the events of a unit.
-use Rattle.std.proofs.Common.{◌≡◌, ◌<◌, Bool, true, arith, refl, ap}
-use Rattle.std.proofs.lemmas.Bool.Decides.{nat_tests}
-use Rattle.medium.specs.Medium.{State}
-use Rattle.medium.specs.Moments.{IsUnchanged}
-use Rattle.blocks.specs.Limit.{Shape, limit_of}
-use Rattle.blocks.specs.Work.{IsWork}
-use Rattle.blocks.specs.declared.work.Work.{Work}
-use Rattle.spec.specs.Book.{Book}
-use Rattle.blocks.specs.StoreValue.{Cached, StoreValue, FitsBook, layout_of, transfer_limit, is_dead}
-use Rattle.blocks.specs.Turns.{GoesOn, HasCause}
-use Rattle.spec.specs.Rules.{MayFault, Ticks, intention_by, command_by}
-use Rattle.scsi_unit.specs.UnitValue.{UnitValue, state_of}
-use Rattle.scsi_unit.specs.Serving.{has_refused, TicksOver}
-use Rattle.scsi_unit.specs.StoreCalls.{StepsBehind}
-use Rattle.scsi_unit.specs.Faulting.{IsSteady}
+use Rattle.std.proofs.{Common.{◌≡◌, ◌<◌, Bool, true, arith, refl, ap}, lemmas.Bool.Decides.nat_tests}
+use Rattle.medium.specs.{Medium.State, Moments.IsUnchanged}
+use Rattle.blocks.specs.{Limit.{Shape, limit_of}, Work.IsWork, declared.work.Work.Work}
+use Rattle.blocks.specs.{StoreValue.{Cached, StoreValue, FitsBook, layout_of, transfer_limit, is_dead}, Turns.{GoesOn, HasCause}}
+use Rattle.spec.specs.{Book.Book, Rules.{MayFault, Ticks, intention_by, command_by}}
+use Rattle.scsi_unit.specs.{UnitValue.{UnitValue, state_of}, Serving.{has_refused, TicksOver}, StoreCalls.StepsBehind, Faulting.IsSteady}
 
 -- the failures grew
 pub refused_so : (before after : State) → before.failures < after.failures → has_refused before after ≡ true

@@ -1,24 +1,21 @@
 -- How many calls of the medium a command makes at most: what its calls of the store add up to.
 use Rattle.std.specs.Prelude.{◌≡◌, ◌≢◌, ℕ, ◌+◌, ◌*◌, ◌≤◌, ◌||◌, not, Bool, false, List, Result}
 use Rattle.std.specs.Prelude.{Ok, Err, IfOk, Option, if◌then◌else◌}
-use Rattle.medium.specs.Medium.{State}
-use Rattle.medium.specs.Sent.{SendsUpTo}
+use Rattle.medium.specs.{Medium.State, Sent.SendsUpTo}
 -- handed on to the layers above
 pub use Rattle.blocks.specs.OneBatch.{SendsOneBatch, most_steps}
 pub use Rattle.blocks.specs.Written.{IsWritten}
 use Rattle.blocks.specs.Sent.{LogFormat, most_sent}
-pub use Rattle.blocks.specs.StoreValue.{Cached}
 use Rattle.blocks.specs.StoreValue.{layout_of, slots_of, batch_steps, steps_left}
+pub use Rattle.blocks.specs.StoreValue.{Cached}
 -- handed on to the layers above: one call for each block that no batch has
 pub use Rattle.blocks.specs.Calls.{reads_of}
-use Rattle.spec.specs.Sense.{Sense}
-use Rattle.spec.specs.declared.command.Command.{Command}
-use Rattle.spec.specs.declared.command.Command.TheVariants as command
+use Rattle.spec.specs.{Sense.Sense, declared.command.Command.Command}
 use Rattle.spec.specs.declared.command.Transfer.{Transfer}
 use Rattle.spec.specs.Rules.{moves_blocks, forces_reading, clears, selected_by, Intention}
+use Rattle.spec.specs.declared.command.Command.TheVariants as command
 use Rattle.scsi_unit.specs.UnitValue.{UnitValue, unit_limit, intention_of}
-use Rattle.scsi_unit.specs.Promising.{promises_for, IsQuietFor}
-use Rattle.scsi_unit.specs.Serving.{command_for}
+use Rattle.scsi_unit.specs.{Promising.{promises_for, IsQuietFor}, Serving.command_for}
 use Rattle.scsi_unit.specs.Reading.{read_of, LooksToRead}
 use Rattle.spec.specs.declared.intent.Intent.TheVariants as intent
 

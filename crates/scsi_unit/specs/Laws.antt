@@ -3,17 +3,14 @@ use Rattle.std.specs.Prelude.{◌≡◌, ◌≢◌, ◌⊎◌, ◌<◌, ◌≤�
 use Rattle.std.specs.Prelude.{◌++◌, length, if◌then◌else◌, Option, Some, None}
 use Rattle.std.specs.Prelude.{Result, Ok, Err, IfOk}
 use Rattle.medium.specs.Medium.{Image}
-use Rattle.spec.specs.Blocks.{Write, IsWrite}
-use Rattle.spec.specs.Book.{Book, array_of, StampsOut}
+use Rattle.spec.specs.{Blocks.{Write, IsWrite}, Book.{Book, array_of, StampsOut}, Sense.Sense}
+use Rattle.spec.specs.{declared.command.Command.Command, Rules.{UnitState, checked, intention}}
+use Rattle.spec.specs.Rules.{write_in_progress, with_progress, clears, selected_by, CarriesOut}
+use Rattle.spec.specs.Rules.{Ticks}
 use Rattle.blocks.specs.Finding.{StandsAs, FoundWith}
-use Rattle.blocks.specs.Opening.{IsOursForSome, Stands, StandsForOpening}
-use Rattle.spec.specs.Sense.{Sense}
-use Rattle.spec.specs.declared.command.Command.{Command}
+use Rattle.blocks.specs.{Opening.{IsOursForSome, Stands, StandsForOpening}, Limit.HasLimit}
 use Rattle.spec.specs.declared.command.Command.TheVariants as command
 use Rattle.spec.specs.declared.intent.Intent.TheVariants as intent
-use Rattle.spec.specs.Rules.{UnitState, checked, intention, write_in_progress, with_progress}
-use Rattle.spec.specs.Rules.{clears, selected_by, CarriesOut, Ticks}
-use Rattle.blocks.specs.Limit.{HasLimit}
 use Rattle.scsi_unit.specs.Promising.{promises, promises_for}
 
 -- no stamp is wanting for a command, with its write counted

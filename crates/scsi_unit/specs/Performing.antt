@@ -1,16 +1,12 @@
 -- What the parts of carrying out a command do, before its sense is kept.
 use Rattle.std.specs.Prelude.{◌≡◌, ◌≤◌, ℕ, true, false, List, [], Some, None, Result, Ok, Err}
 use Rattle.std.specs.Prelude.{is_ok}
-use Rattle.medium.specs.Medium.{State}
-use Rattle.medium.specs.Moments.{LeavesOnly}
-use Rattle.spec.specs.Book.{Book}
+use Rattle.medium.specs.{Medium.State, Moments.LeavesOnly}
+use Rattle.spec.specs.{Book.Book, Sense.Sense, Waiting.{Waiting, after_failure}}
+use Rattle.spec.specs.{declared.command.Command.Command, declared.command.Transfer.Transfer}
+use Rattle.spec.specs.Rules.{UnitState, write_after, IsOutcome}
 use Rattle.blocks.specs.Finding.{FoundWith}
 use Rattle.blocks.specs.StoreValue.{layout_of, blocks_of, is_dead, active_of, FitsBeside}
-use Rattle.spec.specs.Sense.{Sense}
-use Rattle.spec.specs.Waiting.{Waiting, after_failure}
-use Rattle.spec.specs.declared.command.Command.{Command}
-use Rattle.spec.specs.declared.command.Transfer.{Transfer}
-use Rattle.spec.specs.Rules.{UnitState, write_after, IsOutcome}
 use Rattle.scsi_unit.specs.Costs.{CostsAfter, KeepsHeadroom}
 use Rattle.scsi_unit.specs.UnitValue.{UnitValue, unit_limit, state_of, FitsUnit}
 use Rattle.scsi_unit.specs.Serving.{has_refused, wants_medium, plain_write, ActiveAfter, LogAfter}

@@ -1,13 +1,9 @@
 -- Which commands promise: they are good only when all accepted writes are durable.
 use Rattle.std.specs.Prelude.{⊤, ◌≡◌, ◌⊎◌, ◌&&◌, ◌||◌, not, Bool, true, false, Result, Ok, Err}
-use Rattle.blocks.specs.Prepared.{IsTakenAtOnce}
-use Rattle.blocks.specs.StoreValue.{Cached}
-use Rattle.blocks.specs.Written.{IsWritten}
-use Rattle.spec.specs.Sense.{Sense}
-use Rattle.spec.specs.declared.command.Command.{Command}
+use Rattle.blocks.specs.{Prepared.IsTakenAtOnce, StoreValue.Cached, Written.IsWritten}
+use Rattle.spec.specs.{Sense.Sense, declared.command.Command.Command}
+use Rattle.spec.specs.{declared.command.Transfer.Transfer, Rules.{moves_blocks, forces_reading}}
 use Rattle.spec.specs.declared.command.Command.TheVariants as command
-use Rattle.spec.specs.declared.command.Transfer.{Transfer}
-use Rattle.spec.specs.Rules.{moves_blocks, forces_reading}
 
 -- a WRITE of some blocks that is good only when it is durable
 abbrev pub forces_writing : Transfer → Bool → Bool

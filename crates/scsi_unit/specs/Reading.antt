@@ -2,14 +2,11 @@
 use Rattle.std.specs.Prelude.{ℕ, ◌+◌, ◌<◌, ◌≤◌, ◌⊎◌, Option, Some, None, Result, Ok, Err}
 use Rattle.std.specs.Prelude.{if◌then◌else◌}
 use Rattle.medium.specs.Medium.{State, LooksOnly}
-use Rattle.spec.specs.Sense.{Sense}
-use Rattle.spec.specs.declared.command.Command.{Command}
+use Rattle.spec.specs.{Sense.Sense, declared.command.Command.Command}
+use Rattle.spec.specs.{declared.command.Transfer.Transfer, Rules.moves_blocks}
 use Rattle.spec.specs.declared.command.Command.TheVariants as command
-use Rattle.spec.specs.declared.command.Transfer.{Transfer}
 use Rattle.blocks.specs.StoreValue.{layout_of}
-use Rattle.spec.specs.Rules.{moves_blocks}
-use Rattle.scsi_unit.specs.UnitValue.{UnitValue}
-use Rattle.scsi_unit.specs.declared.reading.HomeSectors.{HomeSectors}
+use Rattle.scsi_unit.specs.{UnitValue.UnitValue, declared.reading.HomeSectors.HomeSectors}
 
 -- what a READ of some blocks moves
 abbrev pub some_read : Transfer → Option Transfer

@@ -1,28 +1,17 @@
 -- What carrying out a command does to a unit over its medium, and to each book that the unit fits.
-use Rattle.std.specs.Prelude.{◌≡◌, ◌⊎◌, ℕ, ◌≤◌, ◌+◌, nat_lt, ◌&&◌, ◌||◌, not, Bool, true}
-use Rattle.std.specs.Prelude.{false, List, [], Option, Some, None, Result, Ok, Err, is_ok}
-use Rattle.std.specs.Prelude.{if◌then◌else◌}
-use Rattle.medium.specs.Medium.{State}
-use Rattle.medium.specs.Moments.{LeavesOnly, IsUnchanged}
-use Rattle.medium.specs.Sent.{SendsUpTo}
-use Rattle.spec.specs.Book.{Book}
-use Rattle.blocks.specs.Finding.{MayFind, FoundWith}
-use Rattle.blocks.specs.Calls.{TurnsBatches}
-use Rattle.blocks.specs.Headroom.{KeepsHeadroom}
-use Rattle.blocks.specs.Looks.{LooksAtLog}
-use Rattle.blocks.specs.Work.{IsWork, LeavesBy}
-use Rattle.blocks.specs.declared.work.Work.{Work}
-use Rattle.blocks.specs.Passing.{MayEmpty}
-use Rattle.blocks.specs.Retiring.{finished}
-use Rattle.blocks.specs.StoreValue.{Cached, layout_of, blocks_of, is_dead, active_of}
-use Rattle.blocks.specs.StoreValue.{transfer_limit, FitsBeside, TakesRange}
-use Rattle.spec.specs.Sense.{Sense}
-use Rattle.spec.specs.declared.command.Command.{Command}
+use Rattle.std.specs.Prelude.{◌≡◌, ◌⊎◌, ℕ, ◌≤◌, ◌+◌, nat_lt, ◌&&◌, ◌||◌, not, Bool, true, false}
+use Rattle.std.specs.Prelude.{List, [], Option, Some, None, Result, Ok, Err, is_ok, if◌then◌else◌}
+use Rattle.medium.specs.{Medium.State, Moments.{LeavesOnly, IsUnchanged}, Sent.SendsUpTo}
+use Rattle.spec.specs.{Book.Book, Sense.Sense, declared.command.Command.Command}
+use Rattle.spec.specs.{declared.command.Transfer.Transfer, Rules.{command_by, moves_blocks}}
+use Rattle.spec.specs.Rules.{reads_blocks, wants_writing, write_in_progress, CarriesOut, Ticks}
+use Rattle.blocks.specs.{Finding.{MayFind, FoundWith}, Calls.TurnsBatches, Headroom.KeepsHeadroom}
+use Rattle.blocks.specs.{Looks.LooksAtLog, Work.{IsWork, LeavesBy}, declared.work.Work.Work}
+use Rattle.blocks.specs.{Passing.MayEmpty, Retiring.finished, StoreValue.{Cached, layout_of}}
+use Rattle.blocks.specs.StoreValue.{blocks_of, is_dead, active_of, transfer_limit, FitsBeside}
+use Rattle.blocks.specs.StoreValue.{TakesRange}
 use Rattle.spec.specs.declared.command.Command.TheVariants as command
-use Rattle.spec.specs.declared.command.Transfer.{Transfer}
 use Rattle.spec.specs.declared.intent.Intent.TheVariants as intent
-use Rattle.spec.specs.Rules.{command_by, moves_blocks, reads_blocks, wants_writing}
-use Rattle.spec.specs.Rules.{write_in_progress, CarriesOut, Ticks}
 use Rattle.scsi_unit.specs.Costs.{CostsAfter}
 use Rattle.scsi_unit.specs.UnitValue.{UnitValue, unit_limit, state_of, intention_of, FitsUnit}
 

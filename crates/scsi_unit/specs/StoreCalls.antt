@@ -1,26 +1,18 @@
 -- What the unit's calls of the store do to its batches, its log and its medium.
 use Rattle.std.specs.Prelude.{◌≡◌, ℕ, ◌+◌, ◌*◌, ◌<◌, ◌≤◌, Bool, true, false, List, [], take}
 use Rattle.std.specs.Prelude.{Result, OnOk, IfOk, IfErr, MatchResult, is_ok, if◌then◌else◌}
-use Rattle.medium.specs.Medium.{State}
-use Rattle.spec.specs.Book.{Book, array_of, blocks_at, promised, write_of}
-use Rattle.blocks.specs.Calls.{reads_of, TurnsBatches}
-use Rattle.blocks.specs.Headroom.{KeepsHeadroom}
-use Rattle.blocks.specs.Looks.{LooksAtLog, LooksAtBlocks}
-use Rattle.medium.specs.Sent.{SendsUpTo}
-use Rattle.blocks.specs.Passing.{MayEmpty}
-use Rattle.blocks.specs.OneBatch.{SendsOneBatch}
-use Rattle.blocks.specs.Sent.{batch_sends}
-use Rattle.blocks.specs.StoreValue.{Cached, StoreValue, transfer_limit, is_dead, active_of}
-use Rattle.blocks.specs.Prepared.{IsTakenAtOnce}
-use Rattle.blocks.specs.StoreValue.{batch_steps, unwritten, FitsBook, FitsBeside, TakesRange}
-use Rattle.blocks.specs.Turns.{IsTurn, IsWriteTurn}
-use Rattle.blocks.specs.Work.{IsWork, LeavesBy}
-use Rattle.blocks.specs.declared.work.Work.{Work}
-use Rattle.spec.specs.Sense.{Sense}
+use Rattle.medium.specs.{Medium.State, Sent.SendsUpTo}
+use Rattle.spec.specs.{Book.{Book, array_of, blocks_at, promised, write_of}, Sense.Sense}
 use Rattle.spec.specs.SenseCodes.{unrecovered_read_error, write_error}
 use Rattle.spec.specs.declared.command.Transfer.{Transfer}
-use Rattle.scsi_unit.specs.Serving.{IsEmptied, IsFinished}
-use Rattle.scsi_unit.specs.Calls.{calls_of_sync}
+use Rattle.blocks.specs.{Calls.{reads_of, TurnsBatches}, Headroom.KeepsHeadroom}
+use Rattle.blocks.specs.{Looks.{LooksAtLog, LooksAtBlocks}, Passing.MayEmpty}
+use Rattle.blocks.specs.{OneBatch.SendsOneBatch, Sent.batch_sends, StoreValue.{Cached, StoreValue}}
+use Rattle.blocks.specs.StoreValue.{transfer_limit, is_dead, active_of, batch_steps, unwritten}
+use Rattle.blocks.specs.{StoreValue.{FitsBook, FitsBeside, TakesRange}, Prepared.IsTakenAtOnce}
+use Rattle.blocks.specs.{Turns.{IsTurn, IsWriteTurn}, Work.{IsWork, LeavesBy}}
+use Rattle.blocks.specs.declared.work.Work.{Work}
+use Rattle.scsi_unit.specs.{Serving.{IsEmptied, IsFinished}, Calls.calls_of_sync}
 use Rattle.scsi_unit.specs.Costs.{CostsFinishing, CostsAlone}
 
 -- the medium comes after what it was, by calls alone, the policy stays, and headroom is kept

@@ -1,14 +1,11 @@
 use Rattle.std.proofs.Common.{◌≡◌, ◌≤◌, ℕ, length, take, arith, rules, length-take}
 use Rattle.std.specs.Prelude.{Result, Ok, Err}
-use Rattle.spec.specs.Sense.{Sense}
-use Rattle.spec.specs.Rules.{Intention}
+use Rattle.spec.specs.{Sense.Sense, Rules.Intention, Exchange.finished}
 use Rattle.spec.specs.declared.intent.Intent.TheVariants as intent
 use Rattle.scsi_unit.specs.Calls.{SendsAsMeant}
 use Rattle.bot_machine.proofs.UnitLaws.{keeps_writes, faulted_rests, proceeding}
-use Rattle.spec.specs.Exchange.{finished}
+use Rattle.bot_machine.proofs.{Packets.{sent_in-size, lies_sent, lies_within, packets_of-none, some_bytes}, OutPackets.tells}
 use Rattle.bot_machine.specs.Refinement.{line_with}
-use Rattle.bot_machine.proofs.Packets.{sent_in-size, lies_sent, lies_within, packets_of-none, some_bytes}
-use Rattle.bot_machine.proofs.OutPackets.{tells}
 use Rattle.bot_machine.proofs.bulk_out.carry_out.Goals as goal
 
 -- there is room for what is sent

@@ -1,11 +1,8 @@
-use Rattle.std.proofs.Common.{ℕ, ◌≡◌, ◌≢◌, ◌<◌, ◌≤◌, inl, inr, length, min, refl, sym, arith, ◌∙◌}
-use Rattle.bot_machine.proofs.Wrappers.{nothing_read_for}
-use Rattle.std.proofs.lemmas.Bool.{cases_lt}
+use Rattle.std.proofs.{Common.{ℕ, ◌≡◌, ◌≢◌, ◌<◌, ◌≤◌, inl, inr, length, min, refl, sym, arith, ◌∙◌}, lemmas.Bool.cases_lt}
+use Rattle.bot_machine.proofs.{Wrappers.nothing_read_for, Packets.{last_packet, other_packet, packets_of-none, some_bytes, lies_after}}
+use Rattle.bot_machine.proofs.{UnitLaws.proceeding_so, OutPackets.{unit_stays, idle, carried, one_taking, passes_wider}}
 use Rattle.spec.specs.Packets.{bytes_of}
 use Rattle.bot_machine.specs.Refinement.{taking_of}
-use Rattle.bot_machine.proofs.Packets.{last_packet, other_packet, packets_of-none, some_bytes, lies_after}
-use Rattle.bot_machine.proofs.UnitLaws.{proceeding_so}
-use Rattle.bot_machine.proofs.OutPackets.{unit_stays, idle, carried, one_taking, passes_wider}
 use Rattle.bot_machine.proofs.bulk_out.end_data.Goals as goal
 
 pub returns-then-packet-size_of_next : goal.returns-then-packet-size_of_next

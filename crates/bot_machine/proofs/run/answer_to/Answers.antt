@@ -1,6 +1,5 @@
 use Rattle.std.proofs.Common.{rules, ◌≡◌}
-use Rattle.spec.specs.declared.event.Answer.TheVariants.{Data}
-use Rattle.spec.specs.Exchange.{in_answer}
+use Rattle.spec.specs.{declared.event.Answer.TheVariants.Data, Exchange.in_answer}
 use Rattle.bot_machine.proofs.OutPackets.{token, asked}
 use Rattle.bot_machine.proofs.run.answer_to.Goals as goal
 

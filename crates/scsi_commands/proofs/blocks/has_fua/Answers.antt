@@ -1,6 +1,4 @@
-use Rattle.std.proofs.Common.{arith}
-use Rattle.std.proofs.lemmas.Bool.Decides.{nat_tests}
-use Rattle.std.proofs.lemmas.Nat.Bits.{and_pow}
+use Rattle.std.proofs.{Common.arith, lemmas.Bool.Decides.nat_tests, lemmas.Nat.Bits.and_pow}
 use Rattle.spec.specs.Commands.{byte_at}
 use Rattle.scsi_commands.proofs.blocks.has_fua.Goals as goal
 

@@ -1,12 +1,8 @@
 use Rattle.std.proofs.Common.{subst, sym, ap, ◌∙◌}
 use Rattle.std.specs.Prelude.{Result, IfOk, IfErr}
-use Rattle.spec.specs.Sense.{Sense}
-use Rattle.spec.specs.declared.command.Command.{Command}
+use Rattle.spec.specs.{Sense.Sense, declared.command.Command.Command, Commands.command_of}
 use Rattle.scsi_commands.specs.Supported.{IsSupported, IsRefusal}
-use Rattle.scsi_commands.proofs.RowLaws.{supported, refused}
-use Rattle.scsi_commands.proofs.Past.{past}
-use Rattle.scsi_commands.proofs.WrittenBlocks.{written}
-use Rattle.spec.specs.Commands.{command_of}
+use Rattle.scsi_commands.proofs.{RowLaws.{supported, refused}, Past.past, WrittenBlocks.written}
 use Rattle.scsi_commands.proofs.decode.parse.Goals as goal
 
 pub returns-clause-supported : goal.returns-clause-supported

@@ -1,6 +1,5 @@
 use Rattle.scsi_unit.proofs.UnitLaws.{keeps_intentions, is_function, keeps_writes, writes_are_writes, stays_faulted, ticks_only}
-use Rattle.scsi_unit.proofs.UnitLaws.{keeps_limit, knows_images}
-use Rattle.scsi_unit.proofs.CommandCalls.{steady_is_cheap, records_flush_once}
+use Rattle.scsi_unit.proofs.{UnitLaws.{keeps_limit, knows_images}, CommandCalls.{steady_is_cheap, records_flush_once}}
 use Rattle.scsi_unit.proofs.laws.unit_laws.Goals as goal
 
 pub returns-clause-commands : goal.returns-clause-commands

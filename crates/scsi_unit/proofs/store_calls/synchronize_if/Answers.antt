@@ -1,7 +1,5 @@
 use Rattle.std.proofs.Common.{refl, rules}
-use Rattle.blocks.proofs.OneBatchSent.{none_sent}
-use Rattle.blocks.proofs.TurnsJoined.{stays}
-use Rattle.blocks.proofs.SectorsRead.{none}
+use Rattle.blocks.proofs.{OneBatchSent.none_sent, TurnsJoined.stays, SectorsRead.none}
 use Rattle.scsi_unit.proofs.store_calls.synchronize_if.Goals as goal
 
 pub returns-then-not-wanted : goal.returns-then-not-wanted

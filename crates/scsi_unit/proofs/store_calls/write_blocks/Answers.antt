@@ -1,5 +1,4 @@
-use Rattle.std.proofs.Common.{◌≡◌, ◌≤◌, ◌*◌, ◌/◌, ℕ, List, length, take, rules, arith}
-use Rattle.std.proofs.lemmas.List.{length-take}
+use Rattle.std.proofs.{Common.{◌≡◌, ◌≤◌, ◌*◌, ◌/◌, ℕ, List, length, take, rules, arith}, lemmas.List.length-take}
 use Rattle.scsi_unit.proofs.store_calls.write_blocks.Goals as goal
 
 -- the bytes that are written are as many blocks as the transfer has

@@ -1,9 +1,7 @@
 use Rattle.std.proofs.Common.{◌≡◌, ◌≤◌, ◌<◌, ◌-◌, inl, inr, length, drop, slice_range, sym, ap, refl, arith, length-take}
 use Rattle.std.proofs.lemmas.Bool.{cases_lt}
-use Rattle.spec.specs.Exchange.{Line, after_in}
-use Rattle.bot_machine.specs.Disk.{DiskValue}
-use Rattle.spec.specs.Packets.{bytes_of}
-use Rattle.bot_machine.specs.Refinement.{line_of}
+use Rattle.spec.specs.{Exchange.{Line, after_in}, Packets.bytes_of}
+use Rattle.bot_machine.specs.{Disk.DiskValue, Refinement.line_of}
 use Rattle.bot_machine.proofs.Packets.{some_bytes, few_bytes, sent_more, sent_last, answer_sent}
 use Rattle.bot_machine.proofs.disk.Disk.bulk_in.Goals as goal
 

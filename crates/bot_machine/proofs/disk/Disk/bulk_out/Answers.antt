@@ -1,5 +1,4 @@
-use Rattle.std.proofs.Common.{rules, refl, sym, ap}
-use Rattle.std.proofs.lemmas.List.{with_items_is, places}
+use Rattle.std.proofs.{Common.{rules, refl, sym, ap}, lemmas.List.{with_items_is, places}}
 use Rattle.spec.specs.Packets.{bytes_of}
 use Rattle.bot_machine.specs.Refinement.{left_of}
 use Rattle.bot_machine.proofs.OutPackets.{stalled, not_ready, served, sends}

@@ -1,7 +1,6 @@
 use Rattle.std.proofs.Common.{ap}
 use Rattle.scsi_unit.specs.UnitValue.{UnitValue, unit_limit}
-use Rattle.bot_machine.proofs.UnitLaws.{turns_good_alone}
-use Rattle.bot_machine.proofs.OutPackets.{still_in_phase}
+use Rattle.bot_machine.proofs.{UnitLaws.turns_good_alone, OutPackets.still_in_phase}
 use Rattle.bot_machine.proofs.disk.Disk.fault.Goals as goal
 
 pub invariant_of-self : goal.invariant_of-self

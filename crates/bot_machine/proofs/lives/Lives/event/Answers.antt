@@ -2,8 +2,7 @@ use Rattle.std.proofs.Common.{[], ◌∷◌}
 use Rattle.medium.specs.SimLaws.{comes_after_through}
 use Rattle.spec.specs.Lives.{starts, plays}
 use Rattle.bot_machine.specs.LivesValue.{medium_in}
-use Rattle.bot_machine.proofs.LifeActions.{on_before}
-use Rattle.bot_machine.proofs.LifeRuns.{lives_go_on}
+use Rattle.bot_machine.proofs.{LifeActions.on_before, LifeRuns.lives_go_on}
 use Rattle.bot_machine.proofs.lives.Lives.event.Goals as goal
 
 pub returns-clause-ok : goal.returns-clause-ok

@@ -1,9 +1,7 @@
-use Rattle.std.proofs.Common.{map, length, refl}
-use Rattle.std.proofs.lemmas.Result.{err_from_is_err_and}
+use Rattle.std.proofs.{Common.{map, length, refl}, lemmas.Result.err_from_is_err_and}
 use Rattle.medium.specs.Writes.{keeps}
 use Rattle.spec.specs.Lives.{plays, cuts}
-use Rattle.bot_machine.specs.Lifetimes.{armed_by}
-use Rattle.bot_machine.specs.LivesValue.{state_in}
+use Rattle.bot_machine.specs.{Lifetimes.armed_by, LivesValue.state_in}
 use Rattle.bot_machine.proofs.LifeRuns.{whole_life, no_life, not_for_a_fuse}
 use Rattle.bot_machine.proofs.lives.lifetimes.live.Goals as goal
 

@@ -1,5 +1,4 @@
-use Rattle.std.proofs.Common.{◌++◌, ◌∷◌, [], map, take, refl, sym, ap, ◌∙◌}
-use Rattle.std.proofs.lemmas.List.{take_more, map-append}
+use Rattle.std.proofs.{Common.{◌++◌, ◌∷◌, [], map, take, refl, sym, ap, ◌∙◌}, lemmas.List.{take_more, map-append}}
 use Rattle.spec.specs.Lives.{plays}
 use Rattle.bot_machine.proofs.LifeRuns.{appends_on}
 use Rattle.bot_machine.proofs.lives.lifetimes.play_all.Goals as goal

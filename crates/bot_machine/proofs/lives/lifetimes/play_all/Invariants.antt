@@ -1,7 +1,6 @@
 use Rattle.std.proofs.Common.{map, take}
 use Rattle.spec.specs.Lives.{plays}
-use Rattle.bot_machine.specs.LivesValue.{HasStarted}
-use Rattle.bot_machine.specs.Lifetimes.{AppendsFor}
+use Rattle.bot_machine.specs.{LivesValue.HasStarted, Lifetimes.AppendsFor}
 use Rattle.bot_machine.proofs.lives.lifetimes.play_all.Given as goal
 
 abbrev pub invariant-loop-event : goal.invariant-loop-event

@@ -1,10 +1,6 @@
-use Rattle.std.proofs.Common.{◌≡◌, [], take, drop, suc, length, length-append, refl, sym, subst, ◌∙◌, ap, arith}
-use Rattle.std.proofs.lemmas.List.{take_all}
-use Rattle.bot_machine.specs.declared.lives.disk_state.DiskState.TheVariants.{Stopped}
-use Rattle.bot_machine.specs.Answers.{Room}
-use Rattle.bot_machine.specs.Device.{device_by}
-use Rattle.bot_machine.specs.LivesValue.{LivesValue}
-use Rattle.bot_machine.specs.Lifetimes.{actions_of, actions_of_all, events_in, AppendsFor}
+use Rattle.std.proofs.{Common.{◌≡◌, [], take, drop, suc, length, length-append, refl, sym, subst, ◌∙◌, ap, arith}, lemmas.List.take_all}
+use Rattle.bot_machine.specs.{declared.lives.disk_state.DiskState.TheVariants.Stopped, Answers.Room, Device.device_by}
+use Rattle.bot_machine.specs.{LivesValue.LivesValue, Lifetimes.{actions_of, actions_of_all, events_in, AppendsFor}}
 use Rattle.bot_machine.proofs.LifeRuns.{appends_on, none_yet, actions_more, events_more, room_left, apart, all_lived, lived_up_to}
 use Rattle.bot_machine.proofs.lives.lifetimes.run_lives_by.Goals as goal
 

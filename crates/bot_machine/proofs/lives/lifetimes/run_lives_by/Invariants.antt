@@ -1,8 +1,6 @@
 use Rattle.std.proofs.Common.{take}
-use Rattle.bot_machine.specs.declared.lives.disk_state.DiskState.TheVariants.{Stopped}
-use Rattle.bot_machine.specs.Device.{device_by}
-use Rattle.bot_machine.specs.LivesValue.{LivesValue, RestsAlone}
-use Rattle.bot_machine.specs.Lifetimes.{actions_of_all, events_in, AppendsFor}
+use Rattle.bot_machine.specs.{declared.lives.disk_state.DiskState.TheVariants.Stopped, Device.device_by}
+use Rattle.bot_machine.specs.{LivesValue.{LivesValue, RestsAlone}, Lifetimes.{actions_of_all, events_in, AppendsFor}}
 use Rattle.bot_machine.proofs.lives.lifetimes.run_lives_by.Given as goal
 
 abbrev pub invariant-loop-life : goal.invariant-loop-life

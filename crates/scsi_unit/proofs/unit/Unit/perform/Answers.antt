@@ -1,11 +1,8 @@
-use Rattle.std.proofs.Common.{inl, inr, Ok, refl, rules, arith}
-use Rattle.std.proofs.lemmas.Bool.Decides.{nat_tests}
+use Rattle.std.proofs.{Common.{inl, inr, Ok, refl, rules, arith}, lemmas.Bool.Decides.nat_tests}
 use Rattle.std.specs.Prelude.{min, unwrap_or, ◌*◌}
-use Rattle.scsi_unit.proofs.PerformedCommands.{by_table, take-capacity_10}
-use Rattle.spec.specs.declared.command.BlockRange.{BlockRange}
+use Rattle.scsi_unit.proofs.{PerformedCommands.{by_table, take-capacity_10}, Intentions.{meant_to_send, data_sent, inquiry_most}}
+use Rattle.spec.specs.{declared.command.BlockRange.BlockRange, Inquiry.inquiry_size}
 use Rattle.scsi_unit.specs.UnitValue.{unit_limit}
-use Rattle.spec.specs.Inquiry.{inquiry_size}
-use Rattle.scsi_unit.proofs.Intentions.{meant_to_send, data_sent, inquiry_most}
 use Rattle.scsi_unit.proofs.unit.Unit.perform.Goals as goal
 
 pub report-requires : goal.report-requires

@@ -1,9 +1,6 @@
-use Rattle.std.proofs.Common.{arith, refl}
-use Rattle.std.proofs.lemmas.Result.{err_from_is_err_and}
-use Rattle.std.proofs.lemmas.Bool.Decides.{nat_tests}
+use Rattle.std.proofs.{Common.{arith, refl}, lemmas.Result.err_from_is_err_and, lemmas.Bool.Decides.nat_tests}
 use Rattle.spec.specs.declared.command.Command.TheVariants as command
-use Rattle.scsi_unit.proofs.CommandCalls.{synced, read_on}
-use Rattle.scsi_unit.proofs.PerformedCommands.{by_table, dies_writing, reads_blocks_of}
+use Rattle.scsi_unit.proofs.{CommandCalls.{synced, read_on}, PerformedCommands.{by_table, dies_writing, reads_blocks_of}}
 use Rattle.scsi_unit.proofs.unit.Unit.read.Goals as goal
 
 pub returns-then-transfer-eq0-clause-performs : goal.returns-then-transfer-eq0-clause-performs

@@ -1,9 +1,6 @@
-use Rattle.std.proofs.Common.{arith, refl, sym, ◌∙◌}
-use Rattle.std.proofs.lemmas.Result.{err_from_is_err_and}
-use Rattle.std.proofs.lemmas.Bool.Decides.{nat_tests}
+use Rattle.std.proofs.{Common.{arith, refl, sym, ◌∙◌}, lemmas.Result.err_from_is_err_and, lemmas.Bool.Decides.nat_tests}
 use Rattle.spec.specs.declared.command.Command.TheVariants as command
-use Rattle.scsi_unit.proofs.CommandCalls.{synced}
-use Rattle.scsi_unit.proofs.PerformedCommands.{by_table, dies_writing, selects_bit}
+use Rattle.scsi_unit.proofs.{CommandCalls.synced, PerformedCommands.{by_table, dies_writing, selects_bit}}
 use Rattle.scsi_unit.proofs.unit.Unit.select.Goals as goal
 
 pub returns-in_err-enabled-clause-performs : goal.returns-in_err-enabled-clause-performs

@@ -1,6 +1,5 @@
 use Rattle.std.proofs.Common.{arith}
-use Rattle.scsi_unit.proofs.CommandCalls.{synced}
-use Rattle.scsi_unit.proofs.PerformedCommands.{synchronizes}
+use Rattle.scsi_unit.proofs.{CommandCalls.synced, PerformedCommands.synchronizes}
 use Rattle.scsi_unit.proofs.unit.Unit.synchronize.Goals as goal
 
 pub returns-clause-performs : goal.returns-clause-performs

@@ -1,9 +1,6 @@
-use Rattle.std.proofs.Common.{arith, refl}
-use Rattle.std.proofs.lemmas.Result.{err_from_is_err_and}
-use Rattle.std.proofs.lemmas.Bool.Decides.{nat_tests}
-use Rattle.scsi_unit.proofs.CommandCalls.{write_stops, write_on}
+use Rattle.std.proofs.{Common.{arith, refl}, lemmas.Result.err_from_is_err_and, lemmas.Bool.Decides.nat_tests}
+use Rattle.scsi_unit.proofs.CommandCalls.{write_stops, write_on, spares_writing}
 use Rattle.scsi_unit.proofs.PerformedCommands.{by_table, write_refused, writes_blocks}
-use Rattle.scsi_unit.proofs.CommandCalls.{spares_writing}
 use Rattle.scsi_unit.proofs.unit.Unit.write.Goals as goal
 
 pub returns-then-transfer-eq0-clause-performs : goal.returns-then-transfer-eq0-clause-performs
