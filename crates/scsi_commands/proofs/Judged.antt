@@ -1,44 +1,25 @@
-use Rattle.std.proofs.Common.{◌≡◌, List, [], ◌∷◌, ◌++◌, Bool, true, false, Result, Ok, Err, refl, sym, ◌∙◌}
-use Rattle.std.specs.Prelude.{if◌then◌else◌, IfOk, IfErr, ⊤}
+use Rattle.std.proofs.Common.{◌≡◌, List, [], ◌∷◌, ◌++◌, true, Result, Ok, Err, refl, sym, ◌∙◌, arith}
+use Rattle.std.specs.Prelude.{IfOk, IfErr, ⊤}
 use Rattle.spec.specs.{Sense.Sense, Judging.{Test, judged}}
-
-one_passed : {A B : Type 0} (passed : Bool) (sense : Sense) (before : Result A Sense) (found : A)
-    (with_more alone : Result B Sense) → (before ≡ Ok found → with_more ≡ alone)
-    → (if passed then before else Err sense) ≡ Ok found
-    → (if passed then with_more else Err sense) ≡ alone
-one_passed true sense before found with_more alone others h = others h
-one_passed false sense before found with_more alone others h = cc
-
-one_refused : {A B : Type 0} (passed : Bool) (sense first : Sense) (before : Result A Sense)
-    (with_more : Result B Sense) → (before ≡ Err first → with_more ≡ Err first)
-    → (if passed then before else Err sense) ≡ Err first
-    → (if passed then with_more else Err sense) ≡ Err first
-one_refused true sense first before with_more others h = others h
-one_refused false sense first before with_more others h = cc
 
 -- where the first tests are passed, the others decide
 pub judged_after : {A B : Type 0} (tests more : List Test) (first found : A) (value : B)
     → judged tests first ≡ Ok found → judged (tests ++ more) value ≡ judged more value
 judged_after [] more first found value passed = refl
-judged_after (test ∷ tests) more first found value passed =
-    one_passed test.passed test.sense (judged tests first) found (judged (tests ++ more) value)
-    (judged more value) (judged_after tests more first found value) passed
+judged_after (test ∷ tests) more first found value passed = let rest = judged_after tests more first found value in grind (arith, rest)
 
 -- where one of the first tests is not passed, the others do not matter
 pub judged_refused : {A B : Type 0} (tests more : List Test) (first : A) (value : B) (sense : Sense)
     → judged tests first ≡ Err sense → judged (tests ++ more) value ≡ Err sense
 judged_refused [] more first value sense refused = cc
 judged_refused (test ∷ tests) more first value sense refused =
-    one_refused test.passed test.sense sense (judged tests first) (judged (tests ++ more) value)
-    (judged_refused tests more first value sense) refused
+    let rest = judged_refused tests more first value sense in grind (arith, rest)
 
 -- tests that one value passes, another passes too
 pub judged_passed : {A B : Type 0} (tests : List Test) (first found : A) (value : B)
     → judged tests first ≡ Ok found → judged tests value ≡ Ok value
 judged_passed [] first found value passed = refl
-judged_passed (test ∷ tests) first found value passed =
-    one_passed test.passed test.sense (judged tests first) found (judged tests value) (Ok value)
-    (judged_passed tests first found value) passed
+judged_passed (test ∷ tests) first found value passed = let rest = judged_passed tests first found value in grind (arith, rest)
 
 -- the value that is judged is the one that is found
 pub judged_value : {A : Type 0} (tests : List Test) (value found : A)
@@ -50,9 +31,7 @@ judged_value tests value found passed = let passed_too : judged tests value ≡ 
 pub judged_alike : {A B : Type 0} (tests : List Test) (first : A) (value : B) (sense : Sense)
     → judged tests first ≡ Err sense → judged tests value ≡ Err sense
 judged_alike [] first value sense refused = cc
-judged_alike (test ∷ tests) first value sense refused =
-    one_refused test.passed test.sense sense (judged tests first) (judged tests value)
-    (judged_alike tests first value sense) refused
+judged_alike (test ∷ tests) first value sense refused = let rest = judged_alike tests first value sense in grind (arith, rest)
 
 -- the first tests are passed, and one of the others is not: that one refuses the whole
 pub judged_behind : {A B C : Type 0} (tests more : List Test) (first : A) (found : A) (second : B)
@@ -83,29 +62,16 @@ judged_all [] value passed = refl
 judged_all (test ∷ tests) value passed = rw passed.0 (judged_all tests value passed.1)
 
 -- an answer has passed each test
-ok_at : {A : Type 0} (P : A → Type 0) (passed : Bool) (sense : Sense) (rest : Result A Sense)
-    → (passed ≡ true → IfOk rest P) → IfOk (if passed then rest else Err sense) P
-ok_at P true sense rest others = others refl
-ok_at P false sense rest others = tt
-
 pub IfOk-judged : {A : Type 0} (P : A → Type 0) (tests : List Test) (value : A)
     → (AllPassed tests → P value) → IfOk (judged tests value) P
 IfOk-judged P [] value holds = holds tt
-IfOk-judged P (test ∷ tests) value holds =
-    ok_at P test.passed test.sense (judged tests value)
-    (λ passed. IfOk-judged P tests value (λ others. holds (passed, others)))
+IfOk-judged P (test ∷ tests) value holds = let rest = IfOk-judged P tests value in grind (arith, rest, holds)
 
 -- a refusal has the sense of a test
-err_at : {A : Type 0} (P : Sense → Type 0) (passed : Bool) (sense : Sense) (rest : Result A Sense)
-    → P sense → IfErr rest P → IfErr (if passed then rest else Err sense) P
-err_at P true sense rest here others = others
-err_at P false sense rest here others = here
-
 pub IfErr-judged : {A : Type 0} (P : Sense → Type 0) (tests : List Test) (value : A)
     → AllRefuse P tests → IfErr (judged tests value) P
 IfErr-judged P [] value all = tt
-IfErr-judged P (test ∷ tests) value all =
-    err_at P test.passed test.sense (judged tests value) all.0 (IfErr-judged P tests value all.1)
+IfErr-judged P (test ∷ tests) value all = let rest = IfErr-judged P tests value all.1 in grind (arith, rest, all)
 
 -- the last of tests that are all passed are passed
 pub AllPassed-last : (tests more : List Test) → AllPassed (tests ++ more) → AllPassed more

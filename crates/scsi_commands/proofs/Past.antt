@@ -1,9 +1,9 @@
-use Rattle.std.proofs.Common.{◌≡◌, ◌≤◌, ◌<◌, ◌+◌, ◌-◌, ◌==◌, ℕ, List, [], ◌∷◌, ◌++◌, refl, ap, sym, ◌∙◌, subst, length, drop, arith, lit<}
+use Rattle.std.proofs.Common.{◌≡◌, ◌≤◌, ◌<◌, ◌+◌, ◌-◌, ◌==◌, ℕ, List, [], ◌∷◌, ◌++◌, refl, ap, ◌∙◌, length, drop, arith, rules}
 use Rattle.std.proofs.{Common.{length-append, length-drop}, Math.ListN.get_or-append, lemmas.List.drop-append-le, lemmas.Bool.le-leb}
 use Rattle.std.specs.Prelude.{find}
 use Rattle.byteorder.specs.{Endian.big_number, Numbers.big_from-append}
 use Rattle.spec.specs.{Judging.{Test, judged}, Commands.{Row, byte_at, number_at, form_tests, judged_by, judged_by_row, command_of, table}}
-use Rattle.spec.specs.Commands.{test_unit_ready, request_sense, inquiry, mode_select, mode_sense, read_capacity_10, read_capacity_16}
+use Rattle.spec.specs.Commands.{request_sense, inquiry, mode_select, mode_sense, read_capacity_16}
 use Rattle.spec.specs.Commands.{read_10, write_10, read_16, write_16, synchronize_cache_10, synchronize_cache_16}
 use Rattle.scsi_commands.specs.Supported.{command_size}
 use Rattle.scsi_commands.proofs.Rows.{by_same_rows}
@@ -27,25 +27,17 @@ form_past : (size : ℕ) (allowed block more : List ℕ) → 1 < size → size �
 unfolding form_tests
 form_past size allowed block more two enough =
     let still : size ≤ length (block ++ more) = rw length-append (omega arith) in
-    rw (
-      le-leb size (length (block ++ more)) still,
-      le-leb size (length block) enough,
-      byte_past
-          (size - 1) block more (omega arith),
-      byte_past 1 block more (omega arith),
-    ) refl
+    let last = byte_past (size - 1) block more (omega arith) in
+    rw (le-leb size (length (block ++ more)) still, le-leb size (length block) enough, last, byte_past 1 block more (omega arith)) refl
 
--- what a block says by a row, where more follows
-row_past : (block more : List ℕ) (row row' : Row) → row ≡ row' → 1 < row'.size
-    → row'.size ≤ length block → judged_by (block ++ more) row ≡ judged_by block row'
-row_past block more row row' same two enough =
-    ap (judged_by (block ++ more)) same
-    ∙ ap (λ (tests : List Test). judged (tests ++ row'.fields) row'.command)
-    (form_past row'.size row'.byte_1 block more two enough)
-
-sized : (code length_ known : ℕ) → known ≡ code → command_size code ≤ length_
-    → command_size known ≤ length_
-sized code length_ known same enough = subst (λ (k : ℕ). command_size k ≤ length_) (sym same) enough
+-- what a block says by a row of its command, where more follows
+row_past : (block more : List ℕ) → command_size (byte_at 0 block) ≤ length block → (row row' : Row)
+    → (row'.size ≤ length block → row ≡ row') → 1 < row'.size → row'.size ≡ command_size row'.code → row'.code ≡ byte_at 0 block
+    → judged_by (block ++ more) row ≡ judged_by block row'
+row_past block more enough row row' same two size code =
+    let fits : row'.size ≤ length block = rw (size, code) enough in
+    ap (judged_by (block ++ more)) (same fits)
+    ∙ ap (λ (tests : List Test). judged (tests ++ row'.fields) row'.command) (form_past row'.size row'.byte_1 block more two fits)
 
 -- each row of a command reads no byte past those that the command has
 request_sense_past : (block more : List ℕ) → 6 ≤ length block
@@ -55,12 +47,7 @@ request_sense_past block more enough =
 
 inquiry_past : (block more : List ℕ) → 6 ≤ length block → inquiry (block ++ more) ≡ inquiry block
 inquiry_past block more enough =
-    rw (
-      byte_past 1 block more (omega arith),
-      byte_past 2 block more (omega arith),
-      number_past 3 2
-          block more (omega arith),
-    ) refl
+    rw (byte_past 1 block more (omega arith), byte_past 2 block more (omega arith), number_past 3 2 block more (omega arith)) refl
 
 mode_select_past : (block more : List ℕ) → 6 ≤ length block
     → mode_select (block ++ more) ≡ mode_select block
@@ -70,32 +57,17 @@ mode_select_past block more enough =
 mode_sense_past : (block more : List ℕ) → 6 ≤ length block
     → mode_sense (block ++ more) ≡ mode_sense block
 mode_sense_past block more enough =
-    rw (
-      byte_past 2 block more (omega arith),
-      byte_past 3 block more (omega arith),
-      byte_past 4
-          block more (omega arith),
-    ) refl
+    rw (byte_past 2 block more (omega arith), byte_past 3 block more (omega arith), byte_past 4 block more (omega arith)) refl
 
 read_10_past : (n limit : ℕ) (block more : List ℕ) → 10 ≤ length block
     → read_10 n limit (block ++ more) ≡ read_10 n limit block
 read_10_past n limit block more enough =
-    rw (
-      byte_past 1 block more (omega arith),
-      number_past 2 4 block more (omega arith),
-      number_past
-          7 2 block more (omega arith),
-    ) refl
+    rw (byte_past 1 block more (omega arith), number_past 2 4 block more (omega arith), number_past 7 2 block more (omega arith)) refl
 
 write_10_past : (n limit : ℕ) (block more : List ℕ) → 10 ≤ length block
     → write_10 n limit (block ++ more) ≡ write_10 n limit block
 write_10_past n limit block more enough =
-    rw (
-      byte_past 1 block more (omega arith),
-      number_past 2 4 block more (omega arith),
-      number_past
-          7 2 block more (omega arith),
-    ) refl
+    rw (byte_past 1 block more (omega arith), number_past 2 4 block more (omega arith), number_past 7 2 block more (omega arith)) refl
 
 synchronize_cache_10_past : (n : ℕ) (block more : List ℕ) → 10 ≤ length block
     → synchronize_cache_10 n (block ++ more) ≡ synchronize_cache_10 n block
@@ -105,22 +77,12 @@ synchronize_cache_10_past n block more enough =
 read_16_past : (n limit : ℕ) (block more : List ℕ) → 16 ≤ length block
     → read_16 n limit (block ++ more) ≡ read_16 n limit block
 read_16_past n limit block more enough =
-    rw (
-      byte_past 1 block more (omega arith),
-      number_past 2 8 block more (omega arith),
-      number_past
-          10 4 block more (omega arith),
-    ) refl
+    rw (byte_past 1 block more (omega arith), number_past 2 8 block more (omega arith), number_past 10 4 block more (omega arith)) refl
 
 write_16_past : (n limit : ℕ) (block more : List ℕ) → 16 ≤ length block
     → write_16 n limit (block ++ more) ≡ write_16 n limit block
 write_16_past n limit block more enough =
-    rw (
-      byte_past 1 block more (omega arith),
-      number_past 2 8 block more (omega arith),
-      number_past
-          10 4 block more (omega arith),
-    ) refl
+    rw (byte_past 1 block more (omega arith), number_past 2 8 block more (omega arith), number_past 10 4 block more (omega arith)) refl
 
 synchronize_cache_16_past : (n : ℕ) (block more : List ℕ) → 16 ≤ length block
     → synchronize_cache_16 n (block ++ more) ≡ synchronize_cache_16 n block
@@ -144,86 +106,21 @@ unfolding command_of
 past n limit block more enough =
     let code = byte_at 0 block in
     let whole = block ++ more in
-    let size = sized code (length block) in
     ap (λ (k : ℕ). judged_by_row whole (find (λ (row : Row). row.code == k) (table n limit whole)))
     (byte_past 0 block more (has_some block enough))
-    ∙ by_same_rows whole block code (table n limit whole) (table n limit block) (
-      refl,
-      (λ same. row_past block more test_unit_ready test_unit_ready refl (lit< tt)
-          (size 0x00 same enough)),
-      (
-        refl,
-        (λ same. row_past block more (request_sense whole) (request_sense block)
-            (request_sense_past block more (size 0x03 same enough)) (lit< tt)
-            (size 0x03 same enough)),
-        (
-          refl,
-          (λ same. row_past block more (inquiry whole) (inquiry block)
-              (inquiry_past block more (size 0x12 same enough)) (lit< tt) (size 0x12 same enough)),
-          (
-            refl,
-            (λ same. row_past block more (mode_select whole) (mode_select block)
-                (mode_select_past block more (size 0x15 same enough)) (lit< tt)
-                (size 0x15 same enough)),
-            (
-              refl,
-              (λ same. row_past block more (mode_sense whole) (mode_sense block)
-                  (mode_sense_past block more (size 0x1a same enough)) (lit< tt)
-                  (size 0x1a same enough)),
-              (
-                refl,
-                (λ same. row_past block more read_capacity_10 read_capacity_10 refl (lit< tt)
-                    (size 0x25 same enough)),
-                (
-                  refl,
-                  (λ same. row_past block more (read_10 n limit whole) (read_10 n limit block)
-                      (read_10_past n limit block more (size 0x28 same enough)) (lit< tt)
-                      (size 0x28 same enough)),
-                  (
-                    refl,
-                    (λ same. row_past block more (write_10 n limit whole) (write_10 n limit block)
-                        (write_10_past n limit block more (size 0x2a same enough)) (lit< tt)
-                        (size 0x2a same enough)),
-                    (
-                      refl,
-                      (λ same. row_past block more (synchronize_cache_10 n whole)
-                          (synchronize_cache_10 n block)
-                          (synchronize_cache_10_past n block more (size 0x35 same enough)) (lit< tt)
-                          (size 0x35 same enough)),
-                      (
-                        refl,
-                        (λ same. row_past block more (read_16 n limit whole) (read_16 n limit block)
-                            (read_16_past n limit block more (size 0x88 same enough)) (lit< tt)
-                            (size 0x88 same enough)),
-                        (
-                          refl,
-                          (λ same. row_past block more (write_16 n limit whole)
-                              (write_16 n limit block)
-                              (write_16_past n limit block more (size 0x8a same enough)) (lit< tt)
-                              (size 0x8a same enough)),
-                          (
-                            refl,
-                            (λ same. row_past block more (synchronize_cache_16 n whole)
-                                (synchronize_cache_16 n block)
-                                (synchronize_cache_16_past n block more (size 0x91 same enough))
-                                (lit< tt) (size 0x91 same enough)),
-                            (
-                              refl,
-                              (λ same. row_past block more (read_capacity_16 whole)
-                                  (read_capacity_16 block)
-                                  (read_capacity_16_past block more (size 0x9e same enough))
-                                  (lit< tt) (size 0x9e same enough)),
-                              tt,
-                            ),
-                          ),
-                        ),
-                      ),
-                    ),
-                  ),
-                ),
-              ),
-            ),
-          ),
-        ),
-      ),
-    )
+    ∙ by_same_rows whole block code (table n limit whole) (table n limit block)
+    (search (
+      rules,
+      row_past block more enough,
+      request_sense_past,
+      inquiry_past,
+      mode_select_past,
+      mode_sense_past,
+      read_10_past,
+      write_10_past,
+      synchronize_cache_10_past,
+      read_16_past,
+      write_16_past,
+      synchronize_cache_16_past,
+      read_capacity_16_past,
+    ))

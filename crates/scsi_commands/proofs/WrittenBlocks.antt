@@ -1,5 +1,5 @@
-use Rattle.std.proofs.Common.{◌≡◌, ◌≤◌, ◌<◌, ◌+◌, ◌*◌, ◌/◌, ◌%◌, ◌^◌, ◌==◌, ◌&&◌, ℕ, List, [], ◌∷◌, ◌++◌, Bool, true, false, Some, None, Ok}
-use Rattle.std.proofs.{Common.{refl, ap, sym, ◌∙◌, subst, length, drop, arith}, lemmas.Bool.{le-leb, lt-ltb, eq-eqb}}
+use Rattle.std.proofs.Common.{◌≡◌, ◌≤◌, ◌<◌, ◌+◌, ◌*◌, ◌/◌, ◌%◌, ◌^◌, ℕ, List, [], ◌∷◌, ◌++◌, Bool, true, false, Some, None, Ok}
+use Rattle.std.proofs.{Common.{refl, ap, ◌∙◌, length, drop, arith}, lemmas.Bool.{le-leb}}
 use Rattle.std.proofs.{lemmas.Bool.Decides.nat_tests, lemmas.Nat.{shr_high, mod_low}}
 use Rattle.byteorder.specs.{Endian.{big_number, big_bytes}, Numbers.big_number-reads_back}
 use Rattle.spec.specs.{declared.command.Command.Command, declared.command.Command.TheVariants.{TestUnitReady, RequestSense, Inquiry}}
@@ -43,22 +43,11 @@ range_passed n range within = (le-leb (range.address + range.count) n within, tt
 
 -- READ and WRITE of 10 bytes
 transfer_10_written : (code address count : ℕ) (fua : Bool) → address < 2 ^ 32 → count < 2 ^ 16
-    → transfer_10 (ten_bytes code (fua_bit fua) address count) ≡ record
-    { address = address; count = count; fua = fua }
-transfer_10_written code address count true a c =
-    rw (
-      number_written 2 4 address (ten_bytes code 0x08 address count)
-          ((0 ∷ []) ++ big_bytes 2 count ++ (0 ∷ [])) refl a,
-      number_written 7 2 count
-          (ten_bytes code 0x08 address count) (0 ∷ []) refl c,
-    ) refl
-transfer_10_written code address count false a c =
-    rw (
-      number_written 2 4 address (ten_bytes code 0x00 address count)
-          ((0 ∷ []) ++ big_bytes 2 count ++ (0 ∷ [])) refl a,
-      number_written 7 2 count
-          (ten_bytes code 0x00 address count) (0 ∷ []) refl c,
-    ) refl
+    → transfer_10 (ten_bytes code (fua_bit fua) address count) ≡ record { address = address; count = count; fua = fua }
+transfer_10_written code address count fua a c =
+    let block = ten_bytes code (fua_bit fua) address count in
+    let at = number_written 2 4 address block ((0 ∷ []) ++ big_bytes 2 count ++ (0 ∷ [])) refl a in
+    let many = number_written 7 2 count block (0 ∷ []) refl c in grind (arith, at, many)
 
 form_10_written : (code address count : ℕ) (fua : Bool)
     → AllPassed (form_tests 10 transfer_flags (ten_bytes code (fua_bit fua) address count))
@@ -68,22 +57,11 @@ form_10_written code address count false = (refl, (refl, (refl, tt)))
 
 -- READ and WRITE of 16 bytes
 transfer_16_written : (code address count : ℕ) (fua : Bool) → address < 2 ^ 64 → count < 2 ^ 32
-    → transfer_16 (sixteen_bytes code (fua_bit fua) address count) ≡ record
-    { address = address; count = count; fua = fua }
-transfer_16_written code address count true a c =
-    rw (
-      number_written 2 8 address (sixteen_bytes code 0x08 address count)
-          (big_bytes 4 count ++ (0 ∷ 0 ∷ [])) refl a,
-      number_written 10 4 count
-          (sixteen_bytes code 0x08 address count) (0 ∷ 0 ∷ []) refl c,
-    ) refl
-transfer_16_written code address count false a c =
-    rw (
-      number_written 2 8 address (sixteen_bytes code 0x00 address count)
-          (big_bytes 4 count ++ (0 ∷ 0 ∷ [])) refl a,
-      number_written 10 4 count
-          (sixteen_bytes code 0x00 address count) (0 ∷ 0 ∷ []) refl c,
-    ) refl
+    → transfer_16 (sixteen_bytes code (fua_bit fua) address count) ≡ record { address = address; count = count; fua = fua }
+transfer_16_written code address count fua a c =
+    let block = sixteen_bytes code (fua_bit fua) address count in
+    let at = number_written 2 8 address block (big_bytes 4 count ++ (0 ∷ 0 ∷ [])) refl a in
+    let many = number_written 10 4 count block (0 ∷ 0 ∷ []) refl c in grind (arith, at, many)
 
 form_16_written : (code address count : ℕ) (fua : Bool)
     → AllPassed (form_tests 16 transfer_flags (sixteen_bytes code (fua_bit fua) address count))
@@ -91,72 +69,35 @@ unfolding form_tests
 form_16_written code address count true = (refl, (refl, (refl, tt)))
 form_16_written code address count false = (refl, (refl, (refl, tt)))
 
+-- the rows of the commands that move blocks, and of SYNCHRONIZE CACHE
+abbrev transfers : ℕ → ℕ → ℕ → ℕ → (Transfer → Command) → Transfer → Row
+transfers code size n limit make found =
+    record { code = code; size = size; byte_1 = transfer_flags; fields = transfer_tests n limit found; command = make found }
+
+abbrev ranges : ℕ → ℕ → ℕ → (BlockRange → Command) → BlockRange → Row
+ranges code size n make found =
+    record { code = code; size = size; byte_1 = synchronize_flags; fields = range_tests n found; command = make found }
+
 -- a transfer that was written is supported where the one that was meant is
-transfer_row : (code size n limit : ℕ) (make : Transfer → Command) (block : List ℕ)
-    (found meant : Transfer) → found ≡ meant → AllPassed (form_tests size transfer_flags block)
-    → IsWithin n limit meant
-    → judged_by block
-    (record {
-      code = code;
-      size = size;
-      byte_1 = transfer_flags;
-      fields =
-          transfer_tests n limit found;
-      command = make found;
-    }) ≡ Ok (make meant)
+transfer_row : (code size n limit : ℕ) (make : Transfer → Command) (block : List ℕ) (found meant : Transfer) → found ≡ meant
+    → AllPassed (form_tests size transfer_flags block) → IsWithin n limit meant
+    → judged_by block (transfers code size n limit make found) ≡ Ok (make meant)
 transfer_row code size n limit make block found meant same form within =
-    row_written block
-    (record {
-      code = code;
-      size = size;
-      byte_1 = transfer_flags;
-      fields =
-          transfer_tests n limit found;
-      command = make found;
-    }) (make meant) form
-    (subst (λ (t : Transfer). AllPassed (transfer_tests n limit t)) (sym same)
-    (within_passed n limit meant within)) (ap make same)
+    row_written block (transfers code size n limit make found) (make meant) form (rw same (within_passed n limit meant within))
+    (ap make same)
 
 -- the same of SYNCHRONIZE CACHE
-range_row : (code size n : ℕ) (make : BlockRange → Command) (block : List ℕ)
-    (found meant : BlockRange) → found ≡ meant → AllPassed (form_tests size synchronize_flags block)
-    → meant.address + meant.count ≤ n
-    → judged_by block
-    (record {
-      code = code;
-      size = size;
-      byte_1 = synchronize_flags;
-      fields =
-          range_tests n found;
-      command = make found;
-    }) ≡ Ok (make meant)
+range_row : (code size n : ℕ) (make : BlockRange → Command) (block : List ℕ) (found meant : BlockRange) → found ≡ meant
+    → AllPassed (form_tests size synchronize_flags block) → meant.address + meant.count ≤ n
+    → judged_by block (ranges code size n make found) ≡ Ok (make meant)
 range_row code size n make block found meant same form within =
-    row_written block
-    (record {
-      code = code;
-      size = size;
-      byte_1 = synchronize_flags;
-      fields =
-          range_tests n found;
-      command = make found;
-    }) (make meant) form
-    (subst (λ (r : BlockRange). AllPassed (range_tests n r)) (sym same)
-    (range_passed n meant within)) (ap make same)
+    row_written block (ranges code size n make found) (make meant) form (rw same (range_passed n meant within)) (ap make same)
 
 -- the same of each command that moves blocks
 transfer_10_row : (code n limit : ℕ) (make : Transfer → Command) (t : Transfer) → IsWithin n limit t
     → (t.address < 2 ^ 32) × (t.count < 2 ^ 16) →
     let block = ten_bytes code (fua_bit t.fua) t.address t.count in
-    judged_by block
-    (record {
-      code = code;
-      size = 10;
-      byte_1 = transfer_flags;
-      fields =
-          transfer_tests n limit (transfer_10 block);
-      command = make (transfer_10 block);
-    }) ≡ Ok
-    (make t)
+    judged_by block (transfers code 10 n limit make (transfer_10 block)) ≡ Ok (make t)
 transfer_10_row code n limit make t within fits =
     let block = ten_bytes code (fua_bit t.fua) t.address t.count in
     transfer_row code 10 n limit make block (transfer_10 block) t
@@ -166,16 +107,7 @@ transfer_10_row code n limit make t within fits =
 transfer_16_row : (code n limit : ℕ) (make : Transfer → Command) (t : Transfer) → IsWithin n limit t
     → (t.address < 2 ^ 64) × (t.count < 2 ^ 32) →
     let block = sixteen_bytes code (fua_bit t.fua) t.address t.count in
-    judged_by block
-    (record {
-      code = code;
-      size = 16;
-      byte_1 = transfer_flags;
-      fields =
-          transfer_tests n limit (transfer_16 block);
-      command = make (transfer_16 block);
-    }) ≡ Ok
-    (make t)
+    judged_by block (transfers code 16 n limit make (transfer_16 block)) ≡ Ok (make t)
 transfer_16_row code n limit make t within fits =
     let block = sixteen_bytes code (fua_bit t.fua) t.address t.count in
     transfer_row code 16 n limit make block (transfer_16 block) t
@@ -205,18 +137,8 @@ range_16_written r fits =
 page_below : (page : ℕ) → is_one_of (0x08 ∷ 0x3f ∷ []) page ≡ true → page < 64
 page_below page served = grind (arith, nat_tests)
 
-both_passed : (a b : Bool) → a ≡ true → b ≡ true → (a && b) ≡ true
-both_passed true true one two = refl
-both_passed true false one two = two
-both_passed false b one two = one
-
-mode_passed : (control page subpage : ℕ) → HasModePage control page subpage
-    → AllPassed (mode_sense_tests control page subpage)
-mode_passed control page subpage has = (
-  both_passed (is_one_of (0x08 ∷ 0x3f ∷ []) page) (subpage == 0x00) has.served
-      (eq-eqb subpage 0x00 has.whole),
-  (lt-ltb control 3 has.not_saved, tt),
-)
+mode_passed : (control page subpage : ℕ) → HasModePage control page subpage → AllPassed (mode_sense_tests control page subpage)
+mode_passed control page subpage has = grind (arith, nat_tests, has)
 
 mode_sense_written : (control page subpage allocation : ℕ) → HasModePage control page subpage
     → judged_by (block_of (ModeSense control page subpage allocation))

@@ -1,19 +1,13 @@
-use Rattle.std.proofs.Common.{subst, sym, ap, ◌∙◌}
-use Rattle.std.specs.Prelude.{Result, IfOk, IfErr}
-use Rattle.spec.specs.{Sense.Sense, declared.command.Command.Command, Commands.command_of}
-use Rattle.scsi_commands.specs.Supported.{IsSupported, IsRefusal}
+use Rattle.std.proofs.Common.{sym, ap, ◌∙◌}
+use Rattle.spec.specs.{Commands.command_of}
 use Rattle.scsi_commands.proofs.{RowLaws.{supported, refused}, Past.past, WrittenBlocks.written}
 use Rattle.scsi_commands.proofs.decode.parse.Goals as goal
 
 pub returns-clause-supported : goal.returns-clause-supported
-returns-clause-supported c =
-    subst (λ (outcome : Result Command Sense). IfOk outcome (IsSupported c.args.n c.args.limit))
-    (sym c.by_operation_code.ensures) (supported c.args.n c.args.limit c.args.block.now)
+returns-clause-supported c = rw c.by_operation_code.ensures (supported c.args.n c.args.limit c.args.block.now)
 
 pub returns-clause-refusal : goal.returns-clause-refusal
-returns-clause-refusal c =
-    subst (λ (outcome : Result Command Sense). IfErr outcome IsRefusal)
-    (sym c.by_operation_code.ensures) (refused c.args.n c.args.limit c.args.block.now)
+returns-clause-refusal c = rw c.by_operation_code.ensures (refused c.args.n c.args.limit c.args.block.now)
 
 pub returns-clause-past : goal.returns-clause-past
 returns-clause-past c =
