@@ -1,8 +1,8 @@
 use Rattle.std.proofs.Common.{◌≡◌, ◌≤◌, ◌+◌, ℕ, List, [], ◌∷◌, ◌++◌, Bool, true, Some, None, Result, refl, inl, rules, arith}
 use Rattle.std.proofs.{Common.inr, lemmas.Bool.Decides.nat_tests}
 use Rattle.std.specs.Prelude.{IfOk, IfErr, if◌then◌else◌}
-use Rattle.spec.specs.{Sense.Sense, Judging.{Test, judged}, SenseCodes.{invalid_field_in_cdb, logical_block_address_out_of_range, parameter_list_length_error}}
-use Rattle.spec.specs.{SenseCodes.saving_parameters_not_supported, declared.command.Command.Command}
+use Rattle.spec.specs.{Sense.Sense, Judging.{Test, judged}, SenseCodes.{invalid_field_in_cdb, logical_block_address_out_of_range}}
+use Rattle.spec.specs.{SenseCodes.{parameter_list_length_error, saving_parameters_not_supported}, declared.command.Command.Command}
 use Rattle.spec.specs.{declared.command.Command.TheVariants.Inquiry, declared.command.Transfer.Transfer}
 use Rattle.spec.specs.{declared.command.BlockRange.BlockRange, Commands.{byte_at, is_one_of, form_tests}}
 use Rattle.spec.specs.Commands.{command_of, table}
