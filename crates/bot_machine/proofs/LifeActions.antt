@@ -345,8 +345,7 @@ module _ (device : Device) where
       (omega (arith, one_fuse_more writes m)) (refl, refl))
 
   pub arms_disk : (writes : ℕ) (disk new : DiskValue Sim) → new.unit.store.medium ≡ fused writes disk.unit.store.medium
-      → new ≡ on_medium new.unit.store.medium disk
-      → LivesGoOn (lives_at (Running disk)) (arms writes ∷ []) [] (lives_at (Running new))
+      → new ≡ on_medium new.unit.store.medium disk → LivesGoOn (lives_at (Running disk)) (arms writes ∷ []) [] (lives_at (Running new))
   arms_disk writes disk new e others =
       let m = disk.unit.store.medium in
       rw (others ∙ ap (λ (m : Sim). on_medium m disk) e) (arms_fuse (Running disk) (Running (on_medium (fused writes m) disk)) refl
@@ -362,8 +361,7 @@ module _ (device : Device) where
       (omega arith) (refl, refl) (λ here. (refl, refl)) (λ is unfused e. unfused e))
 
   pub fails_disk : (call : ℕ) (disk new : DiskValue Sim) → new.unit.store.medium ≡ failing call disk.unit.store.medium
-      → new ≡ on_medium new.unit.store.medium disk
-      → LivesGoOn (lives_at (Running disk)) (fails call ∷ []) [] (lives_at (Running new))
+      → new ≡ on_medium new.unit.store.medium disk → LivesGoOn (lives_at (Running disk)) (fails call ∷ []) [] (lives_at (Running new))
   fails_disk call disk new e others =
       let m = disk.unit.store.medium in
       rw (others ∙ ap (λ (m : Sim). on_medium m disk) e) (arms_so (Running disk) (Running (on_medium (failing call m) disk)) refl

@@ -18,10 +18,8 @@ use Rattle.medium.specs.{Medium.{State, Image, CutLeaves}, Sim.{Sim, state_of, I
 -- one run after another
 pub LivesRun-append : (device : Device) (xs ys : List Action) (told more : List Answer)
     (refusals others : List Bool) (a b c : Standing) → LivesRun (presented device) a xs told refusals b
-    → LivesRun (presented device) b ys more others c
-    → LivesRun (presented device) a (xs ++ ys) (told ++ more) (refusals ++ others) c
-LivesRun-append device [] ys told more [] others a b c r s =
-    rw (r.0, ← r.1) s
+    → LivesRun (presented device) b ys more others c → LivesRun (presented device) a (xs ++ ys) (told ++ more) (refusals ++ others) c
+LivesRun-append device [] ys told more [] others a b c r s = rw (r.0, ← r.1) s
 LivesRun-append device (x ∷ xs) ys told more (refused ∷ refusals) others a b c r s = (
   r.0,
   r.1,
@@ -156,8 +154,7 @@ whole_life a b c d e first last armed events n cut h_arm h_start h_events h_cut 
 -- a fuse or none, and a start that is refused
 pub no_life : (a b c : LivesValue) (armed : List Action) (fault : StartFault) → LivesGoOn a armed [] b → LivesStop b [] [] fault c
     → LivesStop a armed [] fault c
-no_life a b c armed fault h_arm h_stop =
-    rw (append-nil armed) at (lives_stop a b c armed [] [] [] h_arm fault [] refl h_stop)
+no_life a b c armed fault h_arm h_stop = rw (append-nil armed) at (lives_stop a b c armed [] [] [] h_arm fault [] refl h_stop)
 
 -- no life yet
 pub none_yet : (lives : LivesValue) (answers : Room) → AppendsFor lives lives answers answers [] 0

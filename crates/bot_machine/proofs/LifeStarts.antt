@@ -53,8 +53,7 @@ leaves_book size book (Some w) image (inl m) = found_left size _ book image (inl
 leaves_book size book (Some w) image (inr m) = found_left size _ (with_write book w) image (inr refl) (omega arith) m
 
 -- an image that is ours in some shape is ours with some number of blocks, and the other way round
-pub with_shape : (size : ℕ) (image : Image)
-    → (blocks : ℕ) × (array : Array) × (next : ℕ) × StandsAs size blocks image array next
+pub with_shape : (size : ℕ) (image : Image) → (blocks : ℕ) × (array : Array) × (next : ℕ) × StandsAs size blocks image array next
     → IsOursForSome size image
 with_shape size image (blocks, array, next, (shape, same, is)) = (shape, array, next, is)
 
@@ -72,8 +71,7 @@ first_found m book none h ours image cut =
 -- nothing is unflushed: what the contents have every image has
 pub first_limited : (m : Sim) (limit : ℕ) → m.unflushed ≡ [] → HasLimit (state_of m).size limit (state_of m).content
     → LeavesLimit limit (Stopped m)
-first_limited m limit none has image cut =
-    rw (only_image (state_of m).content (state_of m).may_leave (none_flushed m none) image cut) has
+first_limited m limit none has image cut = rw (only_image (state_of m).content (state_of m).may_leave (none_flushed m none) image cut) has
 
 -- what a life has left is ours
 pub remains_ours : (m : State) (remains : Remains) → EachCut (FoundAt m.size (between remains)) m → EachCut (IsOursForSome m.size) m
@@ -338,8 +336,7 @@ module _ (device : Device) where
   -- power is off already
   pub start_without_power : (m : Sim) → m.power.off ≡ true
       → LivesGoOn (lives_at device (Stopped m)) (starts ∷ []) [] (lives_at device (Stopped m))
-  start_without_power m is_off =
-      stays device (Stopped m) starts [] (refl, rw is_off refl) (λ here fits. grind arith)
+  start_without_power m is_off = stays device (Stopped m) starts [] (refl, rw is_off refl) (λ here fits. grind arith)
 
 -- ---- whatever the medium holds
 

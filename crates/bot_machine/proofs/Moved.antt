@@ -28,8 +28,7 @@ one_move device refused old new action answers does counted =
 pub MovesBy-append : (device : Device) (xs ys : List Action) (told more : List Answer) (refusals others : List Bool)
     (a b c : DiskState) → MovesBy device a xs told refusals b → MovesBy device b ys more others c
     → MovesBy device a (xs ++ ys) (told ++ more) (refusals ++ others) c
-MovesBy-append device [] ys told more [] others a b c r s =
-    rw (r.0, ← r.1) s
+MovesBy-append device [] ys told more [] others a b c r s = rw (r.0, ← r.1) s
 MovesBy-append device (x ∷ xs) ys told more (refused ∷ refusals) others a b c r s = (
   r.0,
   r.1,
@@ -57,8 +56,7 @@ caused_once before after actions follows on =
 -- one action after another
 pub caused_through : (a b c : Sim) (xs ys : List Action) (refusals others : List Bool) → AreCaused a xs refusals b
     → AreCaused b ys others c → AreCaused a (xs ++ ys) (refusals ++ others) c
-caused_through a b c xs ys refusals others h k =
-    omega (arith, refused_events-append refusals others, faults_armed-append xs ys, h, k)
+caused_through a b c xs ys refusals others h k = omega (arith, refused_events-append refusals others, faults_armed-append xs ys, h, k)
 
 -- told by the causes that no action armed
 pub few_causes : (before after : Sim) (actions : List Action) (refusals : List Bool) → AreCaused before actions refusals after
@@ -66,8 +64,7 @@ pub few_causes : (before after : Sim) (actions : List Action) (refusals : List B
 few_causes before after actions refusals h = omega (arith, h)
 
 -- a medium on which a fuse was armed has one fault more at most
-pub one_fuse_more : (writes : ℕ) (m : Sim)
-    → faults_in (record m.power { fuse = Some writes }) ≤ faults_in m.power + 1
+pub one_fuse_more : (writes : ℕ) (m : Sim) → faults_in (record m.power { fuse = Some writes }) ≤ faults_in m.power + 1
 one_fuse_more writes m = grind arith
 
 -- what each action keeps, actions keep one after another

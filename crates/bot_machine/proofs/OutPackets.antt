@@ -92,8 +92,7 @@ served state Follows At old new from to left packet halted same serves passes re
 pub idle : {M : Type 0} (m : State) (unit : UnitValue M) (from to : Line) (left : Script) (packet : List ℕ) → IsSound m
     → ((book : Book) → IsOfSize unit book → OutStep Intends CarriesOut Ticks (has_refused m m) false left packet
     (on_line from (state_of unit book)) answer.Ack (on_line to (state_of unit book)))
-    → ((book : Book) → None ≡ write_of_packet from.packet_size false left packet (state_of unit book))
-    → ((book : Book) → IsOfSize unit book
+    → ((book : Book) → None ≡ write_of_packet from.packet_size false left packet (state_of unit book)) → ((book : Book) → IsOfSize unit book
     → CarriesOutNone (PacketCarriesOut from.packet_size false left packet (state_of unit book)))
     → ServesPacket m m unit unit from to false left packet
 idle m unit from to left packet sound step none never = record {
@@ -165,8 +164,7 @@ not_ready m disk packet packets halt status sound halted left =
 
 -- a step in the background
 pub ticked : {M : Type 0} (work : Work) (before after : State) (old new : DiskValue M)
-    → TicksOver work before after old.unit new.unit → new.line ≡ old.line
-    → IsStepBy work before after old event.Tick answer.Ticked new
+    → TicksOver work before after old.unit new.unit → new.line ≡ old.line → IsStepBy work before after old event.Tick answer.Ticked new
 ticked work before after old new ticks line = record {
   proceeds = λ book fits.
       let one = ticks.line book fits in
@@ -228,8 +226,7 @@ pub none_besides : {M : Type 0} (At : ℕ → Type 0) (m : State) (unit : UnitVa
 none_besides At m unit = no_looks (λ s. (s < first_home_of unit) ⊎ At s) m m refl
 
 -- nothing was done to the unit
-pub unit_stays : {M : Type 0} (state : M → State) (Follows : M → M → Type 0) (At : ℕ → Type 0) (unit : UnitValue M)
-    (from to : BulkState)
+pub unit_stays : {M : Type 0} (state : M → State) (Follows : M → M → Type 0) (At : ℕ → Type 0) (unit : UnitValue M) (from to : BulkState)
     → ((m : M) → Follows m m) → IsInPhase (unit_limit unit) (intention_of unit) to.phase → to.size ≡ from.size
     → HandsOn state Follows At unit unit from to
 unit_stays state Follows At unit from to itself phase size =

@@ -44,8 +44,7 @@ told-owes case command intended (Ok bytes) s = laid_out-owes command.tag (sent_i
 told-owes case command intended (Err fault) s = told_at_once-owes (case_if_failed case) command intended Failed s
 
 -- a wrapper that is taken is owed its status
-took : (packet : List ℕ) (left : Script) → Owes (Some (field_at packet 4)) left
-    → Next None (marks_of_out false finished packet left) left
+took : (packet : List ℕ) (left : Script) → Owes (Some (field_at packet 4)) left → Next None (marks_of_out false finished packet left) left
 took packet finished owes = absurd owes
 took packet left owes = (Some (field_at packet 4), owes, λ rest turns. turns)
 
@@ -81,17 +80,13 @@ setup_next owed packet old answer new step owes =
 module _ {S F : Type 0} (Intends : S → List ℕ → Way → Type 0)
     (CarriesOut : Bool → List ℕ → List ℕ → S → Result (List ℕ) F → S → Type 0)
     (Ticks : Bool → S → S → Type 0) where
-  begins-owes : (refused : Bool) (moment : Moment) (case : Case) (command : Cbw)
-      (intended : Way) (old new : Conversation S)
-      → Begins Intends CarriesOut Ticks refused moment case command intended old new
-      → Owes (Some command.tag) new.line.left
+  begins-owes : (refused : Bool) (moment : Moment) (case : Case) (command : Cbw) (intended : Way) (old new : Conversation S)
+      → Begins Intends CarriesOut Ticks refused moment case command intended old new → Owes (Some command.tag) new.line.left
   begins-owes refused moment case command intended old new begins = grind (arith, told-owes {F = F}, told_at_once-owes)
 
   -- a packet to Bulk-Out
-  out_next : (owed : Option ℕ) (refused halted : Bool) (left : Script) (packet : List ℕ)
-      (old new : Conversation S) (answer : Answer)
-      → OutStep Intends CarriesOut Ticks refused halted left packet old answer new
-      → old.line.left ≡ left → Owes owed left
+  out_next : (owed : Option ℕ) (refused halted : Bool) (left : Script) (packet : List ℕ) (old new : Conversation S) (answer : Answer)
+      → OutStep Intends CarriesOut Ticks refused halted left packet old answer new → old.line.left ≡ left → Owes owed left
       → Next owed (marks_of_out halted left packet new.line.left) new.line.left
   out_next owed refused true left packet old new answer step e owes = keeps owed _ (rw (ap (λ s. s.line.left) step.1, e) owes)
   out_next None refused false finished packet old new answer (ack, inl opens) e owes =
@@ -106,14 +101,12 @@ module _ {S F : Type 0} (Intends : S → List ℕ → Way → Type 0)
   out_next owed refused false (sending packets halt status) packet old new answer step e owes =
       keeps owed _ (rw (ap (λ s. s.line.left) step.1, e) owes)
 
-  step_next : (owed : Option ℕ) (refused : Bool) (old : Conversation S) (happens : Event)
-      (answer : Answer) (new : Conversation S)
+  step_next : (owed : Option ℕ) (refused : Bool) (old : Conversation S) (happens : Event) (answer : Answer) (new : Conversation S)
       → Step Intends CarriesOut Ticks refused old happens answer new → Owes owed old.line.left
       → Next owed (marks_of old.line happens new.line) new.line.left
   step_next owed refused old (event.Out packet) answer new step owes =
       out_next owed refused old.line.out_halted old.line.left packet.items old new answer step refl owes
-  step_next owed refused old event.In answer new step owes =
-      rw step.1 (in_next owed old.line.in_halted old.line.left old.line refl owes)
+  step_next owed refused old event.In answer new step owes = rw step.1 (in_next owed old.line.in_halted old.line.left old.line refl owes)
   step_next owed refused old (event.Setup packet) answer new step owes = setup_next owed packet old.line answer new.line step.0 owes
   step_next owed refused old event.Tick answer new step owes = keeps owed new.line.left (rw step.2 owes)
 
@@ -128,10 +121,8 @@ module _ {S F : Type 0} (Intends : S → List ℕ → Way → Type 0)
   turns_on owed old events answers refusals new run owes = absurd run
 
   -- a run that begins where a wrapper is expected takes wrappers and tells their statuses by turns
-  pub by_turns : (old : Conversation S) (events : List Event) (answers : List Answer)
-      (refusals : List Bool) (new : Conversation S)
-      (run : Run Intends CarriesOut Ticks old events answers refusals new)
-      → old.line.left ≡ finished
+  pub by_turns : (old : Conversation S) (events : List Event) (answers : List Answer) (refusals : List Bool) (new : Conversation S)
+      (run : Run Intends CarriesOut Ticks old events answers refusals new) → old.line.left ≡ finished
       → ByTurns None (marks_in Intends CarriesOut Ticks old events answers refusals new run)
   by_turns old events answers refusals new run e = turns_on None old events answers refusals new run (rw e tt)
 
@@ -154,10 +145,8 @@ module _ {S F : Type 0} (Intends : S → List ℕ → Way → Type 0)
   -- a run and then one step are a run
   pub Run-more : (events : List Event) (answers : List Answer) (refusals : List Bool)
       (old mid new : Conversation S) (event : Event) (answer : Answer) (refused : Bool)
-      → Run Intends CarriesOut Ticks old events answers refusals mid
-      → Step Intends CarriesOut Ticks refused mid event answer new
-      → Run Intends CarriesOut Ticks old (events ++ event ∷ []) (answers ++ answer ∷ [])
-      (refusals ++ refused ∷ []) new
+      → Run Intends CarriesOut Ticks old events answers refusals mid → Step Intends CarriesOut Ticks refused mid event answer new
+      → Run Intends CarriesOut Ticks old (events ++ event ∷ []) (answers ++ answer ∷ []) (refusals ++ refused ∷ []) new
   Run-more [] [] [] old mid new event answer refused r s =
       (new, subst (λ m. Step Intends CarriesOut Ticks refused m event answer new) r s, refl)
   Run-more (e ∷ es) (a ∷ as_) (f ∷ fs) old mid new event answer refused r s =
@@ -247,8 +236,7 @@ runs_more first before after old mid new events answers refusals event answer bo
 
 -- events of a disk and then one event are events of the disk
 pub IsRun-more : {M : Type 0} (state : M → State) (old mid new : DiskValue M)
-    (events : List Event) (answers : List Answer) (event : Event) (answer : Answer)
-    → IsRun state old events answers mid
+    (events : List Event) (answers : List Answer) (event : Event) (answer : Answer) → IsRun state old events answers mid
     → IsStep (state mid.unit.store.medium) (state new.unit.store.medium) mid event answer new
     → IsRun state old (events ++ event ∷ []) (answers ++ answer ∷ []) new
 IsRun-more state old mid new events answers event answer r s =

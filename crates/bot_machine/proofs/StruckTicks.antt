@@ -54,8 +54,7 @@ opens_once packet old one other stamps a b =
     a.begins (opens_as packet old other a.command a.intended a.case a.spelled a.intends a.is_case b)
 
 takes_once : (case : Case) (command : Cbw) (intended : Way) (bytes : List ℕ) (due : ℕ) (packet : List ℕ)
-    (old one other : Conversation UnitState)
-    → ¬ StampsOut (with_progress old.unit.book
+    (old one other : Conversation UnitState) → ¬ StampsOut (with_progress old.unit.book
     (write_of_packet old.line.packet_size false (taking case command intended bytes due) packet old.unit))
     → Takes Intends CarriesOut Ticks false case command intended bytes due packet old one
     → Takes Intends CarriesOut Ticks false case command intended bytes due packet old other → one ≡ other
@@ -179,8 +178,7 @@ module _ {M : Type 0} (state : M → State) where
       (refusals refused : List Bool) → start ≡ old
       → (run : UnitRun old events answers refusals new) → IsUntroubled old events answers refusals new run
       → (again : UnitRun start others told refused other) → IsUntroubled start others told refused other again
-      → without_ticks events ≡ without_ticks others
-      → answers_without_ticks events answers ≡ answers_without_ticks others told
+      → without_ticks events ≡ without_ticks others → answers_without_ticks events answers ≡ answers_without_ticks others told
   alike old start new other events others answers told refusals refused same run u again v ticks =
       subst (λ (c : Conversation UnitState). (again : UnitRun c others told refused other)
       → IsUntroubled c others told refused other again → answers_without_ticks events answers ≡ answers_without_ticks others told)

@@ -281,8 +281,7 @@ module _ (size : ℕ) (some : 0 < size) (t : Transfer) (old new : UnitState) (as
       let sends = laid [] (outcome_for case t.command intended).halt status (at_rest size) in
       let last = sends_all (packets_of size t.sent) asks only f.later f.mid end (rw begins.1 sends.0) f.run refl in
       (last.1 ∙ begins.0, rw (f.told, ack) (heard_so f.later [] status [] (sends.1 f.later (rw (← begins.1) last.0)) refl))
-  outcome after_data is begins =
-      by_data t.sent refl (grind arith) begins.0
+  outcome after_data is begins = by_data t.sent refl (grind arith) begins.0
 
 -- ---- transfers at two sizes
 

@@ -32,8 +32,7 @@ turns_good_alone tag residue = record { good = refl; failed = refl; phase = refl
 pub proceeding : {M : Type 0} (before after : State) (old new : UnitValue M)
     (Moves : UnitState → UnitState → Type 0) (write : Option Write) (book later : Book)
     → Moves (state_of old book) (state_of new later) → FitsUnit after new later → later.ours ≡ book.ours
-    → (book.ours ≡ true → LeavesOnly (FoundWith before.size book write) before after)
-    → Proceeds before after old new Moves write book
+    → (book.ours ≡ true → LeavesOnly (FoundWith before.size book write) before after) → Proceeds before after old new Moves write book
 proceeding before after old new Moves write book later moves fits same cuts = record {
   later = later;
   moves = moves;

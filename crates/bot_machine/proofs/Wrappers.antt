@@ -114,8 +114,7 @@ module _ {M : Type 0} (unit : UnitValue M) (packet : List ℕ) (exchange : Excha
       (named.0, found named.0 named.1, named.2)
 
   -- where it is carried out after its data, the unit intends to send nothing
-  pub waits_to_send_none : moment_of exchange.case ≡ after_data → (n : ℕ)
-      → intention_of unit exchange.command.block.items ≢ intent.In n
+  pub waits_to_send_none : moment_of exchange.case ≡ after_data → (n : ℕ) → intention_of unit exchange.command.block.items ≢ intent.In n
   waits_to_send_none moment n sends =
       after_data-sends_none exchange.case exchange.command.host exchange.intended begun.is_case moment n
       (begun.intended ∙ ap way_of sends)
@@ -175,8 +174,7 @@ module _ {M : Type 0} (unit : UnitValue M) (book : Book) (size : IsOfSize unit b
       exchange.intended intends begun.is_case (sym moment)
 
   -- and it is carried out in the event of its wrapper
-  pub carries_out : at_once ≡ moment_of exchange.case
-      → CarriesOutAtOnce packet (state_of unit book) exchange.command.block.items []
+  pub carries_out : at_once ≡ moment_of exchange.case → CarriesOutAtOnce packet (state_of unit book) exchange.command.block.items []
   carries_out moment = carries_at_once packet (state_of unit book) exchange.command exchange.intended exchange.case begun.spelled intends
       begun.is_case (sym moment)
 

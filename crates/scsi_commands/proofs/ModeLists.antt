@@ -17,5 +17,4 @@ same_bit bit enabled answer e h = cc
 pub bit_of_page :
     (list : List ℕ) (device : ℕ) (enabled : Bool) (bit : Option Bool)
     → selected_bit list ≡ Ok bit → list ≡ mode_header 0x00 device ++ caching_page enabled → bit ≡ Some enabled
-bit_of_page list device enabled bit told is =
-    same_bit bit enabled (selected_bit list) told (ap selected_bit is ∙ carries device enabled)
+bit_of_page list device enabled bit told is = same_bit bit enabled (selected_bit list) told (ap selected_bit is ∙ carries device enabled)

@@ -9,8 +9,7 @@ use Rattle.scsi_commands.specs.Supported.{command_size}
 use Rattle.scsi_commands.proofs.Rows.{by_same_rows}
 
 -- a byte of a block, where more follows
-byte_past : (place : ℕ) (block more : List ℕ) → place < length block
-    → byte_at place (block ++ more) ≡ byte_at place block
+byte_past : (place : ℕ) (block more : List ℕ) → place < length block → byte_at place (block ++ more) ≡ byte_at place block
 byte_past place block more inside = get_or-append block more 0 place inside
 
 -- a number of a block, where more follows
@@ -40,47 +39,37 @@ row_past block more enough row row' same two size code =
     ∙ ap (λ (tests : List Test). judged (tests ++ row'.fields) row'.command) (form_past row'.size row'.byte_1 block more two fits)
 
 -- each row of a command reads no byte past those that the command has
-request_sense_past : (block more : List ℕ) → 6 ≤ length block
-    → request_sense (block ++ more) ≡ request_sense block
-request_sense_past block more enough =
-    rw (byte_past 4 block more (omega arith)) refl
+request_sense_past : (block more : List ℕ) → 6 ≤ length block → request_sense (block ++ more) ≡ request_sense block
+request_sense_past block more enough = rw (byte_past 4 block more (omega arith)) refl
 
 inquiry_past : (block more : List ℕ) → 6 ≤ length block → inquiry (block ++ more) ≡ inquiry block
 inquiry_past block more enough =
     rw (byte_past 1 block more (omega arith), byte_past 2 block more (omega arith), number_past 3 2 block more (omega arith)) refl
 
-mode_select_past : (block more : List ℕ) → 6 ≤ length block
-    → mode_select (block ++ more) ≡ mode_select block
-mode_select_past block more enough =
-    rw (byte_past 4 block more (omega arith)) refl
+mode_select_past : (block more : List ℕ) → 6 ≤ length block → mode_select (block ++ more) ≡ mode_select block
+mode_select_past block more enough = rw (byte_past 4 block more (omega arith)) refl
 
-mode_sense_past : (block more : List ℕ) → 6 ≤ length block
-    → mode_sense (block ++ more) ≡ mode_sense block
+mode_sense_past : (block more : List ℕ) → 6 ≤ length block → mode_sense (block ++ more) ≡ mode_sense block
 mode_sense_past block more enough =
     rw (byte_past 2 block more (omega arith), byte_past 3 block more (omega arith), byte_past 4 block more (omega arith)) refl
 
-read_10_past : (n limit : ℕ) (block more : List ℕ) → 10 ≤ length block
-    → read_10 n limit (block ++ more) ≡ read_10 n limit block
+read_10_past : (n limit : ℕ) (block more : List ℕ) → 10 ≤ length block → read_10 n limit (block ++ more) ≡ read_10 n limit block
 read_10_past n limit block more enough =
     rw (byte_past 1 block more (omega arith), number_past 2 4 block more (omega arith), number_past 7 2 block more (omega arith)) refl
 
-write_10_past : (n limit : ℕ) (block more : List ℕ) → 10 ≤ length block
-    → write_10 n limit (block ++ more) ≡ write_10 n limit block
+write_10_past : (n limit : ℕ) (block more : List ℕ) → 10 ≤ length block → write_10 n limit (block ++ more) ≡ write_10 n limit block
 write_10_past n limit block more enough =
     rw (byte_past 1 block more (omega arith), number_past 2 4 block more (omega arith), number_past 7 2 block more (omega arith)) refl
 
 synchronize_cache_10_past : (n : ℕ) (block more : List ℕ) → 10 ≤ length block
     → synchronize_cache_10 n (block ++ more) ≡ synchronize_cache_10 n block
-synchronize_cache_10_past n block more enough =
-    rw (number_past 2 4 block more (omega arith), number_past 7 2 block more (omega arith)) refl
+synchronize_cache_10_past n block more enough = rw (number_past 2 4 block more (omega arith), number_past 7 2 block more (omega arith)) refl
 
-read_16_past : (n limit : ℕ) (block more : List ℕ) → 16 ≤ length block
-    → read_16 n limit (block ++ more) ≡ read_16 n limit block
+read_16_past : (n limit : ℕ) (block more : List ℕ) → 16 ≤ length block → read_16 n limit (block ++ more) ≡ read_16 n limit block
 read_16_past n limit block more enough =
     rw (byte_past 1 block more (omega arith), number_past 2 8 block more (omega arith), number_past 10 4 block more (omega arith)) refl
 
-write_16_past : (n limit : ℕ) (block more : List ℕ) → 16 ≤ length block
-    → write_16 n limit (block ++ more) ≡ write_16 n limit block
+write_16_past : (n limit : ℕ) (block more : List ℕ) → 16 ≤ length block → write_16 n limit (block ++ more) ≡ write_16 n limit block
 write_16_past n limit block more enough =
     rw (byte_past 1 block more (omega arith), number_past 2 8 block more (omega arith), number_past 10 4 block more (omega arith)) refl
 
@@ -89,10 +78,8 @@ synchronize_cache_16_past : (n : ℕ) (block more : List ℕ) → 16 ≤ length 
 synchronize_cache_16_past n block more enough =
     rw (number_past 2 8 block more (omega arith), number_past 10 4 block more (omega arith)) refl
 
-read_capacity_16_past : (block more : List ℕ) → 16 ≤ length block
-    → read_capacity_16 (block ++ more) ≡ read_capacity_16 block
-read_capacity_16_past block more enough =
-    rw (number_past 10 4 block more (omega arith)) refl
+read_capacity_16_past : (block more : List ℕ) → 16 ≤ length block → read_capacity_16 (block ++ more) ≡ read_capacity_16 block
+read_capacity_16_past block more enough = rw (number_past 10 4 block more (omega arith)) refl
 
 -- a block that is long enough for its command is not empty
 has_some : (block : List ℕ) → command_size (byte_at 0 block) ≤ length block → 0 < length block

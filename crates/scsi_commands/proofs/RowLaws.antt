@@ -33,8 +33,7 @@ mode_page : (control page subpage : ℕ) → AllPassed (mode_sense_tests control
 mode_page control page subpage passed = grind (arith, nat_tests, passed)
 
 -- an accepted command is supported
-pub supported : (n limit : ℕ) (block : List ℕ)
-    → IfOk (command_of n limit block) (IsSupported n limit)
+pub supported : (n limit : ℕ) (block : List ℕ) → IfOk (command_of n limit block) (IsSupported n limit)
 unfolding command_of form_tests
 supported n limit block =
     by_rows (λ (outcome : Result Command Sense). IfOk outcome (IsSupported n limit)) block (byte_at 0 block) (table n limit block) tt

@@ -28,10 +28,8 @@ SameRows block other code (row ∷ rows) (row' ∷ rows') =
     → judged_by block row ≡ judged_by other row') × SameRows block other code rows rows'
 
 -- then they say the same
-pub by_same_rows : (block other : List ℕ) (code : ℕ) (rows rows' : List Row)
-    → SameRows block other code rows rows'
-    → judged_by_row block (find (λ (row : Row). row.code == code) rows) ≡ judged_by_row other
-    (find (λ (row : Row). row.code == code) rows')
+pub by_same_rows : (block other : List ℕ) (code : ℕ) (rows rows' : List Row) → SameRows block other code rows rows'
+    → judged_by_row block (find (λ (row : Row). row.code == code) rows) ≡ judged_by_row other (find (λ (row : Row). row.code == code) rows')
 by_same_rows block other code [] [] each = refl
 by_same_rows block other code [] (row ∷ rows) each = absurd each
 by_same_rows block other code (row ∷ rows) [] each = absurd each

@@ -14,31 +14,26 @@ use Rattle.scsi_commands.specs.Written.{FitsFields, block_of, fua_bit, ten_bytes
 use Rattle.scsi_commands.proofs.Judged.{AllPassed, AllPassed-append, judged_all}
 
 -- a number that was written at a place is read there
-number_written : (place bytes x : ℕ) (block rest : List ℕ)
-    → drop place block ≡ big_bytes bytes x ++ rest → x < 256 ^ bytes
+number_written : (place bytes x : ℕ) (block rest : List ℕ) → drop place block ≡ big_bytes bytes x ++ rest → x < 256 ^ bytes
     → number_at place bytes block ≡ x
 unfolding number_at
-number_written place bytes x block rest there fits =
-    ap (big_number bytes) there ∙ big_number-reads_back bytes x rest fits
+number_written place bytes x block rest there fits = ap (big_number bytes) there ∙ big_number-reads_back bytes x rest fits
 
 -- a block that passes its tests says the command that they were made for
-row_written : (block : List ℕ) (row : Row) (command : Command)
-    → AllPassed (form_tests row.size row.byte_1 block) → AllPassed row.fields
+row_written : (block : List ℕ) (row : Row) (command : Command) → AllPassed (form_tests row.size row.byte_1 block) → AllPassed row.fields
     → row.command ≡ command → judged_by block row ≡ Ok command
 row_written block row command form fields same =
     let tests = form_tests row.size row.byte_1 block in
     judged_all (tests ++ row.fields) row.command (AllPassed-append tests row.fields form fields)
     ∙ ap (λ (c : Command). Ok c) same
 
-within_passed : (n limit : ℕ) (transfer : Transfer) → IsWithin n limit transfer
-    → AllPassed (transfer_tests n limit transfer)
+within_passed : (n limit : ℕ) (transfer : Transfer) → IsWithin n limit transfer → AllPassed (transfer_tests n limit transfer)
 within_passed n limit transfer within = (
   le-leb transfer.count limit within.few,
   (le-leb (transfer.address + transfer.count) n within.on_medium, tt),
 )
 
-range_passed : (n : ℕ) (range : BlockRange) → range.address + range.count ≤ n
-    → AllPassed (range_tests n range)
+range_passed : (n : ℕ) (range : BlockRange) → range.address + range.count ≤ n → AllPassed (range_tests n range)
 range_passed n range within = (le-leb (range.address + range.count) n within, tt)
 
 -- READ and WRITE of 10 bytes
@@ -114,8 +109,7 @@ transfer_16_row code n limit make t within fits =
     (transfer_16_written code t.address t.count t.fua fits.0 fits.1)
     (form_16_written code t.address t.count t.fua) within
 
-range_10_written : (r : BlockRange) → (r.address < 2 ^ 32) × (r.count < 2 ^ 16)
-    → range_10 (ten_bytes 0x35 0x00 r.address r.count) ≡ r
+range_10_written : (r : BlockRange) → (r.address < 2 ^ 32) × (r.count < 2 ^ 16) → range_10 (ten_bytes 0x35 0x00 r.address r.count) ≡ r
 range_10_written r fits =
     let block = ten_bytes 0x35 0x00 r.address r.count in
     rw (
@@ -124,8 +118,7 @@ range_10_written r fits =
       number_written 7 2 r.count block (0 ∷ []) refl fits.1,
     ) refl
 
-range_16_written : (r : BlockRange) → (r.address < 2 ^ 64) × (r.count < 2 ^ 32)
-    → range_16 (sixteen_bytes 0x91 0x00 r.address r.count) ≡ r
+range_16_written : (r : BlockRange) → (r.address < 2 ^ 64) × (r.count < 2 ^ 32) → range_16 (sixteen_bytes 0x91 0x00 r.address r.count) ≡ r
 range_16_written r fits =
     let block = sixteen_bytes 0x91 0x00 r.address r.count in
     rw (
@@ -142,8 +135,7 @@ mode_passed control page subpage has = grind (arith, nat_tests, has)
 
 mode_sense_written : (control page subpage allocation : ℕ) → HasModePage control page subpage
     → judged_by (block_of (ModeSense control page subpage allocation))
-    (mode_sense (block_of (ModeSense control page subpage allocation))) ≡ Ok
-    (ModeSense control page subpage allocation)
+    (mode_sense (block_of (ModeSense control page subpage allocation))) ≡ Ok (ModeSense control page subpage allocation)
 unfolding block_of form_tests
 mode_sense_written control page subpage allocation has =
     let block = block_of (ModeSense control page subpage allocation) in
@@ -175,21 +167,16 @@ written n limit (ModeSelect length) supported fits =
     let block = block_of (ModeSelect length) in
     row_written block (mode_select block) (ModeSelect length) (refl, (refl, (refl, tt)))
     (supported, tt) refl
-written n limit (ModeSense control page subpage allocation) supported fits =
-    mode_sense_written control page subpage allocation supported
+written n limit (ModeSense control page subpage allocation) supported fits = mode_sense_written control page subpage allocation supported
 written n limit ReadCapacity10 supported fits = refl
-written n limit (Read10 transfer) supported fits =
-    transfer_10_row 0x28 n limit Read10 transfer supported fits
-written n limit (Write10 transfer) supported fits =
-    transfer_10_row 0x2a n limit Write10 transfer supported fits
+written n limit (Read10 transfer) supported fits = transfer_10_row 0x28 n limit Read10 transfer supported fits
+written n limit (Write10 transfer) supported fits = transfer_10_row 0x2a n limit Write10 transfer supported fits
 written n limit (SynchronizeCache10 range) supported fits =
     let block = ten_bytes 0x35 0x00 range.address range.count in
     range_row 0x35 10 n SynchronizeCache10 block (range_10 block) range
     (range_10_written range fits) (refl, (refl, (refl, tt))) supported
-written n limit (Read16 transfer) supported fits =
-    transfer_16_row 0x88 n limit Read16 transfer supported fits
-written n limit (Write16 transfer) supported fits =
-    transfer_16_row 0x8a n limit Write16 transfer supported fits
+written n limit (Read16 transfer) supported fits = transfer_16_row 0x88 n limit Read16 transfer supported fits
+written n limit (Write16 transfer) supported fits = transfer_16_row 0x8a n limit Write16 transfer supported fits
 written n limit (SynchronizeCache16 range) supported fits =
     let block = sixteen_bytes 0x91 0x00 range.address range.count in
     range_row 0x91 16 n SynchronizeCache16 block (range_16 block) range

@@ -221,5 +221,4 @@ module _ (cached : Cached) (limits : HasLimits cached) where
 
 -- nor does a step in the background
 pub few_ticks : {M : Type 0} (before after : ℕ) (unit : UnitValue M) → after ≤ before + 2 → after ≤ before + most_calls unit
-few_ticks before after unit few =
-    omega (arith, few, one_more (slots_of unit.store.cached) (2 * unit_limit unit + 16) 0 (omega arith))
+few_ticks before after unit few = omega (arith, few, one_more (slots_of unit.store.cached) (2 * unit_limit unit + 16) 0 (omega arith))

@@ -64,8 +64,7 @@ sends_so : (unit : UnitState) (command : Command) (taken : List ℕ) (n : ℕ) �
     → moves command ≡ intent.In n → IfOk (effect_of command taken unit).answer (λ sent. length sent ≡ n)
 unfolding fixed_sense caching_page capacity_10 capacity_16 standard_data supported_pages unit_serial_number
     device_identification block_limits
-sends_so unit command taken n sized served is =
-    grind (arith, nat_tests, length-take {A = ℕ}, length-append {A = ℕ}, sized, read_so unit)
+sends_so unit command taken n sized served is = grind (arith, nat_tests, length-take {A = ℕ}, length-append {A = ℕ}, sized, read_so unit)
 
 -- a command that was not intended to send anything sends nothing
 inquiry_none : (limit : ℕ) (who : Identification) (allocation : ℕ) (page : Option ℕ)

@@ -143,8 +143,7 @@ module _ {M : Type 0} {Follows : M → M → Type 0} {before after : State} {old
 
   -- a write is not accepted: the store died
   pub write_refused : {sense : Sense} {transfer : Transfer} → WritesBlocks Follows transfer taken before after old.store last (Err sense)
-      → transfer.count ≢ 0
-      → Performs before after (Ok (command.Write10 transfer)) taken old (Err sense) (record old { store = last })
+      → transfer.count ≢ 0 → Performs before after (Ok (command.Write10 transfer)) taken old (Err sense) (record old { store = last })
   write_refused {transfer = transfer} writes some =
       let write = write_by transfer taken in
       let is = some_is transfer taken some in
@@ -192,8 +191,7 @@ module _ {M : Type 0} {Follows : M → M → Type 0} {before mid after : State} 
 
   -- WRITE: the write is accepted, and all accepted writes are made durable, if that is wanted
   module _ (writes : WritesBlocks Follows transfer taken before mid old.store half (Ok value)) where
-    accepted_line : (done : Result (Unit {0}) Sense)
-        → MakesDurable Follows (transfer.fua || not old.write_cache) mid after half last done
+    accepted_line : (done : Result (Unit {0}) Sense) → MakesDurable Follows (transfer.fua || not old.write_cache) mid after half last done
         → Stays before after old.store.cached last.cached
         → Lines before after (Ok (command.Write10 transfer)) taken old (silent done) (record old { store = last })
     accepted_line (Ok v) makes stay book fits =

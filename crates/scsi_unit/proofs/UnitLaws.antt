@@ -42,8 +42,7 @@ fits_size m unit book fits = fits.blocks
 -- what a unit intends is what its state with such a book intends
 pub intends_by_book : {M : Type 0} (unit : UnitValue M) (book : Book) (block : List ℕ)
     → IsOfSize unit book → intention_of unit block ≡ intention (state_of unit book) block
-intends_by_book unit book block size =
-    ap (λ n. intention_by n (unit_limit unit) unit.kept.attention (is_dead unit.store.cached) block) size
+intends_by_book unit book block size = ap (λ n. intention_by n (unit_limit unit) unit.kept.attention (is_dead unit.store.cached) block) size
 
 -- whether it promises, too
 pub promises_by_book : {M : Type 0} (unit : UnitValue M) (book : Book) (block : List ℕ) → IsOfSize unit book

@@ -21,8 +21,7 @@ limit_stays old new same = ap (λ (s : Shape). limit_of s.format) same
 
 -- a step in the background
 ticks_line : {M : Type 0} (before after : State) (old : UnitValue M) (store : StoreValue M)
-    (book : Book) → GoesOn before after old.store.cached store.cached
-    → FitsBook before old.store.cached book
+    (book : Book) → GoesOn before after old.store.cached store.cached → FitsBook before old.store.cached book
     → Ticks (has_refused before after) (state_of old book) (state_of (record old { store = store }) book)
 ticks_line before after old store book on fits =
     let limit = limit_stays old.store.cached store.cached on.layout_stays in

@@ -13,8 +13,7 @@ loop-event-init g c =
     }
 
 pub push-requires : goal.push-requires
-push-requires g c =
-    rw (c.loop-event.invariant.room) (omega (arith, c.loop-event.invariant.count, c.loop-event-test.true, c.requires))
+push-requires g c = rw (c.loop-event.invariant.room) (omega (arith, c.loop-event.invariant.count, c.loop-event-test.true, c.requires))
 
 pub loop-event-preserved : goal.loop-event-preserved
 loop-event-preserved g c =

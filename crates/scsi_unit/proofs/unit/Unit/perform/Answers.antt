@@ -59,12 +59,10 @@ returns-in-ReadCapacity16-clause-performs g c =
     (λ book fits. grind (arith, told, c.capacity_16.ensures, c.blocks-in-ReadCapacity16.ensures.is, fits.blocks)))
 
 pub returns-in-ModeSelect-clause-performs : goal.returns-in-ModeSelect-clause-performs
-returns-in-ModeSelect-clause-performs g c =
-    rw (c.in-ModeSelect.is, c.silent.ensures.answer c.args.out.now) c.select.ensures.performs
+returns-in-ModeSelect-clause-performs g c = rw (c.in-ModeSelect.is, c.silent.ensures.answer c.args.out.now) c.select.ensures.performs
 
 pub returns-in-ModeSelect-clause-spares : goal.returns-in-ModeSelect-clause-spares
-returns-in-ModeSelect-clause-spares g c =
-    rw (c.in-ModeSelect.is, c.silent.ensures.answer c.args.out.now) c.select.ensures.spares
+returns-in-ModeSelect-clause-spares g c = rw (c.in-ModeSelect.is, c.silent.ensures.answer c.args.out.now) c.select.ensures.spares
 
 pub returns-in-RequestSense-clause-sends : goal.returns-in-RequestSense-clause-sends
 returns-in-RequestSense-clause-sends g c =
