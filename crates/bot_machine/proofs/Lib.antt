@@ -4,9 +4,8 @@ pub mod Wrappers
 pub mod OutPackets
 pub mod BookLaws
 pub mod Runs
-pub mod Transfers
 pub mod Moved
-pub mod StruckTicks
+pub mod Policy
 pub mod LifeActions
 pub mod LifeStarts
 pub mod LifeRuns

@@ -1,13 +1,13 @@
 -- Data in packets: cut off its front, sent one after another, taken into the front of a buffer.
-use Rattle.std.proofs.Common.{◌<◌, ◌≤◌, arith, ◌≡◌, ℕ, suc, ◌+◌, ◌-◌, ◌/◌, min, List, [], ◌∷◌, length, take, drop, slice_range, sym, ap}
-use Rattle.std.proofs.{Common.{◌∙◌, length-drop, length-take, Bool, false, refl, nat_le, ◌++◌}, Math.Nat.{add-div_right, div-eq_of_lt}}
+use Rattle.std.proofs.Common.{◌<◌, ◌≤◌, arith, ◌≡◌, ℕ, ◌+◌, ◌-◌, min, List, [], ◌∷◌, length, take, drop, slice_range, sym, ap}
+use Rattle.std.proofs.Common.{◌∙◌, length-drop, length-take, Bool, false, refl, ◌++◌}
 use Rattle.std.proofs.{lemmas.List.{take-take, drop-take, drop-drop, drop_all, take_all, take-append-le}, Math.Seq.take-append-add}
-use Rattle.std.proofs.lemmas.Bool.Decides.{nat_tests}
 use Rattle.spec.specs.{declared.packet_size.PacketSize.PacketSize, declared.packet_size.PacketSize.TheVariants.{Full64, High512}}
-use Rattle.spec.specs.{Packets.{bytes_of, packets_of, cut_into}, declared.case.Case.Case, declared.case.Endpoint.Endpoint}
+use Rattle.spec.specs.{Packets.{bytes_of, packets_of}, declared.case.Case.Case, declared.case.Endpoint.Endpoint}
 use Rattle.spec.specs.declared.event.Answer.TheVariants.{Data}
 use Rattle.spec.specs.Exchange.{Line, Script, sending, in_answer, after_in, laid_out, sent_in, moment_of, after_data}
-use Rattle.std.specs.Prelude.{None, Option, if◌then◌else◌, ◌==◌, ◌&&◌}
+use Rattle.std.specs.Prelude.{None, Option}
+use Rattle.conversations.proofs.Packets.{packets_of-more, packets_of-none}
 use Rattle.bot_machine.specs.{Refinement.{halt_of, sent_size}, Serving.LiesIn}
 
 pub some_bytes : (size : PacketSize) → 0 < bytes_of size
@@ -18,29 +18,6 @@ some_bytes High512 = omega arith
 pub few_bytes : (size : PacketSize) → (13 ≤ bytes_of size) × (bytes_of size ≤ 512)
 few_bytes Full64 = (omega arith, omega arith)
 few_bytes High512 = (omega arith, omega arith)
-
--- where something is left, there is one packet more than after it
-one_more : (n size : ℕ) → 0 < size → 0 < n → (n + (size - 1)) / size ≡ suc (((n - size) + (size - 1)) / size)
-one_more n size some h =
-    let before : (n + (size - 1)) / size ≡ (n - 1) / size + 1
-    = ap (λ k. k / size) (let k : n + (size - 1) ≡ (n - 1) + size = omega arith in k) ∙ add-div_right (n - 1) some in
-    grind (arith, before, div-eq_of_lt)
-
--- where there is data, the first packet takes at most `size` bytes of it
-pub packets_of-more : (size : ℕ) (bytes : List ℕ) → 0 < size → 0 < length bytes
-    → packets_of size bytes ≡ take size bytes ∷ packets_of size (drop size bytes)
-unfolding packets_of
-packets_of-more size bytes some h =
-    let left : length bytes - size ≡ length (drop size bytes) = omega (arith, length-drop size bytes) in
-    let e : (length bytes + (size - 1)) / size ≡ suc ((length (drop size bytes) + (size - 1)) / size)
-    = one_more (length bytes) size some h ∙ ap (λ n. suc ((n + (size - 1)) / size)) left in
-    ap (λ n. cut_into size n bytes) e
-
-pub packets_of-none : (size : ℕ) → 0 < size → packets_of size [] ≡ []
-unfolding packets_of
-packets_of-none size some =
-    let none : (0 + (size - 1)) / size ≡ 0 = div-eq_of_lt (let k : 0 + (size - 1) < size = omega arith in k) in
-    ap (λ n. cut_into size n []) none
 
 module _ (size : ℕ) (packet : 0 < size) where
   first_of : (xs : List ℕ) (from to end : ℕ) → end ≡ min to (from + size) → from < to
@@ -142,12 +119,3 @@ pub front_filled : (front packet rest : List ℕ) (filled size more : ℕ) → l
     → more ≡ min (length packet) (size - filled) → take (filled + more) (front ++ (take more packet ++ rest)) ≡ take size (front ++ packet)
 front_filled front packet rest filled size more l h e =
     grind (arith, length-take {A = ℕ}, take-append-add {A = ℕ}, take-append-le {A = ℕ}, take_all {A = ℕ})
-
-module _ {A : Type 0} (most size due : ℕ) (a b : A) where
-  -- the last packet of the data
-  pub last_packet : size ≡ due → due ≤ most → a ≡ (if (size == due) && nat_le due most then a else b)
-  last_packet same few = grind (arith, nat_tests)
-
-  -- any other packet
-  pub other_packet : (size ≡ due → most < due) → b ≡ (if (size == due) && nat_le due most then a else b)
-  other_packet other = grind (arith, nat_tests)

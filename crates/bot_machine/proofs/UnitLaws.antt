@@ -2,7 +2,7 @@
 use Rattle.std.proofs.Common.{◌≡◌, ℕ, List, None, true, ap, ◌∙◌, refl, subst}
 use Rattle.std.specs.Prelude.{Result, Option, None}
 use Rattle.spec.specs.{Book.Book, Sense.Sense, Rules.UnitState, StatusWrapper.status_wrapper, Blocks.Write}
-pub use Rattle.scsi_unit.proofs.UnitLaws.{is_function, keeps_writes, keeps_intentions, ticks_only, stays_faulted, between_calls}
+pub use Rattle.scsi_unit.proofs.UnitLaws.{keeps_writes, ticks_only, stays_faulted, between_calls}
 pub use Rattle.scsi_unit.proofs.UnitLaws.{limit_between_calls, start_keeps_limit, fits_size, knows_images, few_ticks, intends_by_book}
 pub use Rattle.scsi_unit.proofs.UnitLaws.{promises_by_book, quiet_by_book, none_made, step_made, steps_to_write, written_live, ahead_fewer}
 pub use Rattle.scsi_unit.proofs.UnitLaws.{both_empty, plain_quiet}

@@ -1,11 +1,13 @@
 -- A packet that spells a command block wrapper: the one exchange that it begins, and what that reads.
 use Rattle.std.proofs.Common.{◌≡◌, ◌≢◌, ℕ, List, arith, ◌⊎◌, ◌<◌, ⊎_elim, inl, inr, Option, Some, None, MatchOption, false, sym, ap, ◌∙◌}
 use Rattle.std.proofs.Common.{subst, Bool, [], refl}
-use Rattle.spec.specs.{declared.wrapper.Cbw.Cbw, declared.way.Way.Way, declared.way.Way.TheVariants.{In, Out}, declared.case.Case.Case}
+use Rattle.spec.specs.{declared.wrapper.Cbw.Cbw, declared.way.Way.Way, declared.way.Way.TheVariants.In, declared.case.Case.Case}
 use Rattle.spec.specs.{declared.case.Outcome.Outcome, CommandWrapper.{SpellsCommand, SpellsNone}, Cases.IsCase}
 use Rattle.spec.specs.Exchange.{at_once, after_data, moment_of, finished, Line}
 use Rattle.spec.specs.Rules.{Intention, UnitState, CarriesOut, Ticks, intention, write_in_progress}
 use Rattle.spec.specs.{UnitConversation.{way_of, Intends, on_line}, Book.Book, Conversation.{Conversation, Begins, OpensExchange}}
+pub use Rattle.conversations.proofs.Wrappers.{one_wrapper}
+use Rattle.conversations.proofs.Wrappers.{at_once-writes_none}
 use Rattle.bot_machine.specs.{Cases.IsFit, declared.exchange.Exchange.Exchange, Disk.DiskValue, Reading.{sectors_in, sectors_for}}
 use Rattle.bot_machine.specs.Reading.{WrapperReads, WrapperReadsNone, ReadsHome, ReadsNoHome, LooksBesides, WrapperReadsAt}
 use Rattle.bot_machine.specs.{Serving.IsBegun, Acts.CarriesOutAtOnce}
@@ -16,30 +18,13 @@ use Rattle.spec.specs.declared.intent.Intent.TheVariants as intent
 use Rattle.scsi_unit.specs.{Reading.{first_home_of, home_sectors_of, IsOneOf}, UnitValue.{UnitValue, intention_of, state_of, IsOfSize}}
 use Rattle.scsi_unit.specs.declared.reading.HomeSectors.{HomeSectors}
 use Rattle.std.specs.Prelude.{None}
-use Rattle.bot_machine.proofs.UnitLaws.{intends_by_book, keeps_intentions}
-
-pub one_wrapper : (packet : List ℕ) (one other : Cbw) → SpellsCommand packet one → SpellsCommand packet other → one ≡ other
-one_wrapper packet one other first second = grind arith
-
-pub one_case : (case other : Case) (host intention : Way) → IsCase case host intention → IsCase other host intention → case ≡ other
-one_case case other host intention first second = grind arith
+use Rattle.bot_machine.proofs.UnitLaws.{intends_by_book}
 
 -- the rules fix one outcome
 pub one_outcome : (host intention : Way) (one other : Outcome) → IsFit host intention one → IsFit host intention other → one ≡ other
 one_outcome host intention one other first second = grind arith
 
--- a command that is carried out at once does not intend to take data
-pub at_once-takes_none : (case : Case) (host intended : Way) → IsCase case host intended → moment_of case ≡ at_once
-    → (n : ℕ) → intended ≢ Out n
-at_once-takes_none case host intended is moment n e = grind arith
-
--- and it writes nothing
-pub at_once-writes_none : (unit : UnitState) (block taken : List ℕ) (case : Case) (host intended : Way) → Intends unit block intended
-    → IsCase case host intended → moment_of case ≡ at_once → write_in_progress unit block taken ≡ None
-at_once-writes_none unit block taken case host intended intends is moment = keeps_intentions.unwritten unit block taken
-    (λ n out. at_once-takes_none case host intended is moment n (intends ∙ ap way_of out))
-
--- and the packet that spells it has it carried out, over no bytes
+-- the packet that spells a command that is carried out at once has it carried out, over no bytes
 pub carries_at_once : (packet : List ℕ) (unit : UnitState) (command : Cbw) (intended : Way) (case : Case)
     → SpellsCommand packet command → Intends unit command.block.items intended → IsCase case command.host intended
     → moment_of case ≡ at_once → CarriesOutAtOnce packet unit command.block.items []

@@ -23,8 +23,6 @@ pub mod Faulting
 pub mod Opening
 pub mod Refinement
 pub mod Serving
-pub mod Striking
-pub mod Transfers
 pub mod LivesValue
 pub mod Moving
 pub mod Policy

@@ -1,23 +1,8 @@
-//! What holds of every conversation.
+//! What holds of every book of a life, and of the policy of a disk.
 ghost use Rattle.bot_machine.specs.BookLaws.{AreBookLaws};
 ghost use Rattle.bot_machine.specs.Policy.{KeepsPolicy, PolicyIsUnseen};
-ghost use Rattle.bot_machine.specs.Striking.{TicksAreStruck};
-ghost use Rattle.bot_machine.specs.Transfers.{SizesAreAlike};
 
 use medium::Medium;
-
-/// Does nothing: its contract says that a host sees nothing of the steps in the background.
-#[tactic(auto, using(crate::proofs::StruckTicks::ticks_struck))]
-pub fn conversation_laws()
-    ensures { TicksAreStruck }
-{}
-
-/// Does nothing: its contract says that a host hears the same, and that the unit comes to the same,
-/// whatever the size of a packet.
-#[tactic(auto, using(crate::proofs::Transfers::sizes_alike))]
-pub fn packet_laws()
-    ensures { SizesAreAlike }
-{}
 
 /// Does nothing: its contract says what an event does to the book of a life. A write in progress is
 /// the last one accepted, or the unit is faulted; the promises stay, or a command promises all
@@ -30,7 +15,7 @@ pub fn book_laws()
 /// Does nothing: its contract says that over its lives a disk retires as was asked at their start,
 /// and that a host sees nothing of it: two disks that differ in that alone give the same packets,
 /// over a medium of any kind that refuses nothing.
-#[tactic(auto, using(crate::proofs::StruckTicks::keeps_policy))]
+#[tactic(auto, using(crate::proofs::Policy::keeps_policy))]
 pub fn policy_laws<M: Medium>()
     ensures kept { KeepsPolicy }
     ensures unseen { PolicyIsUnseen M.state }

@@ -1,4 +1,4 @@
-use Rattle.bot_machine.proofs.StruckTicks.{policy_is_unseen}
+use Rattle.bot_machine.proofs.Policy.{policy_is_unseen}
 use Rattle.bot_machine.proofs.laws.policy_laws.Goals as goal
 
 pub returns-clause-unseen : goal.returns-clause-unseen

@@ -12,11 +12,11 @@ use Rattle.spec.specs.Exchange.{after_data, never, moment_of, outcome_for}
 use Rattle.spec.specs.Conversation.{Conversation, OutStep, IsCarriedOut, Begins, OpensExchange, Takes}
 use Rattle.spec.specs.{UnitConversation.{Intends, UnitStep, way_of, on_line}, Cases.{IsCase, size_of_way}, CommandWrapper.SpellsCommand}
 use Rattle.spec.specs.Book.{StampsOut}
-use Rattle.bot_machine.specs.Transfers.{packet_out, Asks, packets_in, status_in, data_in, heard_in, Transfer, events_of, Heard}
-use Rattle.bot_machine.specs.{Transfers.{IsTransferred, SizesAreAlike}, Striking.HasStamps}
-use Rattle.bot_machine.proofs.Packets.{packets_of-more, packets_of-none, last_packet}
-use Rattle.bot_machine.proofs.StruckTicks.{one_request, Untroubled, opens_as, untroubled, First, first_of}
-use Rattle.bot_machine.proofs.{Wrappers.{one_wrapper, one_case, at_once-writes_none}, UnitLaws.is_function}
+use Rattle.conversations.specs.Transfers.{packet_out, Asks, packets_in, status_in, data_in, heard_in, Transfer, events_of, Heard}
+use Rattle.conversations.specs.{Transfers.{IsTransferred, SizesAreAlike}, Striking.HasStamps}
+use Rattle.conversations.proofs.{Packets.{packets_of-more, packets_of-none, last_packet}, Rules.one_answer}
+use Rattle.conversations.proofs.StruckTicks.{one_request, Untroubled, opens_as, untroubled, First, first_of}
+use Rattle.conversations.proofs.Wrappers.{one_wrapper, one_case, at_once-writes_none}
 
 -- ---- lists of packets
 
@@ -150,7 +150,7 @@ one_carried_out : (case : Case) (command : Cbw) (intended : Way) (bytes : List �
     → CarriedOut case command intended bytes old new heard → CarriedOut case command intended bytes old last again
     → (new ≡ last) × (heard ≡ again)
 one_carried_out case command intended bytes old new last heard again a b =
-    let same = is_function.one_answer command.block.items bytes old new last a.answer b.answer a.stamps a.effect b.effect in grind arith
+    let same = one_answer command.block.items bytes old new last a.answer b.answer a.stamps a.effect b.effect in grind arith
 
 one_outcome : (moment : Moment) (case : Case) (command : Cbw) (intended : Way) (sent : List ℕ) (old new last : UnitState)
     (heard again : Heard) → Outcome moment case command intended sent old new heard

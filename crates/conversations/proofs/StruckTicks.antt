@@ -1,20 +1,15 @@
--- What a host sees where the medium refuses nothing and stamps are left: neither steps in the background nor when records go home.
-use Rattle.std.proofs.Common.{◌≡◌, inl, inr, ℕ, Bool, true, false, List, [], sym, ap, ◌∙◌, arith, ◌∷◌, refl, subst}
+-- What a host sees of steps in the background where the medium refuses nothing and stamps are left: nothing.
+use Rattle.std.proofs.Common.{◌≡◌, inl, inr, ℕ, Bool, true, false, List, [], sym, ◌∙◌, arith, ◌∷◌, refl, subst}
 use Rattle.std.proofs.lemmas.Bool.Decides.{nat_tests}
 use Rattle.spec.specs.{declared.wrapper.Cbw.Cbw, declared.way.Way.Way, declared.case.Case.Case, Cases.IsCase, CommandWrapper.SpellsCommand}
-use Rattle.spec.specs.{Book.{StampsOut, Book}, Rules.{UnitState, CarriesOut, Ticks, write_in_progress, with_progress, opened_unit}}
+use Rattle.spec.specs.{Book.StampsOut, Rules.{UnitState, CarriesOut, Ticks, write_in_progress, with_progress}}
 use Rattle.spec.specs.{declared.event.Event.Event, declared.event.Answer.Answer, Requests.{Request, setup_packet}}
-use Rattle.spec.specs.Exchange.{Line, Script, finished, taking, sending, Moment, at_once, moment_of, at_rest}
+use Rattle.spec.specs.Exchange.{Line, Script, finished, taking, sending, Moment, at_once, moment_of}
 use Rattle.spec.specs.Conversation.{Conversation, IsCarriedOut, Begins, OpensExchange, Takes, OutStep, SetupStep}
-use Rattle.spec.specs.{UnitConversation.{Intends, write_of_packet, UnitStep, UnitRun, on_line}, Lives.Action}
-use Rattle.bot_machine.proofs.{Wrappers.{one_wrapper, one_case, at_once-writes_none}, UnitLaws.{is_function, ticks_only, knows_images}}
-use Rattle.bot_machine.proofs.Moved.{moves_keep}
+use Rattle.spec.specs.UnitConversation.{Intends, write_of_packet, UnitStep, UnitRun}
 use Rattle.spec.specs.declared.event.Event.TheVariants as event
-use Rattle.bot_machine.specs.Striking.{TicksAreStruck, HasStamps, without_ticks, answers_without_ticks, IsUntroubled}
-use Rattle.bot_machine.specs.{declared.lives.disk_state.DiskState.DiskState, Device.Device, Disk.{DiskValue, over}, Opening.IsOpened}
-use Rattle.bot_machine.specs.{Moving.Does, Policy.{DiskRetires, KeepsPolicy, PolicyIsUnseen}}
-use Rattle.medium.specs.Medium.{State}
-use Rattle.scsi_unit.specs.UnitValue.{unit_limit, state_of as unit_state}
+use Rattle.conversations.specs.Striking.{TicksAreStruck, HasStamps, without_ticks, answers_without_ticks, IsUntroubled}
+use Rattle.conversations.proofs.{Rules.{one_answer, ticks_nothing}, Wrappers.{one_wrapper, one_case, at_once-writes_none}}
 
 -- conversations are the same where line and unit are
 pub same_conversation : (one other : Conversation UnitState) → one.line ≡ other.line → one.unit ≡ other.unit → one ≡ other
@@ -25,7 +20,7 @@ carried_out_once : (case : Case) (command : Cbw) (intended : Way) (bytes : List 
     → IsCarriedOut Intends CarriesOut Ticks false case command intended bytes old one
     → IsCarriedOut Intends CarriesOut Ticks false case command intended bytes old other → one ≡ other
 carried_out_once case command intended bytes old one other stamps a b =
-    let same = is_function.one_answer command.block.items bytes old.unit one.unit other.unit a.answer b.answer stamps a.effect b.effect in
+    let same = one_answer command.block.items bytes old.unit one.unit other.unit a.answer b.answer stamps a.effect b.effect in
     grind arith
 
 begins_once : (moment : Moment) (case : Case) (command : Cbw) (intended : Way) (old one other : Conversation UnitState)
@@ -87,7 +82,7 @@ setup_once packet old one other answer again a b = grind (arith, one_request)
 -- a step in the background changes nothing
 pub still : (old new : Conversation UnitState) (answer : Answer) → HasStamps old event.Tick
     → UnitStep false old event.Tick answer new → new ≡ old
-still old new answer stamps step = let same = ticks_only.nothing old.unit new.unit stamps step.1 in grind arith
+still old new answer stamps step = let same = ticks_nothing old.unit new.unit stamps step.1 in grind arith
 
 pub one_step : (old one other : Conversation UnitState) (happens : Event) (answer again : Answer) → HasStamps old happens
     → UnitStep false old happens answer one → UnitStep false old happens again other → (answer ≡ again) × (one ≡ other)
@@ -150,50 +145,3 @@ ticks_struck old new other events fewer answers told refusals refused run again 
     runs_once (without_ticks fewer) _ _ old new other
     (rw e at (struck events answers old new (untroubled old events answers refusals new run u)))
     (struck fewer told old other (untroubled old fewer told refused other again v))
-
--- ---- a disk keeps to it
-
-policy_kept : (device : Device) (old new : DiskState) (action : Action) (answers : List Answer) → Does device old action answers new
-    → DiskRetires device.retiring old → DiskRetires device.retiring new
-policy_kept device old new action answers does has = grind arith
-
-pub keeps_policy : KeepsPolicy
-keeps_policy device = moves_keep device (DiskRetires device.retiring) (policy_kept device)
-
--- ---- a host sees nothing of it
-
--- with what a disk opens, whenever its records go home
-abbrev opened : (limit : ℕ) (device : Device) (book : Book) → Conversation UnitState
-opened limit device book = on_line (at_rest device.packet_size) (opened_unit limit device.identity book)
-
-module _ {M : Type 0} (state : M → State) where
-  opens : (medium : M) (device : Device) (disk : DiskValue M) (book : Book)
-      → IsOpened (state medium) (state disk.unit.store.medium) device disk → over disk book ≡ opened (unit_limit disk.unit) device book
-  opens medium device disk book h =
-      ap (λ (l : Line). on_line l (unit_state disk.unit book)) h.line
-      ∙ ap (λ (u : UnitState). on_line (at_rest device.packet_size) u) (h.unit book)
-
-  -- runs from the same conversation
-  alike : (old start new other : Conversation UnitState) (events others : List Event) (answers told : List Answer)
-      (refusals refused : List Bool) → start ≡ old
-      → (run : UnitRun old events answers refusals new) → IsUntroubled old events answers refusals new run
-      → (again : UnitRun start others told refused other) → IsUntroubled start others told refused other again
-      → without_ticks events ≡ without_ticks others → answers_without_ticks events answers ≡ answers_without_ticks others told
-  alike old start new other events others answers told refusals refused same run u again v ticks =
-      subst (λ (c : Conversation UnitState). (again : UnitRun c others told refused other)
-      → IsUntroubled c others told refused other again → answers_without_ticks events answers ≡ answers_without_ticks others told)
-      (sym same)
-      (λ again v. (ticks_struck old new other events others answers told refusals refused run again ticks u v).0) again v
-
-  pub policy_is_unseen : PolicyIsUnseen state
-  policy_is_unseen medium device retiring book events others answers told one other ticks =
-      let first = one.opened in
-      let next = other.opened in
-      let limit = knows_images.one_limit (state medium).size (unit_limit other.first.unit) (unit_limit one.first.unit)
-      (state medium).content next.limit first.limit in
-      alike (over one.first book) (over other.first book) (over one.last one.on.later) (over other.last other.on.later) events others
-      answers
-      told one.run.refusals other.run.refusals
-      (opens medium (record device { retiring = retiring }) other.first book next
-      ∙ ap (λ (n : ℕ). opened n device book) limit ∙ sym (opens medium device one.first book first))
-      one.on.run one.untroubled other.on.run other.untroubled ticks

@@ -1,0 +1,18 @@
+//! What holds of every conversation by the rules alone, whatever carries them out.
+#![tactic(auto)]
+
+ghost use Rattle.conversations.specs.Striking.{TicksAreStruck};
+ghost use Rattle.conversations.specs.Transfers.{SizesAreAlike};
+
+/// Does nothing: its contract says that a host sees nothing of the steps in the background.
+#[tactic(auto, using(crate::proofs::StruckTicks::ticks_struck))]
+pub fn conversation_laws()
+    ensures { TicksAreStruck }
+{}
+
+/// Does nothing: its contract says that a host hears the same, and that the unit comes to the same,
+/// whatever the size of a packet.
+#[tactic(auto, using(crate::proofs::Transfers::sizes_alike))]
+pub fn packet_laws()
+    ensures { SizesAreAlike }
+{}
