@@ -1,4 +1,3 @@
-pub mod Roomy
 pub mod Served
 pub mod Stepping
 pub mod WrittenBack

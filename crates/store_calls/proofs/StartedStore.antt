@@ -1,5 +1,5 @@
 -- A start of a store, good or refused.
-use Rattle.std.proofs.Common.{◌≡◌, ◌≢◌, ◌⊎◌, inl, inr, ◌<◌, ◌+◌, length, sym, subst, arith}
+use Rattle.std.proofs.Common.{◌≡◌, ◌≢◌, ◌⊎◌, inl, inr, ◌<◌, ◌+◌, length, subst, arith}
 use Rattle.medium.specs.Sent.{sent}
 use Rattle.medium.specs.declared.fault.MediumFault.TheVariants as kind
 use Rattle.medium.specs.declared.fault.MediumFault.{MediumFault}
@@ -9,10 +9,7 @@ use Rattle.window.specs.Looks.{near_in_sight, none_missed}
 use Rattle.recovery.specs.Causes.{start_fault_of}
 use Rattle.recovery.specs.declared.start_fault.StartFault.{StartFault}
 use Rattle.recovery.specs.declared.start_fault.StartFault.TheVariants as fault
-use Rattle.std.specs.Prelude.{true}
-use Rattle.blocks.specs.Ahead.{may_go_ahead}
-use Rattle.blocks.specs.Headroom.{HasHeadroom}
-use Rattle.blocks.specs.Started.{IsStarted, IsStartCause, StartLeaves, LeavesMedium}
+use Rattle.blocks.specs.Started.{IsStarted, IsStartCause, StartLeaves, LeavesMedium, StartsAhead}
 use Rattle.blocks.specs.StoreValue.{layout_of}
 use Rattle.blocks.proofs.KnownImages.{each_ours, finds, is_cause_for}
 use Rattle.store_calls.specs.Stores.{Store}
@@ -38,25 +35,21 @@ holds_log first new started follows holds =
     let below = holds.log (layout_of new.cached) (record { super = stood.keeps.super; fits = stood.fits }) in
     omega (arith, below, follows.near_stays)
 
-pub began : (first m : Window) (new held : Store) → m ≡ first → held ≡ new → length m.outbox ≡ 0
-    → IsStarted (state_of m) (state_of new.medium) new.cached → LeavesMedium state_of ComesAfter m new.medium
-    → CoversDevice m new.medium → CoversParts m new.medium → IsServed m new.medium → IsRoomy new
-    → new.goes_ahead ≡ may_go_ahead (layout_of new.cached) → (new.goes_ahead ≡ true → HasHeadroom new.cached.log) → Begins first held
-began first m new held on same empty started medium covers parts served roomy policy headroom =
-    subst (λ (s : Store). Begins first s) (sym same)
-    (subst (λ (w : Window). Begins w new) on (record {
-      started = started;
-      leaves = start_leaves m new.medium medium;
-      medium = medium;
-      covers = covers;
-      parts = parts;
-      served = served;
-      refuses = start_refuses m new.medium empty medium served;
-      holds = holds_log m new started medium.follows;
-      roomy = roomy;
-      policy = policy;
-      headroom = headroom;
-    }))
+pub began : (first : Window) (new : Store) → length first.outbox ≡ 0 → StartsAhead state_of ComesAfter first new
+    → CoversDevice first new.medium → CoversParts first new.medium → IsServed first new.medium → IsRoomy new → Begins first new
+began first new empty starts covers parts served roomy = record {
+  started = starts.started;
+  leaves = start_leaves first new.medium starts.leaves;
+  medium = starts.leaves;
+  covers = covers;
+  parts = parts;
+  served = served;
+  refuses = start_refuses first new.medium empty starts.leaves served;
+  holds = holds_log first new starts.started starts.leaves.follows;
+  roomy = roomy;
+  policy = starts.policy;
+  headroom = starts.headroom;
+}
 
 -- ---- a start that was refused: its own calls say why
 

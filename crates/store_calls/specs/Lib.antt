@@ -1,5 +1,6 @@
 pub mod StoreRow
 pub mod Stores
+pub mod Supers
 pub mod Rooms
 pub mod Outbox
 pub mod Starts

@@ -1,17 +1,16 @@
 -- Nothing that a store asks of its medium is refused: no write and no flush for want of room, and
 -- no read of a sector that is not in sight.
-use Rattle.std.specs.Prelude.{◌≡◌, ◌⊎◌, ℕ, ◌+◌, ◌<◌, ◌≤◌, true, List, length, max}
+use Rattle.std.specs.Prelude.{◌≡◌, ◌⊎◌, ℕ, ◌+◌, ◌≤◌, length}
 use Rattle.journal.specs.Places.{Shape, first_home, sectors_of}
 use Rattle.journal.specs.Sectors.{IsSuper}
 use Rattle.journal.specs.declared.log_format.LogFormat.{LogFormat}
 use Rattle.journal.specs.declared.log_format.LogFormat.TheVariants.{Two}
 use Rattle.medium.specs.Medium.{State}
-use Rattle.medium.specs.Writes.{sector_of}
 use Rattle.window.specs.Parts as mirror
 use Rattle.recovery.specs.Calls.{most_start_sends}
 use Rattle.recovery.specs.Calls as recovery
 use Rattle.recovery.specs.Recovered.{HasNoneWaiting}
-use Rattle.window.specs.Window.{Window, state_of, mirror_of, kept_out, is_in_sight, ComesAfter}
+use Rattle.window.specs.Window.{Window, state_of, mirror_of, kept_out, ComesAfter}
 use Rattle.window.specs.Window.{CoversDevice, IsServed}
 -- handed on to the layers above
 pub use Rattle.blocks.specs.Sent.{most_sent}
@@ -87,11 +86,6 @@ pub record Appends (Room : Type 0) (old new : Store) : Type 0 where
   pub refuses : RefusesNothing Room (HoldsLog old) old.medium new.medium
 
 -- ---- a start
-
--- the first sectors begin with the super of an image that wants more room than this
-abbrev pub WantsMore : List ℕ → ℕ → Type 0
-WantsMore near room = (512 ≤ length near)
-    × ((shape : Shape) × IsSuper shape (sector_of near 0) × (room < room_for shape))
 
 -- a start makes no more writes and flushes where no record waits
 abbrev pub clean_sends : ℕ

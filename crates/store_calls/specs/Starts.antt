@@ -12,7 +12,7 @@ use Rattle.blocks.specs.Started.{IsStarted, IsStartCause, StartLeaves, LeavesMed
 use Rattle.blocks.specs.StoreValue.{layout_of}
 use Rattle.store_calls.specs.Stores.{Store}
 use Rattle.store_calls.specs.Rooms.{CoversParts, StartRefusesNothing, HoldsImageLog, HoldsLog}
-use Rattle.store_calls.specs.Rooms.{WantsMore, IsRoomy}
+use Rattle.store_calls.specs.Rooms.{IsRoomy}
 use Rattle.store_calls.specs.declared.call_fault.CallFault.{CallFault}
 use Rattle.store_calls.specs.declared.call_fault.CallFault.TheVariants as fault
 
@@ -52,16 +52,10 @@ abbrev pub IsNoLength : List ℕ → ℕ → Type 0
 IsNoLength near sectors = (length near ≡ 0) ⊎ (length near % 512 ≢ 0)
     ⊎ (512 * sectors < length near)
 
--- why no store was started where the room is enough: for want of memory, by the lengths, or, where
--- these are good, as the recovery was refused
-abbrev pub IsFault : List ℕ → ℕ → Window → CallFault → Type 0
-IsFault near sectors first why = (why ≡ fault.Start start.NoMemory)
+-- why no store was started: for want of memory, by the lengths, or, where these are good, as the
+-- recovery was refused
+abbrev pub IsNoStart : List ℕ → ℕ → Window → CallFault → Type 0
+IsNoStart near sectors first why = (why ≡ fault.Start start.NoMemory)
     ⊎ ((why ≡ fault.Length) × IsNoLength near sectors)
     ⊎ ((cause : StartFault) × (why ≡ fault.Start cause) × (¬ IsNoLength near sectors)
     × (after : Window) × EndsIn first after cause)
-
--- Why no store was started. The room comes first: with less of it than the image wants this is
--- the answer, and with as much it never is.
-abbrev pub IsNoStart : List ℕ → ℕ → Window → CallFault → Type 0
-IsNoStart near sectors first why = ((why ≡ fault.LittleRoom) × WantsMore near first.room)
-    ⊎ ((¬ WantsMore near first.room) × IsFault near sectors first why)

@@ -4,9 +4,6 @@ use thiserror::Error;
 
 #[derive(Clone, Copy, Debug, PartialEq, Eq, Error)]
 pub enum CallFault {
-    /// The outbox has less room than the image on the device wants.
-    #[error("too little room")]
-    LittleRoom,
     /// The bytes are no whole sectors, none, or more than there may be.
     #[error("bad length")]
     Length,

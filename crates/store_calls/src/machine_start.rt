@@ -1,27 +1,28 @@
 //! How a machine starts on the first sectors of a device.
-ghost use Rattle.std.specs.Prelude.{IfOk, IfErr};
-ghost use Rattle.store_calls.specs.MachineStart.{Reserves, FindsSuper};
-ghost use Rattle.store_calls.specs.MachineStart.{StartsOn, IsNotStarted};
+ghost use Rattle.std.specs.Prelude.{◌≡◌, ◌⊎◌, IfOk, IfErr, OnOk};
+ghost use Rattle.window.specs.Window.{fresh};
+ghost use Rattle.store_calls.specs.MachineStart.{IsReserve, StartsOn, IsNotStarted};
+ghost use Rattle.store_calls.specs.Starts.{IsNoLength};
+ghost use Rattle.recovery.specs.declared.start_fault.StartFault.TheVariants.{NoMemory};
 
 use crate::CallFault;
 use crate::machine::StoreMachine;
-use crate::reading::BLOCK;
 use crate::room::outbox_room;
-use crate::start::begin;
-use journal::Super;
+use crate::supers::super_of;
+use blocks::{StartFault, Store};
 use std::alloc::Global;
-use window::DeviceHolds;
+use window::{DeviceHolds, WindowError, WindowMedium, device_laws};
 
-// How many sectors are shown at a time at most, and how many calls the outbox has room for.
+/// How many sectors are shown at a time at most, and how many calls the outbox has room for.
 #[derive(Clone, Copy)]
-struct Reserve {
-    span: u32,
-    room: usize,
+pub struct Reserve {
+    pub span: u32,
+    pub room: usize,
 }
 
 // What a store on an image of these first sectors takes.
 fn reserve_for(near: &[u8]) -> Reserve
-    ensures { Reserves near.now result.span result.room }
+    ensures { IsReserve near.now result.span result.room }
 {
     match super_of(near) {
         Some(sizes) => Reserve {
@@ -32,36 +33,59 @@ fn reserve_for(near: &[u8]) -> Reserve
     }
 }
 
-// The super with which these first sectors begin, if they do.
-fn super_of(near: &[u8]) -> Option<Super>
-    ensures { FindsSuper near.now result }
-{
-    if near.len() < BLOCK {
-        return None;
-    }
-    let mut sector = [0; BLOCK];
-    sector.copy_from_slice(&near[..BLOCK]);
-    Super::decode(&sector).ok()
-}
-
-/// A machine over a store on a device of `sectors` sectors, of which these are the first. The store
-/// retires ahead where its log allows it.
+/// The medium of a device of `sectors` sectors, of which these are the first: they become its
+/// memory, with no copy.
 ///
 /// # Errors
 /// `Length` where the first sectors are none, no whole ones or more than the device has, or `Start`
-/// with why the recovery was refused, or `NoMemory`.
+/// with `NoMemory`.
+pub fn medium_on(
+    alloc: Global,
+    near: Vec<u8>,
+    sectors: u64,
+    device: &DeviceHolds,
+    reserve: Reserve,
+) -> Result<WindowMedium, CallFault>
+    ensures ok { IfOk result (λ m.
+        m ≡ fresh sectors near.items device.now.bytes reserve.span reserve.room) }
+    ensures sized { OnOk result (¬ IsNoLength near.items sectors) }
+    ensures err { IfErr result (λ why. (why ≡ CallFault.Start NoMemory)
+        ⊎ ((why ≡ CallFault.Length) × IsNoLength near.items sectors)) }
+{
+    match WindowMedium::new(alloc, near, sectors, device, reserve.span, reserve.room) {
+        Ok(medium) => Ok(medium),
+        Err(WindowError::BadLength) => Err(CallFault::Length),
+        Err(WindowError::NoMemory) => Err(CallFault::Start(StartFault::NoMemory)),
+    }
+}
+
+/// A machine over a store on a device of `sectors` sectors, of which these are the first: they
+/// become its memory, with no copy. The store retires ahead where its log allows it.
+///
+/// The outbox has room for a start where no record waits, and need not have it for one that copies
+/// records home. So have the device recover its image before the first sectors are read, as `calls`
+/// does.
+///
+/// # Errors
+/// `Length` where the first sectors are none, no whole ones or more than the device has, or `Start`
+/// with `NoMemory`, or with why the recovery was refused: `Write` or `Flush` where the outbox had no
+/// room for it.
 pub fn begin_machine(
     alloc: Global,
-    near: &[u8],
+    near: Vec<u8>,
     sectors: u64,
     device: &DeviceHolds,
 ) -> Result<StoreMachine, CallFault>
-    ensures ok { IfOk result (StartsOn near.now sectors device.now.bytes) }
-    ensures err { IfErr result (IsNotStarted near.now sectors device.now.bytes) }
+    ensures ok { IfOk result (StartsOn near.items sectors device.now.bytes) }
+    ensures err { IfErr result (IsNotStarted near.items sectors device.now.bytes) }
 {
-    let reserve = reserve_for(near);
-    match begin(alloc, near, sectors, device, reserve.span, reserve.room) {
+    let reserve = reserve_for(&near);
+    let medium = medium_on(alloc, near, sectors, device, reserve)?;
+    // The law of the medium, from the first call on.
+    let _waiting = medium.waiting();
+    device_laws();
+    match Store::start_ahead(alloc, medium) {
         Ok(store) => Ok(StoreMachine::new(store)),
-        Err(why) => Err(why),
+        Err(error) => Err(CallFault::Start(error.fault)),
     }
 }

@@ -1,0 +1,33 @@
+-- The super with which the first sectors of a device begin, and what is reserved by it.
+use Rattle.std.specs.Prelude.{◌≡◌, ℕ, ◌≤◌, List, length, Option, Some, None}
+use Rattle.medium.specs.Writes.{sector_of}
+use Rattle.journal.specs.Formats.{shape_of}
+use Rattle.journal.specs.Places.{Shape, limit_of}
+use Rattle.journal.specs.Sectors.{IsSuper}
+use Rattle.journal.specs.declared.log_format.LogFormat.{LogFormat}
+use Rattle.journal.specs.declared.super_sector.Super.{Super}
+
+-- the first sectors begin with the super of an image of this shape
+abbrev pub IsSuperOf : List ℕ → Shape → Type 0
+IsSuperOf near shape = (512 ≤ length near) × IsSuper shape (sector_of near 0)
+
+abbrev pub HasSuper : List ℕ → Type 0
+HasSuper near = (shape : Shape) × IsSuperOf near shape
+
+-- and with that of no other
+pub record IsTheSuper (near : List ℕ) (shape : Shape) : Type 0 where
+  pub is : IsSuperOf near shape
+  pub only : (other : Shape) → IsSuperOf near other → other ≡ shape
+
+-- the super with which they begin is found, if they do
+abbrev pub FindsSuper : List ℕ → Option Super → Type 0
+FindsSuper near (Some sizes) = IsTheSuper near (shape_of sizes)
+FindsSuper near None = ¬ HasSuper near
+
+-- By it, as many sectors are shown at a time as one read has at most, and the outbox has the room
+-- that its format wants; where there is none, nothing is shown, and there is this room.
+pub record Reserves (room_of : LogFormat → ℕ) (least : ℕ) (near : List ℕ) (span room : ℕ)
+    : Type 0 where
+  pub image : (shape : Shape) → IsSuperOf near shape
+      → (span ≡ limit_of shape.format) × (room ≡ room_of shape.format)
+  pub none : ¬ HasSuper near → (span ≡ 0) × (room ≡ least)
