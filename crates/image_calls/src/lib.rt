@@ -39,7 +39,6 @@ pub use image_fault::ImageFault;
 pub use image_plan::ImagePlan;
 pub use laws::work_laws;
 pub use machine::ImageMachine;
-pub use near::near_of;
 pub use opening::Opening;
 pub use plan::Plan;
 pub use reach::Reach;

@@ -28,7 +28,7 @@ pub struct ImageMachine {
 
 impl ImageMachine {
     /// Begins to make an image of blocks of zeros on a device, of which these are the first
-    /// sectors: one or more.
+    /// sectors: one or more. They become the memory of the work, with no copy.
     ///
     /// # Errors
     ///
@@ -36,13 +36,13 @@ impl ImageMachine {
     /// `Sizes` where the plan does not fit, or `Start(NoMemory)`.
     pub fn format(
         alloc: Global,
-        near: &[u8],
+        near: Vec<u8>,
         device: &DeviceHolds,
         plan: &ImagePlan,
     ) -> Result<ImageMachine, ImageFault>
-        ensures { let first = medium_by near.now device.now.bytes plan.now in
+        ensures { let first = medium_by near.items device.now.bytes plan.now in
             MatchResult result (Begins (BeginsFormat (shape_by plan.now) first) first)
-            (IsPlanFault near.now plan.now) }
+            (IsPlanFault near.items plan.now) }
     {
         let work = begin_on(alloc, near, device, plan)?;
         Ok(ImageMachine::over(work))
@@ -55,13 +55,13 @@ impl ImageMachine {
     /// Those of `format`.
     pub fn lay_log(
         alloc: Global,
-        near: &[u8],
+        near: Vec<u8>,
         device: &DeviceHolds,
         plan: &ImagePlan,
     ) -> Result<ImageMachine, ImageFault>
-        ensures { let first = medium_by near.now device.now.bytes plan.now in
+        ensures { let first = medium_by near.items device.now.bytes plan.now in
             MatchResult result (Begins (IsWhole (IsLaidOn (shape_by plan.now) first)) first)
-            (IsPlanFault near.now plan.now) }
+            (IsPlanFault near.items plan.now) }
     {
         let work = lay_on(alloc, near, device, plan)?;
         Ok(ImageMachine::over(work))
@@ -76,13 +76,14 @@ impl ImageMachine {
     /// is no `Write` and no `Flush`, and no `Read` where the first sectors are all before home.
     pub fn migrate(
         alloc: Global,
-        near: &[u8],
+        near: Vec<u8>,
         sectors: u64,
         device: &DeviceHolds,
     ) -> Result<ImageMachine, ImageFault>
-        ensures { Migrates near.now sectors device.now.bytes result }
+        ensures { Migrates near.items sectors device.now.bytes result }
     {
-        let medium = window_of(alloc, near, sectors, device, room_to_migrate(near))?;
+        let room = room_to_migrate(&near);
+        let medium = window_of(alloc, near, sectors, device, room)?;
         match migrate_on(medium) {
             Ok(work) => Ok(ImageMachine::over(work)),
             Err(fault) => Err(ImageFault::Start(fault)),

@@ -20,20 +20,17 @@ use window::{DeviceHolds, WindowError, WindowMedium};
 /// A medium of a device of `sectors` sectors, of which these are the first. None is ever shown.
 pub(crate) fn window_of(
     alloc: Global,
-    near: &[u8],
+    near: Vec<u8>,
     sectors: u64,
     device: &DeviceHolds,
     room: usize,
 ) -> Result<WindowMedium, ImageFault>
-    ensures ok { IfOk result (λ m. m ≡ fresh sectors near.now device.now.bytes 0 room) }
-    ensures some { OnOk result (0 < length near.now / 512) }
+    ensures ok { IfOk result (λ m. m ≡ fresh sectors near.items device.now.bytes 0 room) }
+    ensures some { OnOk result (0 < length near.items / 512) }
     ensures err { IfErr result (λ fault. (fault ≡ ImageFault.Start NoMemory)
-        ⊎ ((fault ≡ ImageFault.Length) × IsNoLength near.now sectors)) }
+        ⊎ ((fault ≡ ImageFault.Length) × IsNoLength near.items sectors)) }
 {
-    let Ok(copy) = Vec::from_slice(alloc, near) else {
-        return Err(ImageFault::Start(StartFault::NoMemory));
-    };
-    match WindowMedium::new(alloc, copy, sectors, device, 0, room) {
+    match WindowMedium::new(alloc, near, sectors, device, 0, room) {
         Ok(medium) => Ok(medium),
         Err(WindowError::BadLength) => Err(ImageFault::Length),
         Err(WindowError::NoMemory) => Err(ImageFault::Start(StartFault::NoMemory)),
@@ -50,13 +47,13 @@ fn calls_to_lay(sizes: &Super) -> usize
 /// Lays a log on a device.
 pub(crate) fn lay_on(
     alloc: Global,
-    near: &[u8],
+    near: Vec<u8>,
     device: &DeviceHolds,
     plan: &ImagePlan,
 ) -> Result<Work, ImageFault>
-    ensures { let first = medium_by near.now device.now.bytes plan.now in
+    ensures { let first = medium_by near.items device.now.bytes plan.now in
         MatchResult result (IsWhole (IsLaidOn (shape_by plan.now) first))
-        (IsPlanFault near.now plan.now) }
+        (IsPlanFault near.items plan.now) }
 {
     let sizes = plan.sizes().ok_or(ImageFault::Sizes)?;
     let room = calls_to_lay(&sizes);
@@ -73,13 +70,13 @@ pub(crate) fn lay_on(
 /// Begins to make an image of zeros on a device.
 pub(crate) fn begin_on(
     alloc: Global,
-    near: &[u8],
+    near: Vec<u8>,
     device: &DeviceHolds,
     plan: &ImagePlan,
 ) -> Result<Work, ImageFault>
-    ensures { let first = medium_by near.now device.now.bytes plan.now in
+    ensures { let first = medium_by near.items device.now.bytes plan.now in
         MatchResult result (BeginsFormat (shape_by plan.now) first)
-        (IsPlanFault near.now plan.now) }
+        (IsPlanFault near.items plan.now) }
 {
     let sizes = plan.sizes().ok_or(ImageFault::Sizes)?;
     let room = calls_to_lay(&sizes);

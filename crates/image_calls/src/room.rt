@@ -4,22 +4,15 @@ ghost use Rattle.recovery.specs.Recovered.{most_migration_sends};
 ghost use Rattle.image_calls.specs.Plans.{IsRoomToMigrate};
 
 use journal::Super;
-use window::SECTOR;
+use store_calls::super_of;
 
-/// How many calls wait at most while the image is migrated that these first sectors begin. Sector 0
-/// lies on the stack here alone.
-#[inline(never)]
+/// How many calls wait at most while the image is migrated that these first sectors begin.
 pub(crate) fn room_to_migrate(near: &[u8]) -> usize
     ensures { 512 ≤ length near.now → IsRoomToMigrate near.now result }
 {
-    if near.len() < SECTOR {
-        return 1;
-    }
-    let mut sector = [0; SECTOR];
-    sector.copy_from_slice(&near[..SECTOR]);
-    match Super::decode(&sector) {
-        Ok(sizes) => sends_to_migrate(&sizes) as usize,
-        Err(_) => 1,
+    match super_of(near) {
+        Some(sizes) => sends_to_migrate(&sizes) as usize,
+        None => 1,
     }
 }
 
