@@ -142,10 +142,10 @@ struct usbdisk_layout {
 uint32_t usbdisk_look(const uint8_t sector[512], struct usbdisk_layout *layout);
 
 /* How many bytes of memory a disk takes, on an image of this format (1 or 2) with `slots` log
- * slots, of every size of the device, and no more while it starts. Each sector between log and
- * home takes 512 bytes more: at most 126,976, where an image was migrated or made so. A store takes
- * 18,768 bytes less in format 1 and 221,616 less in format 2; while it starts it takes the first
- * sectors twice. 0 where there is no such format or number of slots. */
+ * slots, of every size of the device. A store takes 18,768 bytes less in format 1 and 221,616 less
+ * in format 2. Neither takes more while it starts. Each sector between log and home takes 512 bytes
+ * more: at most 126,976, where an image was migrated or made so. 0 where there is no such format or
+ * number of slots. */
 uint64_t usbdisk_memory(uint32_t format, uint64_t slots);
 
 /* Who the disk is, as INQUIRY tells it: printable ASCII, padded with spaces, with no final 0. */

@@ -54,17 +54,15 @@ static bool is_memory_told(uint32_t format, uint64_t slots, bool tells)
     return good && heap_blocks == 0;
 }
 
-/* A store takes so much less than a disk, whatever the slots, and the first sectors twice while it
- * starts. */
+/* A store takes so much less than a disk, whatever the slots, and no more while it starts. */
 static bool is_store_told(uint32_t format, uint64_t slots, bool tells)
 {
     struct usbdisk store = USBDISK_NONE;
-    uint64_t disk = usbdisk_memory(format, slots), first = 512 * home_of(format, slots);
-    uint64_t told = disk - (format == 1 ? 18768 : 221616);
+    uint64_t told = usbdisk_memory(format, slots) - (format == 1 ? 18768 : 221616);
     make_device(format, slots);
     heap_most = heap_now;
     bool good = !usbdisk_store_start(&store, &options) && serves(&store) && heap_now == told &&
-                heap_most <= heap_now + first;
+                heap_most == told;
     if (!good || tells)
         printf("store of format %u, %llu slots: %zu bytes, told %llu\n", format,
                (unsigned long long)slots, heap_now, (unsigned long long)told);

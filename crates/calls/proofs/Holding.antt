@@ -4,7 +4,7 @@ use Rattle.std.proofs.Common.{IfErr, MatchResult, length, sym, subst, ap, arith}
 use Rattle.medium.specs.Writes.{sector_of}
 use Rattle.journal.specs.Places.{Shape, first_home}
 use Rattle.journal.specs.Sectors.{IsSuper}
-use Rattle.window.specs.Window.{Window, mirror_of, fresh}
+use Rattle.window.specs.Window.{mirror_of, fresh}
 use Rattle.window.proofs.Kept.{opened_front, opened_length}
 use Rattle.bot_machine.specs.Device.{Device}
 use Rattle.disk_machine.specs.Refusals.{HoldsImageLog, HoldsLog}
@@ -16,9 +16,8 @@ use Rattle.store_calls.specs.declared.call_fault.CallFault.{CallFault}
 use Rattle.image_calls.specs.Reading.{Reading, IsSound, IsWhole, IsUntil}
 use Rattle.image_calls.specs.declared.reach.Reach.{Reach}
 use Rattle.image_calls.specs.declared.reach.Reach.TheVariants as reach
-use Rattle.recovery.specs.declared.start_fault.StartFault.{StartFault}
 use Rattle.calls.specs.Beginning.{HoldsRead, StoreIsNotStarted, StoreStartsOn}
-use Rattle.calls.specs.Starting.{StartsOn, IsRefusedOn}
+use Rattle.calls.specs.Starting.{StartsOn}
 
 -- as many are read as lie before the first home sector, or as the device has
 until_is : (r : Reach) (sectors : ℕ) (near : List ℕ) (until : ℕ) → 0 < length near → r ≡ reach.Near → IsUntil r sectors near until
@@ -51,51 +50,22 @@ module _ (o : Reading) (sound : IsSound o) (whole : IsWhole o) (is : o.reach ≡
   }
 
 -- a disk that begins on what was read holds the log
-pub begins_on : (o : Reading) (sound : IsSound o) (whole : IsWhole o) (content : List ℕ) (device : Device) (near : List ℕ) (sectors : ℕ)
-    (s : Machine) → near ≡ o.near → sectors ≡ o.sectors → StartsOn near sectors content device s
-    → StartsOn o.near o.sectors content device s × (o.reach ≡ reach.Near → HoldsLog s.disk)
-begins_on o sound whole content device near sectors s same many was =
-    let starts : StartsOn o.near o.sectors content device s =
-    subst (λ (n : ℕ). StartsOn o.near n content device s) many (subst (λ (b : List ℕ). StartsOn b sectors content device s) same was) in (
-      starts,
-      λ is. subst (λ (m : Machine). HoldsLog m.disk) (sym starts.is) (starts.begins.holds
-          (subst (λ (w : Window). HoldsImageLog w) (sym starts.on.3)
-          (holds o sound whole is starts.length_is content starts.on.0 starts.on.1))),
-    )
+pub begins_on : (o : Reading) (sound : IsSound o) (whole : IsWhole o) (content : List ℕ) (device : Device) (s : Machine)
+    → StartsOn o.near o.sectors content device s → o.reach ≡ reach.Near → HoldsLog s.disk
+begins_on o sound whole content device s starts is =
+    let on = holds o sound whole is starts.length_is content starts.on.0 starts.on.1 in
+    rw starts.is (starts.begins.holds (rw starts.on.3 on))
 
 -- so does any window over it
-read : (o : Reading) (sound : IsSound o) (whole : IsWhole o) (content : List ℕ) → HoldsRead content o
+pub read : (o : Reading) (sound : IsSound o) (whole : IsWhole o) (content : List ℕ) → HoldsRead content o
 read o sound whole content = λ is length_is span room. holds o sound whole is length_is content span room
 
--- none begins, as on what was read
-pub refused_on : (o : Reading) (sound : IsSound o) (whole : IsWhole o) (content : List ℕ) (device : Device) (near : List ℕ) (sectors : ℕ)
-    (why : StartFault) → near ≡ o.near → sectors ≡ o.sectors → IsRefusedOn near sectors content device why
-    → IsRefusedOn o.near o.sectors content device why × HoldsRead content o
-refused_on o sound whole content device near sectors why same many was = (
-  subst (λ (n : ℕ). IsRefusedOn o.near n content device why) many
-      (subst (λ (b : List ℕ). IsRefusedOn b sectors content device why) same was),
-  read o sound whole content,
-)
-
--- ---- a store
-
-store_starts : (o : Reading) (sound : IsSound o) (whole : IsWhole o) (content : List ℕ) (s : store.Machine)
-    → stores.StartsOn o.near o.sectors content s → StoreStartsOn content o s
-store_starts o sound whole content s starts = record {
+-- a store that begins on what was read holds the log, or none begins
+pub store_on : (o : Reading) (sound : IsSound o) (whole : IsWhole o) (content : List ℕ) (result : Result store.Machine CallFault)
+    → IfOk result (stores.StartsOn o.near o.sectors content) → IfErr result (stores.IsNotStarted o.near o.sectors content)
+    → MatchResult result (StoreStartsOn content o) (StoreIsNotStarted content o)
+store_on o sound whole content (Ok s) starts err = record {
   starts = starts;
   holds = λ is. starts.begins.holds (holds o sound whole is starts.length_is content starts.span starts.room);
 }
-
--- a store that begins on what was read holds the log, or none begins
-pub store_on : (o : Reading) (sound : IsSound o) (whole : IsWhole o) (content near : List ℕ) (sectors : ℕ) (bytes : List ℕ) → near ≡ o.near
-    → sectors ≡ o.sectors → bytes ≡ content → (result : Result store.Machine CallFault) → IfOk result (stores.StartsOn near sectors bytes)
-    → IfErr result (stores.IsNotStarted near sectors bytes)
-    → MatchResult result (StoreStartsOn content o) (StoreIsNotStarted content o)
-store_on o sound whole content near sectors bytes same many held (Ok s) ok err = store_starts o sound whole content s
-    (subst (λ (b : List ℕ). stores.StartsOn o.near o.sectors b s) held (subst (λ (n : ℕ). stores.StartsOn o.near n bytes s) many
-    (subst (λ (b : List ℕ). stores.StartsOn b sectors bytes s) same ok)))
-store_on o sound whole content near sectors bytes same many held (Err why) ok err = (
-  subst (λ (b : List ℕ). stores.IsNotStarted o.near o.sectors b why) held (subst (λ (n : ℕ). stores.IsNotStarted o.near n bytes why) many
-      (subst (λ (b : List ℕ). stores.IsNotStarted b sectors bytes why) same err)),
-  read o sound whole content,
-)
+store_on o sound whole content (Err why) ok err = (err, read o sound whole content)

@@ -1,4 +1,3 @@
 pub mod Values
 pub mod Begun
 pub mod Holding
-pub mod Working

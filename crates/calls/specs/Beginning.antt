@@ -27,7 +27,6 @@ use Rattle.calls.specs.declared.held.Stage.TheVariants as stage
 
 -- why there is none: of first sectors that are none BAD_SUPER; nothing else comes
 abbrev pub fault_of_call : CallFault → StartFault
-fault_of_call call.LittleRoom = start.BadSuper
 fault_of_call call.Length = start.BadSuper
 fault_of_call call.Range = start.BadSuper
 fault_of_call call.Unread = start.BadSuper

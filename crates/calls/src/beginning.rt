@@ -1,21 +1,19 @@
 //! What was started begins, where the first sectors of its device are read.
-ghost use Rattle.std.specs.Prelude.{◌≡◌, ◌⊎◌, ℕ, List, IfOk, IfErr, OnOk, MatchResult};
+ghost use Rattle.std.specs.Prelude.{ℕ, List, MatchResult};
 ghost use Rattle.bot_machine.specs.Device.{device_by, Ahead};
-ghost use Rattle.store_calls.specs.Starts.{IsNoLength};
 ghost use Rattle.image_calls.specs.Reading.{IsWhole, IsSound};
 ghost use Rattle.calls.specs.Starting.{GoesOn, BeginsDisk, StartsOn, IsRefusedOn};
-ghost use Rattle.calls.specs.Starting.{medium_on};
-ghost use Rattle.recovery.specs.declared.start_fault.StartFault.TheVariants.{NoMemory, BadSuper};
 
 use crate::device::device_holding;
 use crate::held::{Purpose, Stage};
-use crate::reserve::{Reserve, reserve_for};
-use crate::work::{begin_format, begin_log, begin_migration, begin_store};
+use crate::reserve::reserve_for;
+use crate::work::{begin_format, begin_log, begin_migration, begin_store, fault_of_call};
 use bot_machine::{Disk, Identity, PacketSize, Retiring, StartFault};
 use disk_machine::DiskMachine;
 use image_calls::Opening;
 use std::alloc::Global;
-use window::{WindowError, WindowMedium, device_laws};
+use store_calls::medium_on;
+use window::device_laws;
 
 // How many calls a step in the background makes at most.
 const STEP: usize = 2;
@@ -70,34 +68,16 @@ fn disk_on(
         (IsRefusedOn near.items sectors content device) }
 {
     let reserve = reserve_for(&near);
-    let medium = medium_on(alloc, near, sectors, reserve)?;
+    let device = device_holding();
+    let medium = match medium_on(alloc, near, sectors, &device, reserve) {
+        Ok(medium) => medium,
+        Err(why) => return Err(fault_of_call(why)),
+    };
     // The law of the medium, from the first call on.
     let _waiting = medium.waiting();
     device_laws();
     match Disk::start_by(alloc, medium, identity, size, Retiring::Ahead) {
         Ok(disk) => Ok(DiskMachine::new(disk, reserve.room - STEP)),
         Err(error) => Err(error.fault),
-    }
-}
-
-// The medium of a device of `sectors` sectors, of which these are the first, with this room.
-fn medium_on(
-    alloc: Global,
-    near: Vec<u8>,
-    sectors: u64,
-    reserve: Reserve,
-) -> Result<WindowMedium, StartFault>
-    ghost content: { List ℕ }
-    ensures ok { IfOk result (λ m.
-        m ≡ medium_on near.items sectors content reserve.span reserve.room) }
-    ensures sized { OnOk result (¬ IsNoLength near.items sectors) }
-    ensures err { IfErr result (λ why. (why ≡ NoMemory)
-        ⊎ ((why ≡ BadSuper) × IsNoLength near.items sectors)) }
-{
-    let device = device_holding();
-    match WindowMedium::new(alloc, near, sectors, &device, reserve.span, reserve.room) {
-        Ok(medium) => Ok(medium),
-        Err(WindowError::BadLength) => Err(StartFault::BadSuper),
-        Err(WindowError::NoMemory) => Err(StartFault::NoMemory),
     }
 }

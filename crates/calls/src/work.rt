@@ -21,7 +21,7 @@ pub(crate) fn begin_store(alloc: Global, opening: Opening) -> Stage
     let sectors = opening.sectors();
     let near = opening.into_near();
     let device = device_holding();
-    stage_of_store(begin_machine(alloc, &near, sectors, &device))
+    stage_of_store(begin_machine(alloc, near, sectors, &device))
 }
 
 /// A format begins, or does not.
@@ -31,7 +31,7 @@ pub(crate) fn begin_format(alloc: Global, opening: Opening, plan: &ImagePlan) ->
 {
     let near = opening.into_near();
     let device = device_holding();
-    stage_of_image(ImageMachine::format(alloc, &near, &device, plan))
+    stage_of_image(ImageMachine::format(alloc, near, &device, plan))
 }
 
 /// The laying of a log begins, or does not.
@@ -41,7 +41,7 @@ pub(crate) fn begin_log(alloc: Global, opening: Opening, plan: &ImagePlan) -> St
 {
     let near = opening.into_near();
     let device = device_holding();
-    stage_of_image(ImageMachine::lay_log(alloc, &near, &device, plan))
+    stage_of_image(ImageMachine::lay_log(alloc, near, &device, plan))
 }
 
 /// A migration begins, or does not.
@@ -52,7 +52,7 @@ pub(crate) fn begin_migration(alloc: Global, opening: Opening) -> Stage
     let sectors = opening.sectors();
     let near = opening.into_near();
     let device = device_holding();
-    stage_of_image(ImageMachine::migrate(alloc, &near, sectors, &device))
+    stage_of_image(ImageMachine::migrate(alloc, near, sectors, &device))
 }
 
 // The store is there, or why not.
@@ -75,8 +75,8 @@ fn stage_of_image(begun: Result<ImageMachine, ImageFault>) -> Stage
     }
 }
 
-// Why there is no store. First sectors that are none have no super; nothing else comes.
-fn fault_of_call(why: CallFault) -> StartFault
+/// Why there is no store. First sectors that are none have no super; nothing else comes.
+pub(crate) fn fault_of_call(why: CallFault) -> StartFault
     ensures { result ≡ fault_of_call why }
 {
     match why {

@@ -5,7 +5,7 @@ use Rattle.window.proofs.Kept.{opened_front}
 use Rattle.recovery.specs.declared.start_fault.StartFault.{StartFault}
 use Rattle.recovery.specs.declared.start_fault.StartFault.TheVariants.{NoMemory}
 use Rattle.blocks.specs.Started.{IsStarted, StartsAhead, RefusesStart}
-use Rattle.store_calls.specs.MachineStart.{IsReserve, StartsOn, IsNotStarted}
+use Rattle.store_calls.specs.MachineStart.{IsStoreReserve, StartsOn, IsNotStarted}
 use Rattle.store_calls.specs.Rooms.{CoversParts, IsRoomy}
 use Rattle.store_calls.specs.Serving.{BeginsOver}
 use Rattle.store_calls.specs.Starts.{IsNoLength}
@@ -16,7 +16,7 @@ use Rattle.store_calls.specs.declared.call_fault.CallFault.TheVariants as fault
 use Rattle.store_calls.proofs.StartedStore.{began, ends_in}
 
 -- there is no medium to start on
-pub no_medium : (near : List ℕ) (sectors : ℕ) (holds : List ℕ) (span room : ℕ) → IsReserve near span room → (why : CallFault)
+pub no_medium : (near : List ℕ) (sectors : ℕ) (holds : List ℕ) (span room : ℕ) → IsStoreReserve near span room → (why : CallFault)
     → (why ≡ fault.Start NoMemory) ⊎ ((why ≡ fault.Length) × IsNoLength near sectors) → IsNotStarted near sectors holds why
 no_medium near sectors holds span room reserve why because = record {
   span = span;
@@ -25,7 +25,7 @@ no_medium near sectors holds span room reserve why because = record {
   because = search (rules, because);
 }
 
-module _ (near : List ℕ) (sectors : ℕ) (holds : List ℕ) (span room : ℕ) (reserve : IsReserve near span room)
+module _ (near : List ℕ) (sectors : ℕ) (holds : List ℕ) (span room : ℕ) (reserve : IsStoreReserve near span room)
     (sized : ¬ IsNoLength near sectors) (m : Window) (on : m ≡ fresh sectors near holds span room) where
   some : 512 ≤ length near
   some = grind (arith, sized)

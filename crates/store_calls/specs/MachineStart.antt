@@ -11,15 +11,15 @@ use Rattle.store_calls.specs.declared.call_fault.CallFault.{CallFault}
 -- Of an image, as many sectors are shown as one read has at most, and the outbox has room for what
 -- steps leave there, and so for a start where no record waits. Where there is no image, for the
 -- flush with which a start begins, so that it can tell what is wrong.
-abbrev pub IsReserve : List ℕ → ℕ → ℕ → Type 0
-IsReserve near span room = Reserves room_of 1 near span room
+abbrev pub IsStoreReserve : List ℕ → ℕ → ℕ → Type 0
+IsStoreReserve near span room = Reserves room_of 1 near span room
 
 -- A machine was started over a store on these bytes. As long as the device carries out the calls of
 -- the start, a loss of power leaves what it could of the start.
 pub record StartsOn (near : List ℕ) (sectors : ℕ) (holds : List ℕ) (new : Machine) : Type 0 where
   pub span : ℕ
   pub room : ℕ
-  pub reserve : IsReserve near span room
+  pub reserve : IsStoreReserve near span room
   pub length_is : ¬ IsNoLength near sectors
   pub begins : Begins (fresh sectors near holds span room) new.store
   pub begun : BeginsOver new.store new
@@ -30,5 +30,5 @@ pub record IsNotStarted (near : List ℕ) (sectors : ℕ) (holds : List ℕ) (wh
     : Type 0 where
   pub span : ℕ
   pub room : ℕ
-  pub reserve : IsReserve near span room
+  pub reserve : IsStoreReserve near span room
   pub because : IsNoStart near sectors (fresh sectors near holds span room) why

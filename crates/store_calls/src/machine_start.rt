@@ -1,7 +1,7 @@
 //! How a machine starts on the first sectors of a device.
 ghost use Rattle.std.specs.Prelude.{◌≡◌, ◌⊎◌, IfOk, IfErr, OnOk};
 ghost use Rattle.window.specs.Window.{fresh};
-ghost use Rattle.store_calls.specs.MachineStart.{IsReserve, StartsOn, IsNotStarted};
+ghost use Rattle.store_calls.specs.MachineStart.{IsStoreReserve, StartsOn, IsNotStarted};
 ghost use Rattle.store_calls.specs.Starts.{IsNoLength};
 ghost use Rattle.recovery.specs.declared.start_fault.StartFault.TheVariants.{NoMemory};
 
@@ -22,7 +22,7 @@ pub struct Reserve {
 
 // What a store on an image of these first sectors takes.
 fn reserve_for(near: &[u8]) -> Reserve
-    ensures { IsReserve near.now result.span result.room }
+    ensures { IsStoreReserve near.now result.span result.room }
 {
     match super_of(near) {
         Some(sizes) => Reserve {
@@ -62,14 +62,14 @@ pub fn medium_on(
 /// A machine over a store on a device of `sectors` sectors, of which these are the first: they
 /// become its memory, with no copy. The store retires ahead where its log allows it.
 ///
-/// The outbox has room for a start where no record waits, and need not have it for one that copies
+/// The outbox has room for a start where no record waits, and may have none for one that copies
 /// records home. So have the device recover its image before the first sectors are read, as `calls`
 /// does.
 ///
 /// # Errors
 /// `Length` where the first sectors are none, no whole ones or more than the device has, or `Start`
-/// with `NoMemory`, or with why the recovery was refused: `Write` or `Flush` where the outbox had no
-/// room for it.
+/// with `NoMemory` or with why the recovery was refused: with `Write` or `Flush` where the outbox
+/// had no room for its calls.
 pub fn begin_machine(
     alloc: Global,
     near: Vec<u8>,

@@ -162,10 +162,10 @@ pub fn version() -> u32 {
     unsafe { sys::usbdisk_version() }
 }
 
-/// How many bytes of memory a disk takes, on an image of this format with so many slots, and no more
-/// while it starts. An image that was migrated may take up to 126,976 bytes more. A store takes
-/// 18,768 bytes less in format 1 and 221,616 less in format 2; while it starts it takes the first
-/// sectors twice. 0 where there is no such image.
+/// How many bytes of memory a disk takes, on an image of this format with so many slots. A store
+/// takes 18,768 bytes less in format 1 and 221,616 less in format 2. Neither takes more while it
+/// starts. An image that was migrated may take up to 126,976 bytes more. 0 where there is no such
+/// image.
 pub fn memory(format: u32, slots: u64) -> u64 {
     // SAFETY: the call takes numbers alone.
     unsafe { sys::usbdisk_memory(format, slots) }

@@ -1,12 +1,12 @@
-use Rattle.bot_machine.specs.Device.{device_by, Ahead}
-use Rattle.calls.proofs.Holding.{begins_on, refused_on}
+use Rattle.calls.proofs.Holding.{begins_on, read}
 use Rattle.calls.proofs.beginning.begin_disk.Goals as goal
 
 pub returns-in-Ok : goal.returns-in-Ok
-returns-in-Ok g c = begins_on c.args.opening c.requires.1 c.requires.0 g.content _ _ _ _ c.into_near.ensures
-    c.sectors-sectors.ensures c.in-Ok.ensures
+returns-in-Ok g c =
+    let starts = rw (c.into_near.ensures, c.sectors-sectors.ensures) at c.in-Ok.ensures in
+    (starts, begins_on c.args.opening c.requires.1 c.requires.0 g.content _ _ starts)
 
 pub returns-in-Err : goal.returns-in-Err
-returns-in-Err g c = refused_on c.args.opening c.requires.1 c.requires.0 g.content
-    (device_by c.args.identity c.args.size Ahead) _ _ c.in-Err.why c.into_near.ensures
-    c.sectors-sectors.ensures c.in-Err.ensures
+returns-in-Err g c =
+    let refused = rw (c.into_near.ensures, c.sectors-sectors.ensures) at c.in-Err.ensures in
+    (refused, read c.args.opening c.requires.1 c.requires.0 g.content)

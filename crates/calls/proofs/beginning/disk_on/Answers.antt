@@ -1,40 +1,40 @@
-use Rattle.std.proofs.Common.{◌≡◌, ◌-◌, ◌∙◌, ℕ, sym, ap}
+use Rattle.std.proofs.Common.{◌-◌, ◌∙◌, ℕ, sym, ap}
 use Rattle.window.specs.Window.{Window, mirror_of}
 use Rattle.disk_machine.specs.Moves.{begun}
 use Rattle.calls.specs.Starting.{IsMediumOn}
 use Rattle.calls.proofs.beginning.disk_on.Given.{Over}
-use Rattle.calls.proofs.beginning.disk_on.Goals.{In_ok-medium}
+use Rattle.calls.proofs.beginning.disk_on.Goals.{In-Ok}
 use Rattle.bot_machine.specs.Device.{device_by, Ahead}
 use Rattle.disk_machine.specs.Plays.{medium_of}
 use Rattle.calls.proofs.Begun.{refused, begins}
 use Rattle.calls.proofs.beginning.disk_on.Goals as goal
 
 -- the medium is one with the room that the image wants
-on : (g : Over) (c : In_ok-medium g) → IsMediumOn c.args.near.items c.args.sectors g.content c.in_ok-medium.medium
+on : (g : Over) (c : In-Ok g) → IsMediumOn c.args.near.items c.args.sectors g.content c.in-Ok.medium
 on g c = (
   c.reserve_for-reserve.result.span,
   c.reserve_for-reserve.result.room,
   rw c.deref.ensures.value at c.reserve_for-reserve.ensures.is,
-  c.in_ok-medium.ensures.ok,
+  rw c.device_holding-device.ensures at c.in-Ok.ensures.ok,
 )
 
-pub returns-in-Err : goal.returns-in-Err
-returns-in-Err g c =
-    let back = c.in-Err.ensures in
-    refused _ _ g.content _ (on g (goal.at.returns-in-Err g c).In_ok-medium) c.in_ok-medium.ensures.sized
+pub returns-in-Err-start_by : goal.returns-in-Err-start_by
+returns-in-Err-start_by g c =
+    let back = c.in-Err-start_by.ensures in
+    refused _ _ g.content _ (on g (goal.at.returns-in-Err-start_by g c).In-Ok) c.in-Ok.ensures.sized
     (device_by c.args.identity c.args.size Ahead)
-    c.in-Err.error.medium _ back
+    c.in-Err-start_by.error.medium _ back
     (c.waiting-waiting.ensures.served _ back.leaves.medium.follows)
 
-pub returns-in-Ok : goal.returns-in-Ok
-returns-in-Ok g c =
-    let starts = c.in-Ok.ensures in
+pub returns-in-Ok-start_by : goal.returns-in-Ok-start_by
+returns-in-Ok-start_by g c =
+    let starts = c.in-Ok-start_by.ensures in
     let follows = starts.leaves.medium.follows in
-    begins _ _ g.content _ (on g (goal.at.returns-in-Ok g c).In_ok-medium) c.in_ok-medium.ensures.sized _
+    begins _ _ g.content _ (on g (goal.at.returns-in-Ok-start_by g c).In-Ok) c.in-Ok.ensures.sized _
     (device_by c.args.identity c.args.size Ahead) starts
     (c.waiting-waiting.ensures.device _ follows)
-    (c.device_laws.ensures (mirror_of c.in_ok-medium.medium) (mirror_of (medium_of c.in-Ok.disk))
+    (c.device_laws.ensures (mirror_of c.in-Ok.medium) (mirror_of (medium_of c.in-Ok-start_by.disk))
     (c.waiting-waiting.ensures.device _ follows))
     (c.waiting-waiting.ensures.served _ follows) _
-    (c.new.ensures.is ∙ ap (λ (room : ℕ). begun c.in-Ok.disk (room - 2)) (sym (ap (λ (w : Window). w.room) c.in_ok-medium.ensures.ok)))
+    (c.new.ensures.is ∙ ap (λ (room : ℕ). begun c.in-Ok-start_by.disk (room - 2)) (sym (ap (λ (w : Window). w.room) c.in-Ok.ensures.ok)))
     c.new.ensures.serves c.new.ensures.starts

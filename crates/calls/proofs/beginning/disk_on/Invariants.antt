@@ -1,4 +1,4 @@
 use Rattle.calls.proofs.beginning.disk_on.Given as goal
 
-abbrev pub ghost-medium_on : goal.ghost-medium_on
-ghost-medium_on g a = g.content
+abbrev pub ghost-device_holding : goal.ghost-device_holding
+ghost-device_holding g a = g.content

@@ -1,11 +1,10 @@
-use Rattle.std.proofs.Common.{◌∙◌}
 use Rattle.calls.proofs.Holding.{store_on}
 use Rattle.calls.proofs.work.begin_store.Goals as goal
 
 pub returns : goal.returns
-returns g c = (
-  c.begin_machine.result,
-  c.stage_of_store.ensures,
-  store_on c.args.opening c.requires.1 c.requires.0 g.content _ _ _ (c.deref.ensures.value ∙ c.into_near-near.ensures)
-      c.sectors-sectors.ensures c.device_holding-device.ensures _ c.begin_machine.ensures.ok c.begin_machine.ensures.err,
-)
+returns g c =
+    let begun = rw (c.into_near-near.ensures, c.sectors-sectors.ensures, c.device_holding-device.ensures) at c.begin_machine.ensures in (
+      c.begin_machine.result,
+      c.stage_of_store.ensures,
+      store_on c.args.opening c.requires.1 c.requires.0 g.content _ begun.ok begun.err,
+    )

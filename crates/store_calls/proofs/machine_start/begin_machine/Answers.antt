@@ -1,12 +1,12 @@
 use Rattle.std.proofs.Common.{rules}
 use Rattle.window.specs.Window.{mirror_of}
-use Rattle.store_calls.specs.MachineStart.{IsReserve}
+use Rattle.store_calls.specs.MachineStart.{IsStoreReserve}
 use Rattle.store_calls.proofs.MachineStarted.{no_medium, refused, started}
 use Rattle.store_calls.proofs.machine_start.begin_machine.Goals.{In_ok-medium}
 use Rattle.store_calls.proofs.machine_start.begin_machine.Goals as goal
 
 -- as much is reserved as the image wants
-reserve : (c : In_ok-medium) → IsReserve c.args.near.items c.reserve_for-reserve.result.span c.reserve_for-reserve.result.room
+reserve : (c : In_ok-medium) → IsStoreReserve c.args.near.items c.reserve_for-reserve.result.span c.reserve_for-reserve.result.room
 reserve c = rw c.deref.ensures.value at c.reserve_for-reserve.ensures
 
 pub returns-in_err-medium-clause-err : goal.returns-in_err-medium-clause-err
