@@ -1,16 +1,15 @@
 -- What is done to a store whose device has carried out all.
-use Rattle.std.proofs.Common.{◌≡◌, ◌++◌, ◌-◌, ℕ, Bool, true, false, List, [], ◌∷◌, length, inl, inr, refl, sym, ◌∙◌, ap, subst}
+use Rattle.std.proofs.Common.{◌≡◌, ◌++◌, ℕ, true, false, List, [], ◌∷◌, length, inl, inr, refl, sym, ◌∙◌, ap}
 use Rattle.std.proofs.Common.{arith, length-append}
 use Rattle.std.proofs.lemmas.List.{take-append-le, append-nil}
 use Rattle.medium.specs.Medium.{Image}
-use Rattle.window.specs.OutboxMedium.{sent}
 use Rattle.window.specs.Story.{given}
 use Rattle.window.specs.declared.call.DeviceCall.{DeviceCall}
 use Rattle.window.specs.Window as window
 use Rattle.window.specs.Window.{Window, mirror_of, ComesAfter, kept_out}
-use Rattle.spec.specs.Blocks.{Write, after}
+use Rattle.spec.specs.Blocks.{Write}
 use Rattle.spec.specs.Book.{Book, with_write, promised}
-use Rattle.blocks.specs.Finding.{MayFind, StandsAs}
+use Rattle.blocks.specs.Finding.{MayFind}
 use Rattle.blocks.specs.StoreValue.{Cached, is_dead, layout_of, unwritten, FitsBook}
 use Rattle.blocks.proofs.BookTurns.{settles}
 use Rattle.blocks.proofs.EmptyBatches.{none_of}
@@ -21,7 +20,7 @@ use Rattle.store_calls.specs.Rooms.{Appends, Foresees}
 use Rattle.store_calls.specs.WritingBack.{IsLeft, WritesBack}
 use Rattle.store_calls.specs.declared.writing_back.Aim.{Aim}
 use Rattle.store_calls.specs.Serving.{StaysSafe, LeavesNoMore, LeavesSince, ServesAtRest, ServesOn, WaitsForDevice}
-use Rattle.store_calls.specs.StoreMachine.{Machine, IsCaughtUp, LeavesOf, is_behind, under_way}
+use Rattle.store_calls.specs.StoreMachine.{Machine, IsCaughtUp, is_behind, under_way}
 use Rattle.store_calls.specs.Stores.{Store}
 use Rattle.window.specs.declared.ask.DeviceRead.{DeviceRead}
 use Rattle.store_calls.specs.Transfers.{IsDoneFree, Accepts, Waits, Promises, PutsOff}
@@ -68,8 +67,7 @@ module _ {Room : Type 0} (old new : Machine) (free : IsCaughtUp old)
       → ServesOn old new
   turn_serves turn book serves = record {
     fits = turn.fits book serves.fits;
-    keeps = λ ours image left. subst (λ (n : ℕ). MayFind n book image) (sym turn.goes_on.size_stays)
-        ((turn.cuts book serves.fits ours).each image (since image left));
+    keeps = λ ours image left. rw turn.goes_on.size_stays ((turn.cuts book serves.fits ours).each image (since image left));
   }
 
 -- ---- a write
@@ -81,14 +79,9 @@ more_found size book write image found = record {
   next = found.next;
   promises = found.promises;
   accepted = omega (arith, found.accepted, length-append book.writes (write ∷ []));
-  stands = subst (λ (writes : List Write). StandsAs size book.blocks image (after book.opening writes) found.next)
-      (sym (take-append-le found.count book.writes (write ∷ []) found.accepted)) found.stands;
+  stands = rw (take-append-le found.count book.writes (write ∷ []) found.accepted) found.stands;
   bound = omega (arith, found.bound, length-append book.writes (write ∷ []));
 }
-
--- what a loss of power leaves, by the medium and by what the device was asked
-abbrev LeavesBy : Window → Asked → Image → Type 0
-LeavesBy w a image = LeavesOf w.seen.told.opening (sent (mirror_of w)) (length w.seen.told.taken - under_way a) image
 
 module _ (write : Write) (old new : Machine) (others : new ≡ record old { store = new.store; put_off = false })
     (written : IsWritten write old.store new.store) (same : new.store.medium ≡ old.store.medium) where
@@ -96,8 +89,7 @@ module _ (write : Write) (old new : Machine) (others : new ≡ record old { stor
   asked_stays = ap (λ (s : Machine). s.asked) others
 
   no_more : LeavesNoMore old new
-  no_more image left = subst (λ (w : Window). LeavesBy w old.asked image) same
-      (subst (λ (a : Asked). LeavesBy new.store.medium a image) asked_stays left)
+  no_more image left = rw (asked_stays, same) at left
 
   pub accepts : old.starting ≡ false → Accepts write old new
   accepts started =
@@ -106,13 +98,12 @@ module _ (write : Write) (old new : Machine) (others : new ≡ record old { stor
         others = others;
         written = written;
         leaves = no_more;
-        since = λ first since image left. subst (λ (w : Window). (window.state_of w).left_since (window.state_of first).calls image)
-            (sym same) (since image (no_more image left));
+        since = λ first since image left. rw same (since image (no_more image left));
         goes_on = keeps_going old new turn.goes_on.layout_stays (ap (λ (w : Window). w.room) same) (ap (λ (w : Window). w.near) same)
             (λ before is. (λ i. is_behind (asked_stays i) (same i).outbox) ∙ before (sym (ap (λ (s : Machine). s.starting) others) ∙ is));
         serves = λ book serves. record {
           fits = turn.fits book serves.fits;
-          keeps = λ ours image left. subst (λ (n : ℕ). MayFind n (with_write book write) image) (sym turn.goes_on.size_stays)
+          keeps = λ ours image left. rw turn.goes_on.size_stays
               (more_found (window.state_of old.store.medium).size book write image (serves.keeps ours image (no_more image left)));
         };
       }
@@ -158,10 +149,8 @@ read_safe old new address count others all =
 
 -- only the wish changes
 pub wait_safe : (old new : Machine) (missing : DeviceRead) (why : StoreFault) → Waits old missing new why → StaysSafe old new
-wait_safe old new missing why (inl told) = wishes old new (ap (λ (s : Machine). s.store) told.2) (ap (λ (s : Machine). s.asked) told.2)
-    (ap (λ (s : Machine). s.starting) told.2)
-wait_safe old new missing why (inr busy) = wishes old new (ap (λ (s : Machine). s.store) busy.2) (ap (λ (s : Machine). s.asked) busy.2)
-    (ap (λ (s : Machine). s.starting) busy.2)
+wait_safe old new missing why (inl told) = wishes old new (rw told.2) (rw told.2) (rw told.2)
+wait_safe old new missing why (inr busy) = wishes old new (rw busy.2) (rw busy.2) (rw busy.2)
 
 -- ---- a sync
 
@@ -189,8 +178,7 @@ pub puts_off : (aim : Aim) (old new : Machine) → IsCaughtUp old → new ≡ re
 puts_off aim old new free noted left writes =
     let turn = writes.made.passes.turn in
     let note : new.put_off ≡ true = ap (λ (s : Machine). s.put_off) noted in
-    let others : new ≡ record old { store = new.store; put_off = new.put_off } =
-    noted ∙ ap (λ (b : Bool). record old { store = new.store; put_off = b }) (sym note) in
+    let others : new ≡ record old { store = new.store; put_off = new.put_off } = rw (← note) at noted in
     let short : IsShort old.store = omega (arith, ap (λ (l : List DeviceCall). length l) free.none_waits) in record {
       left = left;
       noted = note;

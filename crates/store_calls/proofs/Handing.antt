@@ -109,17 +109,8 @@ run_waits old new sector count room filled run = omega (
 -- the device is asked to read
 reads_stand : (old new : Machine) (home : DeviceRead) → old.asked ≡ asked.Nothing → new ≡ record old { asked = asked.Read home }
     → Stands old new
-reads_stand old new home free is = store_stays old new (ap (λ (s : Machine). s.store) is)
-    (omega (
-      arith,
-      ap (λ (a : Asked). under_way a) free,
-      ap (λ (s : Machine). under_way s.asked) is,
-      ap (λ (s : Machine). length s.store.medium.seen.told.taken) is,
-    ))
-    (λ waits starting.
-    ap (λ (s : Machine). is_behind s.asked s.store.medium.outbox) is
-    ∙ ap (λ (a : Asked). is_behind a old.store.medium.outbox) (sym free)
-    ∙ waits (sym (ap (λ (s : Machine). s.starting) is) ∙ starting))
+reads_stand old new home free is = rw is (store_stays old (record old { asked = asked.Read home }) refl
+    (omega (arith, ap (λ (a : Asked). under_way a) free)) (λ waits starting. rw free at (waits starting)))
 
 -- the device is asked for the next
 pub asks_safe : (old new : Machine) (room : List ℕ) (what : DeviceAsk) (filled : List ℕ) → AsksFor old room what new filled

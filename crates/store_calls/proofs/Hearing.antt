@@ -1,5 +1,5 @@
 -- What the device was asked for has ended.
-use Rattle.std.proofs.Common.{◌≡◌, ◌⊎◌, ◌≤◌, ◌/◌, inl, inr, [], ◌∷◌, List, ℕ, Bool, true, false, length, refl, sym, ◌∙◌, ap, subst, arith}
+use Rattle.std.proofs.Common.{◌≡◌, ◌⊎◌, ◌≤◌, ◌/◌, inl, inr, [], ◌∷◌, List, ℕ, Bool, true, false, length, refl, sym, ◌∙◌, ap, arith}
 use Rattle.std.specs.Prelude.{Result}
 use Rattle.std.proofs.lemmas.Bool.{false≢true}
 use Rattle.window.specs.declared.call.DeviceCall.{DeviceCall}
@@ -65,9 +65,7 @@ as_far old new home was now taken = omega (
 unread_safe : (old new : Machine) (home : DeviceRead) → old.asked ≡ asked.Read home → new ≡ read_ended old home false → StaysSafe old new
 unread_safe old new home was is =
     let now : new.asked ≡ asked.Nothing = ap (λ (s : Machine). s.asked) is in
-    stays_safe old new (store_stays old new (ap (λ (s : Machine). s.store) is)
-    (as_far old new home was now (ap (λ (s : Machine). s.store.medium.seen.told.taken) is))
-    (no_call old new home was now (ap (λ (s : Machine). s.starting) is) (ap (λ (s : Machine). s.store.medium.outbox) is)))
+    stays_safe old new (store_stays old new (rw is) (as_far old new home was now (rw is)) (no_call old new home was now (rw is) (rw is)))
 
 -- the window has moved, or stayed
 shown_medium : (old new : Store) (first : ℕ) (bytes : List ℕ) (taken : Bool) → Sees first bytes taken old new
@@ -80,8 +78,8 @@ abbrev IsSentAlike : Window → Window → Type 0
 IsSentAlike old new = IsSentStill old new × (new.seen.told.taken ≡ old.seen.told.taken) × (new.outbox ≡ old.outbox)
 
 alike : (old new : Window) (first count : ℕ) → (new ≡ old) ⊎ (new ≡ moved old first count) → IsSentAlike old new
-alike old new first count (inl same) = subst (λ (w : Window). IsSentAlike old w) (sym same) (same_sent old, refl, refl)
-alike old new first count (inr moves) = subst (λ (w : Window). IsSentAlike old w) (sym moves) (
+alike old new first count (inl same) = rw same (same_sent old, refl, refl)
+alike old new first count (inr moves) = rw moves (
   record { opening = refl; sent = refl; size = refl; left = λ t image left. left; room = refl; near = refl },
   refl,
   refl,
@@ -111,7 +109,7 @@ read_safe home false old new bytes result was read honest = unread_safe old new 
 
 calls_safe : (count : ℕ) (ok : Bool) (old new : Machine) (result : Result (Unit {0}) DoneFault) → old.asked ≡ asked.Calls count
     → EndsCalls count ok old result new → StaysSafe old new
-calls_safe count true old new result was ended = subst (λ (s : Machine). StaysSafe old s) (sym ended.1) (counted_safe old count was)
+calls_safe count true old new result was ended = rw ended.1 (counted_safe old count was)
 calls_safe count false old new result was ended = stays_safe old new (given_up_stands old new count was ended.1)
 
 pub done_safe : (a : Asked) (ok : Bool) (old new : Machine) (bytes : List ℕ) (result : Result (Unit {0}) DoneFault)

@@ -1,5 +1,5 @@
 -- A life is served on through all calls.
-use Rattle.std.proofs.Common.{◌≡◌, inl, inr, [], ◌∷◌, List, ℕ, sym, subst, true}
+use Rattle.std.proofs.Common.{◌≡◌, inl, inr, [], ◌∷◌, List, ℕ, true}
 use Rattle.std.specs.Prelude.{Result, Ok, Err}
 use Rattle.spec.specs.Book.{Book}
 use Rattle.store_calls.specs.StoreLives.{Call, next, done, read, write, sync, idle, work_ahead, IsMade, book_after, LivesThrough}
@@ -9,11 +9,10 @@ use Rattle.store_calls.specs.Transfers.{Reads, Writes, Syncs}
 use Rattle.store_calls.specs.declared.store_fault.StoreFault.{StoreFault}
 
 same : (old new : Machine) → new ≡ old → ServesOn old new
-same old new is = subst (λ (s : Machine). ServesOn old s) (sym is) (λ book serves. serves)
+same old new is = rw is (λ book serves. serves)
 
 noted : (old new : Machine) → new ≡ record old { put_off = true } → ServesOn old new
-noted old new is = subst (λ (s : Machine). ServesOn old s) (sym is)
-    (λ book serves. record { fits = serves.fits; keeps = serves.keeps })
+noted old new is = rw is (λ book serves. record { fits = serves.fits; keeps = serves.keeps })
 
 read_on : (address : ℕ) (old : Machine) (room : List ℕ) (new : Machine) (filled : List ℕ) (result : Result (Unit {0}) StoreFault)
     → Reads address old room new filled result → ServesOn old new

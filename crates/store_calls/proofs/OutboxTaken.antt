@@ -53,8 +53,7 @@ module _ (old mid new : Window) (sector count : ℕ) (room was filled block : Li
 
 -- one call more
 pub one_more : (count : ℕ) (old mid new : Window) → mid ≡ without count old → new ≡ without_first mid → new ≡ without (count + 1) old
-one_more count old mid new gone goes =
-    subst (λ (n : ℕ). new ≡ without n old) (sym (add-one count)) (goes ∙ ap (λ (w : Window). take_first w.outbox w) gone)
+one_more count old mid new gone goes = rw (add-one count, goes, gone)
 
 -- one call fewer waits
 first_gone : (calls : List DeviceCall) (w : Window) → w.outbox ≡ calls → (take_first calls w).outbox ≡ drop 1 calls

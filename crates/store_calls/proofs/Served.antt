@@ -1,5 +1,5 @@
 -- The room of a store is enough, and what is read is in sight.
-use Rattle.std.proofs.Common.{◌≡◌, ◌<◌, ◌≤◌, ◌+◌, ℕ, true, length, inl, inr, refl, sym, ◌∙◌, subst, false, arith}
+use Rattle.std.proofs.Common.{◌≡◌, ◌<◌, ◌≤◌, ◌+◌, ℕ, true, length, inl, inr, refl, sym, ◌∙◌, false, arith}
 use Rattle.std.proofs.lemmas.Bool.{false≢true}
 use Rattle.journal.specs.Places.{first_home}
 use Rattle.journal.specs.declared.log_format.LogFormat.TheVariants.{Two}
@@ -61,10 +61,7 @@ appends_log most old new sees follows sends named =
 -- one that makes no call of the medium
 pub appends_none : (old new : Store) → Foresees old.medium → new.medium ≡ old.medium → Appends (TakesCalls 0 old) old new
 appends_none old new sees same = appends_log 0 old new sees
-    (subst (λ (w : Window). ComesAfter old.medium w) (sym same) (comes_after_itself old.medium))
-    (subst (λ (w : Window). SendsUpTo 0 (state_of old.medium) (state_of w)) (sym same) (omega arith))
-    (subst (λ (w : Window). LooksAtLog (state_of old.medium) (state_of w) old.cached) (sym same)
-    (none (state_of old.medium) (state_of old.medium) old.cached refl))
+    (rw same (comes_after_itself old.medium)) (rw same (omega arith)) (rw same (none _ _ old.cached refl))
 
 -- a sector of the log, or the home of one of these blocks, is in sight
 log_or_home : (old : Store) (address count : ℕ) → AreInSight old.medium (first_home (layout_of old.cached) + address) count

@@ -1,21 +1,19 @@
 -- A machine over a device that leaves no more, and a store that fits what it fitted.
-use Rattle.std.proofs.Common.{◌≡◌, ◌≤◌, ◌++◌, ℕ, List, length, refl, sym, ◌∙◌, ap, subst, arith, length-append}
-use Rattle.std.specs.Prelude.{take, Option}
+use Rattle.std.proofs.Common.{◌≡◌, ◌≤◌, ◌++◌, ℕ, List, length, refl, sym, ◌∙◌, ap, arith, length-append}
+use Rattle.std.specs.Prelude.{Option}
 use Rattle.std.proofs.lemmas.List.{take-append-le}
 use Rattle.medium.specs.Medium.{Image}
-use Rattle.window.specs.Device.{durable, after}
 use Rattle.window.specs.OutboxMedium.{sent, LeftSince}
-use Rattle.window.specs.Story.{Told, given}
+use Rattle.window.specs.Story.{Told}
 use Rattle.window.specs.declared.call.DeviceCall.{DeviceCall}
 use Rattle.window.specs.Window as window
 use Rattle.window.specs.Window.{Window, mirror_of}
 use Rattle.journal.specs.Places.{Shape, first_home}
 use Rattle.spec.specs.Book.{Book}
-use Rattle.blocks.specs.Finding.{MayFind}
 use Rattle.blocks.specs.StoreValue.{FitsBook, layout_of}
 use Rattle.store_calls.specs.Rooms.{room_for}
 use Rattle.store_calls.specs.Serving.{StaysSafe, KeepsGoing, WaitsForDevice, LeavesNoMore, LeavesSince, ServesOn}
-use Rattle.store_calls.specs.StoreMachine.{Machine, LeavesOf, carried, is_behind, under_way}
+use Rattle.store_calls.specs.StoreMachine.{Machine, carried, is_behind, under_way}
 use Rattle.store_calls.specs.Stores.{Store}
 use Rattle.window.specs.declared.asked.Asked.{Asked}
 
@@ -38,10 +36,7 @@ left_on old new since opening asked t image left = record {
   at = left.at;
   later = left.later;
   past = omega (arith, left.past, ap (λ (l : List (Option DeviceCall)). length l) asked, length-append old.asked since);
-  cut = λ s. subst (λ (bytes : List ℕ). (after (durable bytes) (given (take left.at new.asked))).may_leave s (image s)) (sym opening)
-      (subst (λ (calls : List (Option DeviceCall)). (after (durable old.opening) (given calls)).may_leave s (image s))
-      (sym (ap (λ (l : List (Option DeviceCall)). take left.at l) asked ∙ take-append-le left.at old.asked since left.past))
-      (left.cut s));
+  cut = λ s. rw (opening, asked, take-append-le left.at old.asked since left.past) (left.cut s);
 }
 
 pub record Stands (old new : Machine) : Type 0 where
@@ -65,14 +60,13 @@ keeps_going old new layout room near waits = record {
 module _ (old new : Machine) (stands : Stands old new) where
   pub leaves_no_more : LeavesNoMore old new
   leaves_no_more image left =
-      subst (λ (bytes : List ℕ). LeavesOf bytes (sent (mirror_of old.store.medium)) (carried old) image) stands.sent.opening
-      (subst (λ (calls : List DeviceCall). LeavesOf new.store.medium.seen.told.opening calls (carried old) image) stands.sent.sent (record {
-        count = left.count;
-        done = left.done;
-        reaches = omega (arith, left.reaches, stands.reaches);
-        are = left.are;
-        cut = left.cut;
-      }))
+      let was = rw (stands.sent.opening, stands.sent.sent) at left in record {
+        count = was.count;
+        done = was.done;
+        reaches = omega (arith, was.reaches, stands.reaches);
+        are = was.are;
+        cut = was.cut;
+      }
 
   pub since_still : (first : Window) → LeavesSince first old → LeavesSince first new
   since_still first since image left =
@@ -81,8 +75,7 @@ module _ (old new : Machine) (stands : Stands old new) where
   pub serves_still : ServesOn old new
   serves_still book serves = record {
     fits = stands.fits book serves.fits;
-    keeps = λ ours image left.
-        subst (λ (n : ℕ). MayFind n book image) (sym stands.sent.size) (serves.keeps ours image (leaves_no_more image left));
+    keeps = λ ours image left. rw stands.sent.size (serves.keeps ours image (leaves_no_more image left));
   }
 
   pub stays_safe : StaysSafe old new
@@ -93,16 +86,13 @@ module _ (old new : Machine) (stands : Stands old new) where
     goes_on = keeps_going old new stands.layout stands.sent.room stands.sent.near stands.waits;
   }
 
-abbrev FitsOver : Book → Store → Type 0
-FitsOver book s = FitsBook (window.state_of s.medium) s.cached book
-
 -- the store stays, and the device told no fewer done
 pub store_stays : (old new : Machine) → new.store ≡ old.store → carried old ≤ carried new → (WaitsForDevice old → WaitsForDevice new)
     → Stands old new
 store_stays old new same reaches waits = record {
-  sent = subst (λ (s : Store). IsSentStill old.store.medium s.medium) (sym same) (same_sent old.store.medium);
+  sent = rw same (same_sent old.store.medium);
   reaches = reaches;
-  fits = λ book fits. subst (λ (s : Store). FitsOver book s) (sym same) fits;
+  fits = λ book fits. rw same fits;
   layout = ap (λ (s : Store). layout_of s.cached) same;
   waits = waits;
 }
@@ -114,4 +104,4 @@ wishes old new store asked starting = stays_safe old new (store_stays old new st
     (λ waits is. (λ i. is_behind (asked i) (store i).medium.outbox) ∙ waits (sym starting ∙ is)))
 
 pub nothing_changes : (old new : Machine) → new ≡ old → StaysSafe old new
-nothing_changes old new same = subst (λ (s : Machine). StaysSafe old s) (sym same) (wishes old old refl refl refl)
+nothing_changes old new same = rw same (wishes old old refl refl refl)

@@ -1,18 +1,14 @@
 -- Calls that are none of the medium follow one another.
-use Rattle.std.proofs.Common.{◌≡◌, inl, inr, ℕ, Bool, List, refl, sym, ◌∙◌, ap, subst}
+use Rattle.std.proofs.Common.{◌≡◌, inl, inr, ℕ, Bool, List, refl, sym, ◌∙◌, ap}
 use Rattle.std.proofs.lemmas.Bool.{cases_Bool}
-use Rattle.medium.specs.Medium.{State}
-use Rattle.medium.specs.Moments.{IsUnchanged}
 use Rattle.medium.proofs.Moments.{unchanged, unchanged_through}
 use Rattle.window.specs.Window.{Window, state_of, AreOnDevice, IsShown}
 use Rattle.window.specs.WindowLaws.{is_sound}
 use Rattle.spec.specs.Book.{Book}
 use Rattle.blocks.specs.Passing.{IsUntouched}
 use Rattle.blocks.specs.Stopping.{stopped, stopped_store}
-use Rattle.blocks.specs.StoreValue.{Cached, FitsBook}
-use Rattle.blocks.specs.Turns.{IsTurn}
+use Rattle.blocks.specs.StoreValue.{FitsBook}
 use Rattle.blocks.proofs.TurnsJoined.{stays, turns}
-use Rattle.store_calls.specs.Outbox.{IsEmptied}
 use Rattle.store_calls.specs.Refused.{IsDrained, IsRefused}
 use Rattle.store_calls.specs.Stores.{Store}
 
@@ -37,16 +33,16 @@ pub is_refused : (old mid new : Store) → IsDrained old mid → new ≡ stopped
     → ((book : Book) → FitsBook (state_of mid.medium) mid.cached book → FitsBook (state_of new.medium) new.cached book)
     → IsRefused old new
 is_refused old mid new drained is fits =
-    let same : new.medium ≡ mid.medium = ap (λ (s : Store). s.medium) is in
+    let same : new.medium ≡ mid.medium = rw is in
     let stops : stopped_store mid ≡ record (stopped_store old) { medium = new.medium } = (λ i. record {
       medium = sym same i;
       cached = stopped (drained.untouched.cached i);
       goes_ahead = drained.untouched.policy i;
     }) in
     record {
-      emptied = subst (λ (w : Window). IsEmptied old.medium w) (sym same) drained.emptied;
+      emptied = rw same drained.emptied;
       others = is ∙ stops;
-      unchanged = subst (λ (w : Window). IsUnchanged (state_of old.medium) (state_of w)) (sym same) drained.untouched.unchanged;
+      unchanged = rw same drained.untouched.unchanged;
       fits = λ book f. fits book (drained.untouched.turn.fits book f);
     }
 
@@ -59,9 +55,8 @@ shown_untouched old new first bytes taken shown cached policy on =
       | inr not ↦ ap (λ (w : Window). state_of w) (shown.refused not)
     ] in
     record {
-      unchanged = subst (λ (m : State). IsUnchanged (state_of old.medium) m) (sym same) (none_yet old).unchanged;
+      unchanged = rw same (none_yet old).unchanged;
       cached = cached;
       policy = policy;
-      turn = subst (λ (m : State). IsTurn (state_of old.medium) m old.cached new.cached) (sym same)
-          (subst (λ (c : Cached). IsTurn (state_of old.medium) (state_of old.medium) old.cached c) (sym cached) (none_yet old).turn);
+      turn = rw (same, cached) (none_yet old).turn;
     }

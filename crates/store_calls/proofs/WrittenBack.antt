@@ -76,4 +76,4 @@ some_made a old new writes may = at writes.count writes.made.steps writes.ends
     at : (count : ℕ) → StepsOn (MayWriteBack a) WriteBack count old new → (count ≡ 256) ⊎ (¬ MayWriteBack a new) → 0 < count
     at (suc count) steps ends = omega arith
     at zero same (inl all) = omega (arith, all)
-    at zero same (inr none) = absurd (none (subst (λ (s : Store). MayWriteBack a s) (sym same) may))
+    at zero same (inr none) = absurd (none (rw same may))
