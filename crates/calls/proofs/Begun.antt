@@ -1,8 +1,7 @@
 -- Why a disk begins, and why it does not.
-use Rattle.std.proofs.Common.{◌≡◌, ◌≤◌, ◌-◌, ℕ, List, length, inr, sym, subst, ap, arith}
+use Rattle.std.proofs.Common.{◌≡◌, ◌≤◌, ◌-◌, ℕ, List, length, inr, ap, arith}
 use Rattle.medium.specs.Writes.{sector_of}
-use Rattle.window.specs.Window.{Window, state_of, mirror_of, ComesAfter, CoversDevice, IsServed}
-use Rattle.window.specs.OutboxMedium.{sent}
+use Rattle.window.specs.Window.{Window, state_of, ComesAfter, CoversDevice, IsServed}
 use Rattle.window.proofs.Kept.{opened_front}
 use Rattle.journal.specs.Places.{Shape}
 use Rattle.journal.specs.Sectors.{IsSuper}
@@ -34,7 +33,7 @@ module _ (near : List ℕ) (sectors : ℕ) (content : List ℕ) (first : Window)
   some = grind (arith, length_is)
 
   empty : length first.outbox ≡ 0
-  empty = ap (λ (w : Window). length w.outbox) on.3
+  empty = rw on.3
 
   -- none does, as the recovery was refused
   pub refused : (device : Device) (after : Window) (why : StartFault) → RefusesDisk state_of ComesAfter first after why
@@ -72,8 +71,9 @@ module _ (near : List ℕ) (sectors : ℕ) (content : List ℕ) (first : Window)
 
     -- the image is that of the super with which the first sectors begin
     super : IsSuper (layout_on disk) (sector_of near 0)
-    super = subst (λ (b : List ℕ). IsSuper (layout_on disk) b) (sym (opened_front sectors near content 0 (omega (arith, some))))
-        (subst (λ (w : Window). IsSuper (layout_on disk) ((state_of w).content 0)) on.3 starts.opened.store.stood.keeps.super)
+    super =
+        let front = opened_front sectors near content 0 (omega (arith, some)) in
+        rw (on.3, ← front) at starts.opened.store.stood.keeps.super
 
     beside : HasRoomBeside (begun disk (first.room - 2))
     beside =
@@ -96,7 +96,6 @@ module _ (near : List ℕ) (sectors : ℕ) (content : List ℕ) (first : Window)
       begins = began;
       is = is;
       serves = serves;
-      leaves = behind first (ap (λ (w : Window). sent (mirror_of w)) on.3)
-          (subst (λ (s : Machine). CoversParts first (medium_of s.disk)) (sym is) parts);
-      beside = subst (λ (s : Machine). HasRoomBeside s) (sym is) beside;
+      leaves = behind first (rw on.3) (rw is parts);
+      beside = rw is beside;
     }
