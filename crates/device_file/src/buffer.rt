@@ -1,5 +1,5 @@
 //! The memory of a copy.
-ghost use Rattle.std.specs.Prelude.{◌≡◌, ◌/◌, ◌≤◌, length};
+ghost use Rattle.std.specs.Prelude.{◌≡◌, ◌*◌, ◌/◌, ◌≤◌, IfOk, length};
 
 use crate::run::Run;
 use std::alloc::{AllocError, Global};
@@ -7,7 +7,7 @@ use std::alloc::{AllocError, Global};
 const SECTOR: usize = 512;
 
 // How many bytes of a file are read at once: 256 sectors.
-const AT_ONCE: usize = 131_072;
+const AT_ONCE: usize = 256 * SECTOR;
 
 /// The memory of a copy: a run that waits to be written, and what is read of a file at once.
 #[derive(Drop)]
@@ -23,7 +23,9 @@ impl CopyBuffer {
     /// # Errors
     ///
     /// Memory ran out.
-    pub fn new(alloc: Global) -> Result<CopyBuffer, AllocError> {
+    pub fn new(alloc: Global) -> Result<CopyBuffer, AllocError>
+        ensures { IfOk result (λ buffer. length buffer.bytes.items ≡ 256 * 512) }
+    {
         Ok(CopyBuffer {
             run: Run::new(alloc)?,
             bytes: vec![in alloc; 0u8; AT_ONCE]?,
