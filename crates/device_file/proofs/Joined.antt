@@ -1,7 +1,7 @@
 -- Calls that a file is asked in runs, and then others.
 use Rattle.std.proofs.Common.{◌≡◌, ◌<◌, ◌≤◌, ◌+◌, ℕ, zero, suc, List, [], ◌∷◌, ◌++◌, length, refl, sym, ◌∙◌, ap, subst, inl, inr}
 use Rattle.std.proofs.Common.{append_assoc, ⊎_elim, Result, Ok, Err, true, false, Bool, arith, length-append}
-use Rattle.std.specs.Prelude.{OnErr, is_ok}
+use Rattle.std.specs.Prelude.{IsErrAnd, OnErr, is_ok}
 use Rattle.std.proofs.lemmas.List.{append-nil, append_cancel_right}
 use Rattle.window.specs.declared.call.DeviceCall.{DeviceCall}
 use Rattle.window.specs.declared.call.DeviceCall.TheVariants.{Write, Flush}
@@ -22,6 +22,11 @@ use Rattle.device_file.proofs.Puts.{sectors_first, sectors_more}
 pub on_err : {E P : Type 0} (result : Result (Unit {0}) E) → P → OnErr result P
 on_err (Ok done) holds = tt
 on_err (Err why) holds = holds
+
+-- a refusal that is handed on
+pub err_is : {T E : Type 0} {why : E} (result : Result T E) → IsErrAnd result (λ e. e ≡ why) → result ≡ Err why
+err_is (Ok value) is = absurd is
+err_is (Err why) is = ap Err is
 
 -- what comes behind a call that is not the next
 not_next : (sector : ℕ) (calls left : List DeviceCall) → ¬ IsNext sector (calls ++ left) → ¬ IsNext sector calls

@@ -28,13 +28,8 @@ pub fn carry_moved<D: DeviceFile>(
         file.new result }
     ensures runs { IsAskedInRuns D.told D.at_once file.old file.new }
 {
-    match move_all(window, first, count, file, run) {
-        Err(fault) => Err(fault),
-        Ok(()) => match put_rest(file, run) {
-            Ok(()) => Ok(()),
-            Err(fault) => Err(fault),
-        },
-    }
+    move_all(window, first, count, file, run)?;
+    put_rest(file, run)
 }
 
 // The same; some writes may be left to be made.
@@ -51,10 +46,7 @@ fn move_all<D: DeviceFile>(
     run.clear();
     while let Some(call) = window.first() {
         let _call = window.take();
-        match move_call(&call, first, count, file, run) {
-            Ok(()) => {}
-            Err(fault) => return Err(fault),
-        }
+        move_call(&call, first, count, file, run)?;
     }
     Ok(())
 }

@@ -32,10 +32,7 @@ pub(crate) fn put_block<D: DeviceFile>(
     if run.take(write) {
         return Ok(());
     }
-    match file.write(run) {
-        Ok(()) => {}
-        Err(fault) => return Err(fault),
-    }
+    file.write(run)?;
     run.clear();
     let _taken = run.take(write);
     Ok(())
@@ -79,10 +76,7 @@ pub(crate) fn put_sectors<D: DeviceFile>(
             sector: first + i as u64,
             block: block_at(bytes, i),
         };
-        match put_some(file, run, &write) {
-            Ok(()) => {}
-            Err(fault) => return Err(fault),
-        }
+        put_some(file, run, &write)?;
     }
     Ok(())
 }

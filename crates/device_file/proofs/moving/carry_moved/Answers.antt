@@ -1,33 +1,23 @@
 use Rattle.std.proofs.Common.{◌∙◌}
-use Rattle.device_file.proofs.Joined.{all_asked, all_in_order, part_asked, part_in_order}
+use Rattle.device_file.proofs.Joined.{all_asked, all_in_order, err_is, part_asked, part_in_order}
 use Rattle.device_file.proofs.moving.carry_moved.Goals as goal
 
-pub returns-in-Ok-put_rest-clause-takes : goal.returns-in-Ok-put_rest-clause-takes
-returns-in-Ok-put_rest-clause-takes g c = record {
-  in_order = all_in_order c.in-Ok.ensures.takes c.in-Ok-put_rest.ensures.asks tt;
-  size = c.in-Ok-put_rest.ensures.asks.size ∙ c.in-Ok.ensures.takes.size;
-  named = tt;
+pub returns-clause-takes : goal.returns-clause-takes
+returns-clause-takes g c = record {
+  in_order = all_in_order c.in_ok-move_all.ensures.takes c.put_rest.ensures.asks c.put_rest.ensures.some;
+  size = c.put_rest.ensures.asks.size ∙ c.in_ok-move_all.ensures.takes.size;
+  named = c.put_rest.ensures.asks.named;
 }
 
-pub returns-in-Err-put_rest-clause-takes : goal.returns-in-Err-put_rest-clause-takes
-returns-in-Err-put_rest-clause-takes g c = record {
-  in_order = all_in_order c.in-Ok.ensures.takes c.in-Err-put_rest.ensures.asks c.in-Err-put_rest.ensures.some;
-  size = c.in-Err-put_rest.ensures.asks.size ∙ c.in-Ok.ensures.takes.size;
-  named = c.in-Err-put_rest.ensures.asks.named;
-}
+pub returns-in_err-move_all-clause-takes : goal.returns-in_err-move_all-clause-takes
+returns-in_err-move_all-clause-takes g c = rw (err_is c.from_residual.result c.from_residual.ensures.1) (record {
+  in_order = part_in_order c.in_err-move_all.ensures.takes;
+  size = c.in_err-move_all.ensures.takes.size;
+  named = c.in_err-move_all.ensures.named;
+})
 
-pub returns-in-Err-clause-takes : goal.returns-in-Err-clause-takes
-returns-in-Err-clause-takes g c = record {
-  in_order = part_in_order c.in-Err.ensures.takes;
-  size = c.in-Err.ensures.takes.size;
-  named = c.in-Err.ensures.named;
-}
+pub returns-clause-runs : goal.returns-clause-runs
+returns-clause-runs g c = all_asked c.in_ok-move_all.ensures.takes c.put_rest.ensures.asks c.put_rest.ensures.runs
 
-pub returns-in-Ok-put_rest-clause-runs : goal.returns-in-Ok-put_rest-clause-runs
-returns-in-Ok-put_rest-clause-runs g c = all_asked c.in-Ok.ensures.takes c.put_rest.ensures.asks c.put_rest.ensures.runs
-
-pub returns-in-Err-put_rest-clause-runs : goal.returns-in-Err-put_rest-clause-runs
-returns-in-Err-put_rest-clause-runs g c = all_asked c.in-Ok.ensures.takes c.put_rest.ensures.asks c.put_rest.ensures.runs
-
-pub returns-in-Err-clause-runs : goal.returns-in-Err-clause-runs
-returns-in-Err-clause-runs g c = part_asked c.in-Err.ensures.takes
+pub returns-in_err-move_all-clause-runs : goal.returns-in_err-move_all-clause-runs
+returns-in_err-move_all-clause-runs g c = part_asked c.in_err-move_all.ensures.takes

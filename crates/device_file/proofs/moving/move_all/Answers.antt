@@ -2,21 +2,21 @@ use Rattle.std.proofs.Common.{◌≡◌, ◌∙◌, List, [], ◌∷◌, ◌++�
 use Rattle.window.specs.declared.call.DeviceCall.{DeviceCall}
 use Rattle.window.specs.Window.{Window}
 use Rattle.std.proofs.lemmas.List.{append-nil}
-use Rattle.device_file.proofs.Joined.{moved_takes, moved_refused, takes_none}
+use Rattle.device_file.proofs.Joined.{err_is, moved_takes, moved_refused, takes_none}
 use Rattle.device_file.proofs.FirstParts.{none_waits, without}
 use Rattle.device_file.proofs.Puts.{first_is}
 use Rattle.device_file.proofs.moving.move_all.Goals as goal
 
-pub returns-in-Err : goal.returns-in-Err
-returns-in-Err g c =
+pub returns-in_err-move_call : goal.returns-in_err-move_call
+returns-in_err-move_call g c =
     let gone = c.loop-call.invariant.gone in
     let (rest, is) = first_is c.loop-call.window.outbox c.in-Some.call (sym c.first.ensures ∙ c.in-Some.is) in
-    record {
+    rw (err_is c.from_residual.result c.from_residual.ensures.1) (record {
       takes = moved_refused c.args.first c.args.count c.args.window.now.outbox gone rest c.in-Some.call
           (c.loop-call.invariant.split ∙ ap (λ (l : List DeviceCall). gone ++ l) is) c.loop-call.invariant.takes
-          c.in-Err.ensures.takes;
-      named = c.in-Err.ensures.named;
-    }
+          c.in_err-move_call.ensures.takes;
+      named = c.in_err-move_call.ensures.named;
+    })
 
 pub loop-call-preserved : goal.loop-call-preserved
 loop-call-preserved g c =
@@ -30,7 +30,7 @@ loop-call-preserved g c =
       split = c.loop-call.invariant.split
           ∙ ap (λ (l : List DeviceCall). gone ++ l) (is ∙ ap (λ (l : List DeviceCall). call ∷ l) (sym left))
           ∙ sym (append_assoc gone (call ∷ []) c.take-call.new.self.outbox);
-      takes = moved_takes c.args.first c.args.count gone call c.loop-call.invariant.takes c.in-Ok.ensures.takes;
+      takes = moved_takes c.args.first c.args.count gone call c.loop-call.invariant.takes c.in_ok-move_call.ensures.takes;
     }
 
 pub returns : goal.returns

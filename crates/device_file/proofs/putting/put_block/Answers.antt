@@ -3,7 +3,7 @@ use Rattle.window.specs.declared.call.DeviceCall.TheVariants.{Write}
 use Rattle.device_file.specs.Asked.{answered}
 use Rattle.device_file.specs.Copied.{waiting_in}
 use Rattle.device_file.specs.InRuns.{Takes}
-use Rattle.device_file.proofs.Joined.{takes_leaves, takes_waiting, takes_next, took_alone, took_none, no_more_goes}
+use Rattle.device_file.proofs.Joined.{err_is, takes_leaves, takes_waiting, takes_next, took_alone, took_none, no_more_goes}
 use Rattle.device_file.proofs.putting.put_block.Given as given
 use Rattle.device_file.proofs.putting.put_block.Goals as goal
 use Rattle.device_file.proofs.putting.put_block.Goals.{After-write}
@@ -28,16 +28,16 @@ returns-then-take g c = record {
   named = tt;
 }
 
-pub returns-in-Err : goal.returns-in-Err
-returns-in-Err g c = record {
-  takes = takes_leaves (next g (goal.at.returns-in-Err g c).After-write false c.in-Err.ensures.asks.asked);
-  named = c.in-Err.ensures.asks.named;
-}
+pub returns-in_err-write : goal.returns-in_err-write
+returns-in_err-write g c = rw (err_is c.from_residual.result c.from_residual.ensures.1) (record {
+  takes = takes_leaves (next g (goal.at.returns-in_err-write g c).After-write false c.in_err-write.ensures.asks.asked);
+  named = c.in_err-write.ensures.asks.named;
+})
 
 pub returns : goal.returns
 returns g c = record {
   takes = rw (← took_alone c.clear.new.self c.take-taken.new.self (Write c.args.write.now) c.take-taken.result c.clear.ensures
       (c.take-taken.ensures.first c.clear.ensures) c.take-taken.ensures.taken)
-      (next g (goal.at.returns g c).After-write true c.in-Ok.ensures.asks.asked);
+      (next g (goal.at.returns g c).After-write true c.in_ok-write.ensures.asks.asked);
   named = tt;
 }
