@@ -3,8 +3,7 @@ ghost use Rattle.std.specs.Prelude.{◌≡◌, ◌*◌, ◌/◌, ◌≤◌, IfOk
 
 use crate::run::Run;
 use std::alloc::{AllocError, Global};
-
-const SECTOR: usize = 512;
+use window::SECTOR;
 
 // How many bytes of a file are read at once: 256 sectors.
 const AT_ONCE: usize = 256 * SECTOR;

@@ -9,8 +9,7 @@ use crate::file::DeviceFile;
 use crate::meter::Meter;
 use crate::putting::{put_rest, put_sectors};
 use crate::run::Run;
-
-const SECTOR: usize = 512;
+use window::SECTOR;
 
 /// Why sectors of one file were not copied to another: the file that refused a call.
 #[derive(Clone, Copy, Debug, PartialEq, Eq)]

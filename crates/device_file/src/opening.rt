@@ -12,9 +12,7 @@ use crate::file::DeviceFile;
 use journal::Super;
 use std::alloc::Global;
 use std::io::ErrorKind;
-use window::{DeviceHolds, WindowMedium};
-
-const SECTOR: usize = 512;
+use window::{DeviceHolds, SECTOR, WindowMedium};
 
 /// Why no window over a file was made.
 #[derive(Clone, Copy, Debug, PartialEq, Eq)]

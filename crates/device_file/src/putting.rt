@@ -11,9 +11,7 @@ ghost use Rattle.device_file.specs.InRuns.{AsksInRuns, Puts};
 use crate::fault::{FileCall, FileFault};
 use crate::file::DeviceFile;
 use crate::run::Run;
-use window::SectorWrite;
-
-const SECTOR: usize = 512;
+use window::{SECTOR, SectorWrite};
 
 /// Has one write more wait in a run. What waits there is written first, where this one is not of
 /// the sector behind it.

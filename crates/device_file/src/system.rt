@@ -16,8 +16,7 @@ use medium::{Access, OpenedFile, SectorFile, ToldFile, look_whole, put};
 use std::fs::Files;
 use std::io::ErrorKind;
 use std::marker::Model;
-
-const SECTOR: u64 = 512;
+use window::SECTOR;
 
 // A place in a file lies below this one.
 const PLACES: u64 = 1 << 63;
@@ -63,10 +62,10 @@ pub fn open<F: SectorFile + Drop, R: Files<File = F>>(
 {
     let mut file = open_plain(rt, path, access)?;
     let length = lock_and_measure(&mut file)?;
-    if length % SECTOR != 0 {
+    if length % SECTOR as u64 != 0 {
         return Err(FileCall::Length.refused_for(ErrorKind::InvalidData));
     }
-    Ok(SystemFile::over(file, path, access, length / SECTOR))
+    Ok(SystemFile::over(file, path, access, length / SECTOR as u64))
 }
 
 /// A file of `sectors` sectors at this path, which was made now, or emptied. Nothing was written to
@@ -86,7 +85,7 @@ pub fn create<F: SectorFile + Drop, R: Files<File = F>>(
 ) -> Result<SystemFile<OpenedFile<F>>, FileFault>
     ensures { IfOk result (IsMade path.now existing sectors) }
 {
-    let Some(length) = sectors.checked_mul(SECTOR) else {
+    let Some(length) = sectors.checked_mul(SECTOR as u64) else {
         return Err(FileCall::Length.refused_for(ErrorKind::InvalidInput));
     };
     let access = access_for(existing);
@@ -288,8 +287,8 @@ fn place_of(call: FileCall, sector: u64, count: usize) -> Result<u64, FileFault>
     ensures ok { IfOk result (λ at. (at ≡ 512 * sector) × (at + count < 2 ^ 63)) }
     ensures err { IfErr result (λ fault. fault.call ≡ call) }
 {
-    if sector >= PLACES / SECTOR || count as u64 >= PLACES - sector * SECTOR {
+    if sector >= PLACES / SECTOR as u64 || count as u64 >= PLACES - sector * SECTOR as u64 {
         return Err(call.refused_for(ErrorKind::InvalidInput));
     }
-    Ok(sector * SECTOR)
+    Ok(sector * SECTOR as u64)
 }
