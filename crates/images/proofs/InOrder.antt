@@ -2,9 +2,14 @@
 use Rattle.std.proofs.Common.{◌≡◌, ◌⊎◌, Bool, true, false, List, [], ◌∷◌, ◌++◌, refl, sym, ◌∙◌, ap, arith, append_assoc, inl, inr}
 use Rattle.std.proofs.Common.{length-append, Result, Ok, Err, IfErr}
 use Rattle.window.specs.declared.call.DeviceCall.{DeviceCall}
+use Rattle.std.proofs.lemmas.List.{append-nil}
+use Rattle.window.specs.Window.{Window}
 use Rattle.device_file.specs.Asked.{AsksInOrder, Told, answered}
+use Rattle.device_file.specs.InRuns.{AsksInRuns, IsAskedInRuns}
+use Rattle.device_file.specs.Outbox.{IsCarriedOut}
 use Rattle.device_file.specs.declared.fault.FileCall.TheVariants as call
 use Rattle.device_file.specs.declared.fault.FileFault.{FileFault}
+use Rattle.device_file.proofs.Joined.{none_asked, runs_alone}
 use Rattle.device_file.proofs.Puts.{answered_twice, in_order_all}
 
 -- one call
@@ -47,3 +52,17 @@ pub named_sync : (result : Result (Unit {0}) FileFault) → IfErr result (λ fau
     → IfErr result (λ fault. (fault.call ≡ call.Write) ⊎ (fault.call ≡ call.Sync))
 named_sync (Ok done) named = tt
 named_sync (Err fault) named = inr named
+
+module _ {D : Type 0} {told : D → Told} {at_once : D → List DeviceCall → D → Type 0} where
+  -- it was asked for nothing
+  pub asked_none : (file : D) → IsAskedInRuns told at_once file file
+  asked_none file = record { calls = []; asked = sym (append-nil (told file).asked); runs = none_asked at_once file [] }
+
+  -- for what was taken out of a window
+  pub asked_out : {was is : D} {old new : Window} {good : Bool} (f : IsCarriedOut good (told was) (told is) old new)
+      → AsksInRuns at_once was is old.outbox new.outbox → IsAskedInRuns told at_once was is
+  asked_out {was = was} {is = is} {old = old} {new = new} f runs = record {
+    calls = f.part;
+    asked = f.asked;
+    runs = runs_alone at_once was is old.outbox f.part new.outbox f.lets_go.waited runs;
+  }

@@ -1,8 +1,10 @@
 -- The blocks of a plain file become those of a new image.
-use Rattle.std.specs.Prelude.{◌≡◌, ◌⊎◌, ℕ, List, Result, IfErr, is_ok, true, false}
+use Rattle.std.specs.Prelude.{◌≡◌, ◌⊎◌, ℕ, Bool, List, Result, IfErr, is_ok, true, false}
+use Rattle.window.specs.declared.call.DeviceCall.{DeviceCall}
 use Rattle.journal.specs.Places.{Shape, first_home}
 use Rattle.device_file.specs.Asked.{Told}
 use Rattle.device_file.specs.Copied.{IsCopied, IsCopiedInPart}
+use Rattle.device_file.specs.InRuns.{IsAskedInRuns}
 use Rattle.device_file.specs.declared.copying.CopyFault.{CopyFault}
 use Rattle.device_file.specs.declared.copying.CopyFault.TheVariants as fault
 use Rattle.device_file.specs.declared.fault.FileFault.{FileFault}
@@ -38,3 +40,12 @@ pub record MakesImage {D : Type 0} (told : D → Told) (sectors : D → ℕ) (sh
   pub asked : IsAskedToBe shape (is_ok result) (told old) (told new)
   pub size : sectors new ≡ sectors old
   pub named : IfErr result (λ why. (refused : FileFault) × (why ≡ fault.To refused))
+
+-- It was asked in runs for the blocks, and only then to become an image with these sizes; or for
+-- nothing more.
+pub record ImportsInRuns {D : Type 0} (told : D → Told)
+    (at_once : D → List DeviceCall → D → Type 0) (shape : Shape) (old new : D) : Type 0 where
+  pub copied : D
+  pub blocks : IsAskedInRuns told at_once old copied
+  pub made : (new ≡ copied)
+      ⊎ ((good : Bool) × IsAskedToBe shape good (told copied) (told new))

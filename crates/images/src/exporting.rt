@@ -12,6 +12,7 @@ ghost use Rattle.images.specs.Exported.{
   exported_text,
 };
 ghost use Rattle.images.specs.Exporting.{
+  ExportsInRuns,
   GoesInRuns,
   HasBlocks,
   HasSomeBlocks,
@@ -270,6 +271,7 @@ pub fn export_blocks<S: DeviceFile, D: DeviceFile, M: Meter>(
         (D.told plain.old) (D.told plain.new)) }
     ensures err { IfErr result (HasSomeBlocks (S.holds file.now) (S.refuses file.now)
         image.old.sizes image.old.window.outbox (D.told plain.old) (D.told plain.new)) }
+    ensures runs { ExportsInRuns D.told D.at_once plain.old plain.new }
     ensures size { D.size plain.new ≡ D.size plain.old }
 {
     match copy_home(file, &image.sizes, plain, buffer, meter) {

@@ -5,7 +5,7 @@ ghost use Rattle.journal.specs.Formats.{shape_of};
 ghost use Rattle.device_file.specs.FileValue.{IsMade};
 ghost use Rattle.images.specs.Copying.{Copies};
 ghost use Rattle.images.specs.Imported.{IsImage, IsNoImage, import_refusal, imported_text};
-ghost use Rattle.images.specs.Importing.{IsImported, IsNotImported, MakesImage};
+ghost use Rattle.images.specs.Importing.{ImportsInRuns, IsImported, IsNotImported, MakesImage};
 ghost use Rattle.images.specs.Opened.{IsTargetUnmade, made_at};
 ghost use Rattle.images.specs.Program.{IsImport, IsImportRefused};
 
@@ -174,6 +174,7 @@ pub fn import_blocks<S: DeviceFile, D: DeviceFile, M: Meter>(
         (D.told image.old) (D.told image.new)) }
     ensures err { IfErr result (IsNotImported (S.holds plain.now) (S.refuses plain.now)
         (shape_of sizes.now) (D.told image.old) (D.told image.new)) }
+    ensures runs { ImportsInRuns D.told D.at_once (shape_of sizes.now) image.old image.new }
     ensures size { D.size image.new ≡ D.size image.old }
 {
     match copy_blocks(plain, sizes, image, buffer, meter) {

@@ -2,7 +2,7 @@
 ghost use Rattle.std.specs.Prelude.{◌≡◌, IfOk, IfErr};
 ghost use Rattle.device_file.specs.Asked.{Told};
 ghost use Rattle.device_file.specs.Outbox.{CarriesOut};
-ghost use Rattle.device_file.specs.InRuns.{AsksInRuns};
+ghost use Rattle.device_file.specs.InRuns.{AsksInRuns, IsAskedInRuns};
 ghost use Rattle.images.specs.Migrating.{IsMigratedIn, IsMigratedOn, IsNotMigratedOn};
 ghost use Rattle.images.specs.Migrating.{IsMigratedOf, IsNotMigratedOf};
 ghost use Rattle.images.specs.Migrating.{migration_room, migration_text};
@@ -71,6 +71,7 @@ pub fn migrate_file<D: DeviceFile>(
         (D.told file.old) (D.told file.new)) }
     ensures err { IfErr result (IsNotMigratedOf (D.holds file.old) (D.size file.old)
         device.now.bytes (D.told file.old) (D.told file.new) (D.refuses file.old)) }
+    ensures runs { IsAskedInRuns D.told D.at_once file.old file.new }
     ensures size { D.size file.new ≡ D.size file.old }
 {
     let first = match first_of(alloc, file) {
@@ -96,6 +97,7 @@ fn migrate_from<D: DeviceFile>(
         (D.told file.new)) }
     ensures err { IfErr result (IsNotMigratedOn first device.now.bytes (D.told file.old)
         (D.told file.new)) }
+    ensures runs { IsAskedInRuns D.told D.at_once file.old file.new }
     ensures size { D.size file.new ≡ D.size file.old }
 {
     let Ok(mut run) = Run::new(alloc) else {

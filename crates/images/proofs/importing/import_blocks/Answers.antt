@@ -1,4 +1,5 @@
-use Rattle.std.proofs.Common.{inl}
+use Rattle.std.proofs.Common.{inl, inr, refl}
+use Rattle.std.specs.Prelude.{is_ok}
 use Rattle.journal.specs.Formats.{shape_of}
 use Rattle.images.proofs.Imports.{imported_all, imported_unmade}
 use Rattle.images.proofs.importing.import_blocks.Goals as goal
@@ -19,3 +20,13 @@ returns-in-Ok-clause-err g c =
 
 pub returns-in-Err-clause-err : goal.returns-in-Err-clause-err
 returns-in-Err-clause-err g c = inl c.in-Err.ensures.err
+
+pub returns-in-Ok-clause-runs : goal.returns-in-Ok-clause-runs
+returns-in-Ok-clause-runs g c = record {
+  copied = c.copy_blocks.new.image;
+  blocks = c.in-Ok.ensures.runs;
+  made = inr (is_ok c.become_image.result, c.become_image.ensures.asked);
+}
+
+pub returns-in-Err-clause-runs : goal.returns-in-Err-clause-runs
+returns-in-Err-clause-runs g c = record { copied = c.copy_blocks.new.image; blocks = c.in-Err.ensures.runs; made = inl refl }
