@@ -7,3 +7,4 @@ pub mod Gave
 pub mod Copies
 pub mod Given
 pub mod Carried
+pub mod Fresh

@@ -16,9 +16,10 @@ use Rattle.recovery.specs.Causes.{IsDeviceFault, IsCause, IsRefusalBy, MakesRead
 use Rattle.recovery.specs.Causes.{IsLookCause}
 use Rattle.recovery.specs.Calls.{HoldsLog, LooksAtLog}
 use Rattle.recovery.specs.declared.start_fault.StartFault.{StartFault}
-use Rattle.window.specs.Window.{Window, state_of, fresh, IsServed}
+use Rattle.window.specs.Window.{Window, state_of, fresh, ComesAfter, IsServed}
 use Rattle.window.specs.Looks.{near_in_sight, none_refused}
 use Rattle.window.proofs.Kept.{opened_length, opened_front}
+use Rattle.device_file.proofs.Fresh.{served_after}
 use Rattle.device_file.specs.First.{near_of}
 use Rattle.device_file.specs.declared.opening.FirstSectors.{FirstSectors}
 use Rattle.images.specs.Opened.{HaveImage, IsWindowOver}
@@ -53,17 +54,17 @@ module _ (sectors : ℕ) (bytes holds : List ℕ) (room : ℕ) (sizes : Super) (
 
 -- So over the first sectors of an image, where there is the room.
 pub misses : (first : FirstSectors) (device : List ℕ) (sizes : Super) (room : ℕ) (w after : Window)
-    → IsWindowOver first device room w → HaveImage first sizes → IsServed w after → LooksAtLog (state_of w) (state_of after)
+    → IsWindowOver first device room w → HaveImage first sizes → ComesAfter w after → LooksAtLog (state_of w) (state_of after)
     → ((shape : Shape) → shape ≡ shape_of sizes → HasShape (state_of w).size shape (state_of w).content
     → SendsUpTo room (state_of w) (state_of after))
     → (state_of after).failures ≡ (state_of w).failures
-misses first device sizes room w after is have served looks sends =
+misses first device sizes room w after is have follows looks sends =
     let counted = subst (λ (z : Option Super). length first.bytes.items ≡ 512 * min (near_of z) first.sectors) have.sizes_are
     first.count in
     let whole = shaped first.sectors first.bytes.items device room sizes first.some counted have.spells have.fits in
     let here = subst (λ (v : Window). HasShape (state_of v).size (shape_of sizes) (state_of v).content) (sym is) whole in
     let same = none first.sectors first.bytes.items device room sizes first.some counted have.spells have.fits after
-    (subst (λ (v : Window). IsServed v after) is served)
+    (subst (λ (v : Window). IsServed v after) is (served_after w after follows))
     (subst (λ (v : Window). LooksAtLog (state_of v) (state_of after)) is looks)
     (subst (λ (v : Window). SendsUpTo room (state_of v) (state_of after)) is (sends (shape_of sizes) refl here)) in
     subst (λ (v : Window). (state_of after).failures ≡ (state_of v).failures) (sym is) same

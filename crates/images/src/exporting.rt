@@ -230,8 +230,6 @@ pub fn recover_in_window(
 {
     let room = room_to_recover(&first.sizes);
     let mut window = window_over(alloc, first, device, room)?;
-    // The law of the outbox, from the first call on.
-    let _waiting = window.waiting();
     match recover(&mut window) {
         Ok(recovered) => Ok(RecoveredImage {
             window,

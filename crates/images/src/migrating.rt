@@ -123,8 +123,6 @@ fn migrate_in_window(
 {
     let room = room_to_migrate(&first.sizes);
     let mut window = window_over(alloc, first, device, room)?;
-    // The law of the outbox, from the first call on.
-    let _waiting = window.waiting();
     match recovery::migrate(&mut window) {
         Ok((_, was_one)) => Ok((window, was_one)),
         Err(fault) => Err(Refusal::Image(fault)),

@@ -80,8 +80,6 @@ fn show_first<O: Write>(
         (O.contents out.new)) }
 {
     let mut window = window_over(alloc, first, device, 0)?;
-    // The law of the outbox, from the first call on.
-    let _waiting = window.waiting();
     let found = match inspect(&mut window) {
         Ok(found) => found,
         Err(fault) => return Err(Refusal::Image(fault)),

@@ -39,7 +39,7 @@ returns-in-Err-clause-err c =
       follows = c.recover.ensures.follows;
       by_image = λ sizes have. by_image (state_of c.in_ok-window.window) (state_of c.recover.new.m) c.in-Err.fault
           (misses c.args.first c.args.device.now.bytes sizes (recovery_room c.args.first.sizes) c.in_ok-window.window
-          c.recover.new.m over have (c.waiting-waiting.ensures.served c.recover.new.m c.recover.ensures.follows)
+          c.recover.new.m over have c.recover.ensures.follows
           c.recover.ensures.leaves.looks (λ shape same has. few _ _ c.args.first.sizes sizes shape have.sizes_are same
           (c.recover.ensures.leaves.sends.most shape has))) c.in-Err.ensures.err.cause;
       refused_is = refl;

@@ -6,6 +6,7 @@ use Rattle.journal.specs.declared.super_sector.Super.{Super}
 use Rattle.recovery.specs.Recovered.{most_migration_sends}
 use Rattle.window.specs.Window.{state_of}
 use Rattle.images.specs.Migrating.{migration_room}
+use Rattle.device_file.proofs.Fresh.{covers_fresh}
 use Rattle.images.proofs.Misses.{misses, migration_by_image}
 use Rattle.images.specs.Opened.{IsWindowOver}
 use Rattle.images.proofs.migrating.migrate_in_window.Goals as goal
@@ -29,7 +30,7 @@ returns-in-Err-clause-err c = λ told.
       by_image = λ sizes have. migration_by_image (state_of c.in_ok-window.window) (state_of c.migrate.new.m)
           c.in-Err.fault (misses c.args.first c.args.device.now.bytes sizes (migration_room c.args.first.sizes)
           c.in_ok-window.window c.migrate.new.m over have
-          (c.waiting-waiting.ensures.served c.migrate.new.m c.migrate.ensures.follows)
+          c.migrate.ensures.follows
           c.migrate.ensures.leaves.looks (λ shape same has. few _ _ c.args.first.sizes sizes shape have.sizes_are same
           (c.migrate.ensures.leaves.sends.most shape has))) c.in-Err.ensures.err.cause;
       refused_is = refl;
@@ -45,5 +46,6 @@ returns-in-Ok-clause-ok c = record {
   migrated = c.in-Ok.ensures.ok;
   leaves = c.migrate.ensures.leaves;
   follows = c.migrate.ensures.follows;
-  covers = c.waiting-waiting.ensures.device c.migrate.new.m c.migrate.ensures.follows;
+  covers = covers_fresh c.args.first.sectors c.args.first.bytes.items c.args.device.now.bytes 0 _ c.in_ok-window.window
+      c.migrate.new.m c.in_ok-window.ensures.ok c.migrate.ensures.follows;
 }

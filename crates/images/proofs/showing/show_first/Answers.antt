@@ -20,7 +20,7 @@ returns-in-Err-clause-err g c = inr (inl (record {
       let looks = c.inspect.ensures.looks in
       look_by_image old new c.in-Err.fault
       (misses c.args.first c.args.device.now.bytes sizes 0 c.in_ok-window.window c.inspect.new.m c.in_ok-window.ensures.ok have
-      (c.waiting-waiting.ensures.served c.inspect.new.m c.inspect.ensures.follows) looks.looks
+      c.inspect.ensures.follows looks.looks
       (λ shape same has. none_sent old new looks.reads)) c.in-Err.ensures.err.cause;
   refused_is = refl;
   kept = Keeps-refl (g.O.Write.contents c.args.out.now);
