@@ -15,7 +15,7 @@ use Rattle.spec.specs.Packets.{packets_of}
 use Rattle.spec.specs.declared.case.Endpoint.TheVariants as endpoint
 use Rattle.medium.specs.Medium.{State, IsSound}
 use Rattle.medium.proofs.SectorsRead.{no_looks, looks_wider}
-use Rattle.scsi_unit.specs.{Background.{Work, Settle}, Reading.first_home_of, Calls.IsBounded}
+use Rattle.scsi_unit.specs.{Background.{Work, Settle}, Reading.ReadsBack, Calls.IsBounded}
 use Rattle.scsi_unit.specs.Serving.{has_refused, IsSparing, TicksOver}
 use Rattle.scsi_unit.specs.UnitValue.{UnitValue, unit_limit, state_of, FitsUnit, IsOfSize, intention_of}
 use Rattle.spec.specs.declared.event.Event.TheVariants as event
@@ -60,7 +60,7 @@ sends_none m unit by CarriedOut = record { plain = λ none. none_made m unit; qu
 
 -- no read was made
 pub none_named : {M : Type 0} (m : State) (disk : DiskValue M) (happens : Event) → LooksIn m m disk happens
-none_named m disk happens = no_looks (λ s. (s < first_home_of disk.unit) ⊎ ReadsAt disk happens s) m m refl
+none_named m disk happens = no_looks (λ s. ReadsBack disk.unit s ⊎ ReadsAt disk happens s) m m refl
 
 -- what was done with a packet to Bulk-Out is a step of the disk
 pub served : {M : Type 0} (state : M → State) (Follows : M → M → Type 0) (At : ℕ → Type 0) (old new : DiskValue M) (from to : BulkState)
@@ -177,7 +177,7 @@ ticked work before after old new ticks line = record {
       let one = step_made before after old.unit ticks.sent in grind (arith, few, one, ticks);
   plain = λ book size none. step_made before after old.unit ticks.sent;
   quiet = λ book size loud. absurd loud;
-  looks = looks_wider (λ s. s < first_home_of old.unit) (λ s. (s < first_home_of old.unit) ⊎ ReadsAt old event.Tick s) before after
+  looks = looks_wider (ReadsBack old.unit) (λ s. ReadsBack old.unit s ⊎ ReadsAt old event.Tick s) before after
       (λ s low. inl low) ticks.looks;
   elapses = search (rules, ticks);
   limit_stays = ticks.limit_stays;
@@ -223,7 +223,7 @@ still_in_phase limit old new steady steady_in phase h = grind (arith, steady, st
 
 -- no read was made
 pub none_besides : {M : Type 0} (At : ℕ → Type 0) (m : State) (unit : UnitValue M) → LooksBesides At m m unit
-none_besides At m unit = no_looks (λ s. (s < first_home_of unit) ⊎ At s) m m refl
+none_besides At m unit = no_looks (λ s. ReadsBack unit s ⊎ At s) m m refl
 
 -- nothing was done to the unit
 pub unit_stays : {M : Type 0} (state : M → State) (Follows : M → M → Type 0) (At : ℕ → Type 0) (unit : UnitValue M) (from to : BulkState)

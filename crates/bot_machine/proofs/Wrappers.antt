@@ -15,7 +15,7 @@ use Rattle.medium.specs.Medium.{State}
 use Rattle.medium.proofs.SectorsRead.{looks_wider}
 use Rattle.scsi_unit.proofs.SectorsRead.{sends_none-reads_none}
 use Rattle.spec.specs.declared.intent.Intent.TheVariants as intent
-use Rattle.scsi_unit.specs.{Reading.{first_home_of, home_sectors_of, IsOneOf}, UnitValue.{UnitValue, intention_of, state_of, IsOfSize}}
+use Rattle.scsi_unit.specs.{Reading.{ReadsBack, first_home_of, home_sectors_of, IsOneOf}, UnitValue.{UnitValue, intention_of, state_of, IsOfSize}}
 use Rattle.scsi_unit.specs.declared.reading.HomeSectors.{HomeSectors}
 use Rattle.std.specs.Prelude.{None}
 use Rattle.bot_machine.proofs.UnitLaws.{intends_by_book}
@@ -128,7 +128,7 @@ at_rest_reads disk packet (Some wanted) unhalted expected reads =
 pub besides : {M : Type 0} (before after : State) (unit : UnitValue M) (At Other : ℕ → Type 0) → ((s : ℕ) → At s → Other s)
     → LooksBesides At before after unit → LooksBesides Other before after unit
 besides before after unit At Other wider looks =
-    looks_wider (λ s. (s < first_home_of unit) ⊎ At s) (λ s. (s < first_home_of unit) ⊎ Other s) before after
+    looks_wider (λ s. ReadsBack unit s ⊎ At s) (λ s. ReadsBack unit s ⊎ Other s) before after
     (λ s named. ⊎_elim inl (λ at. inr (wider s at)) named) looks
 
 -- a unit and a book of its size, and the exchange that a packet begins

@@ -3,7 +3,7 @@ use Rattle.std.specs.Prelude.{ℕ}
 use Rattle.spec.specs.{Lives.Presentation, Identification.Identification}
 use Rattle.spec.specs.{declared.packet_size.PacketSize.PacketSize, Packets.bytes_of}
 pub use Rattle.scsi_unit.specs.declared.retiring.Retiring.{Retiring}
-pub use Rattle.scsi_unit.specs.declared.retiring.Retiring.TheVariants.{Late, Ahead}
+pub use Rattle.scsi_unit.specs.declared.retiring.Retiring.TheVariants.{Late, Ahead, Kept}
 
 -- who the disk is, how many bytes a bulk packet has at most, and when a record of the log goes home
 pub record Device : Type 0 where

@@ -44,6 +44,7 @@ pub record TakesFew {M : Type 0} (before after : State) (old new : UnitValue M) 
   pub one_batch : IsWritten old.store.cached
       → SendsOneBatch old.store.goes_ahead before after old.store.cached.log
   pub layout_stays : layout_of new.store.cached ≡ layout_of old.store.cached
+  pub keeps_stays : new.store.cached.log.keeps ≡ old.store.cached.log.keeps
   pub policy_stays : new.store.goes_ahead ≡ old.store.goes_ahead
   pub headroom : KeepsHeadroom old.store new.store
   pub faulted : is_dead old.store.cached ≡ true

@@ -3,9 +3,9 @@ use Rattle.std.specs.Prelude.{◌≡◌, ◌⊎◌, true}
 use Rattle.medium.specs.Medium.{State}
 use Rattle.spec.specs.Book.{Book}
 use Rattle.scsi_unit.specs.Costs.{HasHeadroom}
-use Rattle.scsi_unit.specs.Retiring.{RetiresBy}
+use Rattle.scsi_unit.specs.Retiring.{RetiresBy, keeping_of}
 use Rattle.scsi_unit.specs.StartFaults.{StartFault, NoMemory}
-use Rattle.scsi_unit.specs.Starting.{IsStarted, IsStartCause, HasStore, HasLimit, OpensOn}
+use Rattle.scsi_unit.specs.Starting.{IsStartedBy, IsStartCause, HasStore, HasLimit, OpensOn}
 use Rattle.scsi_unit.specs.Starting.{IsCauseFor}
 use Rattle.spec.specs.Rules.{opened_unit}
 use Rattle.scsi_unit.specs.UnitValue.{unit_limit, state_of}
@@ -19,7 +19,7 @@ pub use Rattle.scsi_unit.specs.Starting.{StartLeaves, LeavesMedium, LeavesStarte
 -- was just opened, and retires as is known of the disk.
 pub record IsOpened {M : Type 0} (before after : State) (device : Device)
     (disk : DiskValue M) : Type 0 where
-  pub store : IsStarted before after disk.unit.store.cached
+  pub store : IsStartedBy (keeping_of device.retiring) before after disk.unit.store.cached
   pub line : disk.line ≡ at_rest device.packet_size
   pub retires : RetiresBy device.retiring disk.unit
   -- where it goes ahead its ring is never full

@@ -5,7 +5,7 @@ use Rattle.spec.specs.{declared.wrapper.Cbw.Cbw, declared.case.Case.Case}
 use Rattle.spec.specs.{declared.case.Case.TheVariants.{C5, C6}, Cases.IsCase}
 use Rattle.spec.specs.{CommandWrapper.SpellsCommand, declared.event.Event.Event, Exchange.finished}
 use Rattle.spec.specs.UnitConversation.{way_of}
-use Rattle.scsi_unit.specs.Reading.{first_home_of, home_sectors_of, read_of, IsOneOf, AreHome}
+use Rattle.scsi_unit.specs.Reading.{ReadsBack, first_home_of, home_sectors_of, read_of, IsOneOf, AreHome}
 use Rattle.scsi_unit.specs.{Serving.command_for, UnitValue.{UnitValue, unit_limit, intention_of}}
 use Rattle.scsi_unit.specs.declared.reading.HomeSectors.{HomeSectors}
 use Rattle.spec.specs.declared.event.Event.TheVariants as happens
@@ -55,11 +55,11 @@ ReadsNoHome disk packet = (wanted : HomeSectors) → ReadsHome disk packet wante
 
 -- ---- which sectors the reads name
 
--- each read of a unit names a sector before the first home sector, or one at home of which this
--- holds
+-- each read of a unit names a sector before the first home sector, if its log is read back, or one
+-- at home of which this holds
 abbrev pub LooksBesides : {M : Type 0} → (ℕ → Type 0) → State → State → UnitValue M → Type 0
 LooksBesides At before after unit =
-    LooksOnly (λ sector. (sector < first_home_of unit) ⊎ At sector) before after
+    LooksOnly (λ sector. ReadsBack unit sector ⊎ At sector) before after
 
 -- one of the home sectors of the blocks that the wrapper in a packet has read at once
 abbrev pub WrapperReadsAt : {M : Type 0} → UnitValue M → List ℕ → ℕ → Type 0

@@ -11,7 +11,7 @@ use Rattle.medium.specs.declared.fault.MediumFault.TheVariants as kind
 use Rattle.window.specs.{Story.given, declared.call.DeviceCall.DeviceCall, Window.{Window, fresh, state_of, is_in_sight, ComesAfter}}
 use Rattle.window.specs.{Window.IsServed, WindowLaws.{is_sound, comes_after_itself}, Looks.{near_in_sight, none_refused, none_missed}}
 use Rattle.window.specs.{Looks.none_kept_out}
-use Rattle.scsi_unit.specs.{Background.Work, Calls.SendsOneBatch, Reading.first_home_of, Starting.blocks_of, StartFaults.StartFault}
+use Rattle.scsi_unit.specs.{Background.Work, Calls.SendsOneBatch, Reading.ReadsBack, Starting.blocks_of, StartFaults.StartFault}
 use Rattle.spec.specs.{Book.{Book, opened}, Exchange.{in_answer, after_in}, declared.event.Event.Event, declared.event.Answer.Answer}
 use Rattle.bot_machine.proofs.OutPackets.{token}
 use Rattle.bot_machine.specs.{Device.Device, Disk.IsStepBy, Opening.{IsOpened, IsNotOpened, StartLeaves, LeavesMedium}, Reading.ReadsAt}
@@ -68,8 +68,8 @@ fits_event old event answer new step held (inr (inr once)) = fits_once old event
 
 -- a sector that an event names is in sight
 named_in_sight : (old : Disk) (event : Event) → HoldsLog old → SeesHome old event → (s : ℕ)
-    → (s < first_home_of old.unit) ⊎ ReadsAt old event s → is_in_sight (medium_of old) s ≡ true
-named_in_sight old event log home s (inl low) = near_in_sight (medium_of old) s (omega (arith, low, log))
+    → ReadsBack old.unit s ⊎ ReadsAt old event s → is_in_sight (medium_of old) s ≡ true
+named_in_sight old event log home s (inl low) = near_in_sight (medium_of old) s (omega (arith, low.1, log))
 named_in_sight old (event.Out packet) log home s (inr at) = home at.0 at.1 s at.2.0 at.2.1
 named_in_sight old _ log home s (inr at) = absurd at
 
@@ -89,7 +89,7 @@ played old event answer new sees step follows =
     let served = sees.served (medium_of new) follows in
     let fits = fits_event old event answer new step sees.held in
     let in_sight = λ (seen : HoldsLog old × SeesHome old event). named_in_sight old event seen.0 seen.1 in
-    let named = λ (s : ℕ). (s < first_home_of old.unit) ⊎ ReadsAt old event s in record {
+    let named = λ (s : ℕ). ReadsBack old.unit s ⊎ ReadsAt old event s in record {
       step = step;
       follows = follows;
       covers = sees.covers (medium_of new) follows;

@@ -5,7 +5,7 @@ use Rattle.std.specs.Prelude.{◌||◌, not, if◌then◌else◌}
 use Rattle.medium.specs.{Medium.State, Sent.{sent, SendsUpTo}, declared.fault.MediumFault.MediumFault}
 use Rattle.medium.specs.declared.fault.MediumFault.TheVariants.{Write, Flush}
 use Rattle.medium.proofs.SectorsRead.{no_looks, looks_joined, looks_wider}
-use Rattle.blocks.specs.{Limit.Shape, Looks.{LooksAtLog, IsLogOrHome}, OneBatch.SendsOneBatch, Sent.most_sent, StoreValue.StoreValue}
+use Rattle.blocks.specs.{Limit.Shape, Looks.{LooksAtLog, IsReadFor}, OneBatch.SendsOneBatch, Sent.most_sent, StoreValue.StoreValue}
 use Rattle.blocks.specs.StoreValue.{is_dead, layout_of, transfer_limit, active_of, firsts_in, wants, Cached, HasLimits, blocks_of, slots_of}
 use Rattle.blocks.specs.StoreValue.{batch_steps, steps_left, unwritten, FitsBeside}
 use Rattle.blocks.proofs.{EmptyBatches.{both_empty, fits_alone, frozen_as, step_sent}, OneBatchSent.none_sent, ReadCalls.reads_few}
@@ -15,7 +15,7 @@ use Rattle.spec.specs.{Sense.Sense, declared.command.Transfer.Transfer, Rules.{f
 use Rattle.spec.specs.declared.command.Command.{Command}
 use Rattle.scsi_unit.specs.{UnitValue.{UnitValue, unit_limit}, Calls.{calls_of_sync, calls_of_read, calls_of_write, MakesAtMost}}
 use Rattle.scsi_unit.specs.{Calls.{PromisesFew, calls_of, most_calls_of, most_calls}, Promising.{forces_writing, IsQuietBy, IsQuietWrite}}
-use Rattle.scsi_unit.specs.Reading.{IsLogOr, LooksToRead, first_home_of, home_sectors_of, some_read}
+use Rattle.scsi_unit.specs.Reading.{ReadsBack, ReadsBackOr, LooksToRead, first_home_of, home_sectors_of, some_read}
 use Rattle.scsi_unit.specs.StoreCalls.{MakesDurable, MakesNone, ReadsBlocks, WritesBlocks}
 use Rattle.scsi_unit.specs.{Costs.{CostsFinishing, CostsWriting, SteadyIsCheap, RecordsFlushOnce}, Performing.{Spares, silent}}
 use Rattle.spec.specs.declared.command.Command.TheVariants as command
@@ -25,12 +25,12 @@ use Rattle.scsi_commands.specs.Supported.{IsSupported}
 pub no_calls : {M : Type 0} (count : ℕ) (read : Option Transfer) (promising : Bool) (Quiet : Type 0) (m : State) (unit : UnitValue M)
     → MakesAtMost count read promising Quiet m m unit
 no_calls count read promising Quiet m unit =
-    let looks = no_looks (IsLogOr (first_home_of unit) (home_sectors_of (first_home_of unit) read)) m m refl in grind (arith, looks)
+    let looks = no_looks (ReadsBackOr unit (home_sectors_of (first_home_of unit) read)) m m refl in grind (arith, looks)
 
 -- the log alone was read
 log_looked : {M : Type 0} (before after : State) (unit : UnitValue M) (read : Option Transfer)
     → LooksAtLog before after unit.store.cached → LooksToRead before after unit read
-log_looked before after unit read looks = looks_wider (λ x. x < first_home_of unit) _ before after (λ x low. inl low) looks
+log_looked before after unit read looks = looks_wider (ReadsBack unit) _ before after (λ x low. inl low) looks
 
 -- writes are made durable where something is promised, and then no more is sent
 synced_few : {M : Type 0} (promising : Bool) (before mid after : State) (unit : UnitValue M)
@@ -82,8 +82,8 @@ module _ {M : Type 0} {Follows : M → M → Type 0} {before after : State} {old
           quiet = λ quiet. synced_none (forces_reading transfer) before mid after old live
               (λ plain. grind (arith, nat_tests, makes.unwanted)) makes.rests quiet reads.sent;
           looks = rw is (looks_joined _ before mid after (log_looked before mid old (Some transfer) makes.looks)
-              (looks_wider (IsLogOrHome (layout_of half.cached).home transfer.address transfer.count) _ mid after
-              (λ x named. rw makes.turn.goes_on.layout_stays at named) reads.looks));
+              (looks_wider (IsReadFor half.cached transfer.address transfer.count) _ mid after
+              (λ x named. rw (makes.turn.goes_on.layout_stays, makes.turn.goes_on.keeps_stays) at named) reads.looks));
         }
 
     -- they are accepted, and are made durable, if that is wanted

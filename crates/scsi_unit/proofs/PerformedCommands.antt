@@ -240,6 +240,7 @@ serves done policy = record {
   failures_stay = done.failures_stay;
   size_stays = done.size_stays;
   layout_stays = done.layout_stays;
+  keeps_stays = done.keeps_stays;
   blocks_stay = done.blocks_stay;
   limit_stays = done.limit_stays;
   policy_stays = policy;

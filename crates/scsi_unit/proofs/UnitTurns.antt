@@ -55,6 +55,7 @@ ticks_over work before after old store steps =
       failures_stay = on.failures_stay;
       size_stays = on.size_stays;
       layout_stays = on.layout_stays;
+      keeps_stays = on.keeps_stays;
       blocks_stay = on.blocks_stay;
       limit_stays = limit_stays old.store.cached store.cached on.layout_stays;
       policy_stays = steps.follows.policy;

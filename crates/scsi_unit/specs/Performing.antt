@@ -34,6 +34,7 @@ pub record Performs {M : Type 0} (before after : State) (told : Result Command S
   pub failures_stay : before.failures ≤ after.failures
   pub size_stays : after.size ≡ before.size
   pub layout_stays : layout_of new.store.cached ≡ layout_of old.store.cached
+  pub keeps_stays : new.store.cached.log.keeps ≡ old.store.cached.log.keeps
   pub blocks_stay : blocks_of new.store.cached ≡ blocks_of old.store.cached
   pub limit_stays : unit_limit new ≡ unit_limit old
   pub identity_stays : new.identity ≡ old.identity

@@ -5,7 +5,7 @@ use Rattle.medium.specs.Medium.{State, LooksOnly}
 use Rattle.spec.specs.{Sense.Sense, declared.command.Command.Command}
 use Rattle.spec.specs.{declared.command.Transfer.Transfer, Rules.moves_blocks}
 use Rattle.spec.specs.declared.command.Command.TheVariants as command
-use Rattle.blocks.specs.StoreValue.{layout_of}
+use Rattle.blocks.specs.{Looks.IsReadBack, StoreValue.layout_of}
 use Rattle.scsi_unit.specs.{UnitValue.UnitValue, declared.reading.HomeSectors.HomeSectors}
 
 -- what a READ of some blocks moves
@@ -34,13 +34,18 @@ abbrev pub IsOneOf : Option HomeSectors → ℕ → Type 0
 IsOneOf None sector = ⊥
 IsOneOf (Some wanted) sector = (wanted.first ≤ sector) × (sector < wanted.first + wanted.count)
 
--- a sector before the first home sector, so one of the super, the head or the log; or one of these
-abbrev pub IsLogOr : ℕ → Option HomeSectors → ℕ → Type 0
-IsLogOr home wanted sector = (sector < home) ⊎ IsOneOf wanted sector
+-- a sector before the first home sector, so one of the super, the head or the log, of a unit that
+-- reads its log back
+abbrev pub ReadsBack : {M : Type 0} → UnitValue M → ℕ → Type 0
+ReadsBack unit sector = IsReadBack unit.store.cached.log sector
+
+-- such a sector, or one of these
+abbrev pub ReadsBackOr : {M : Type 0} → UnitValue M → Option HomeSectors → ℕ → Type 0
+ReadsBackOr unit wanted sector = ReadsBack unit sector ⊎ IsOneOf wanted sector
 
 -- each read that a unit made names such a sector
 abbrev pub LooksAt : {M : Type 0} → State → State → UnitValue M → Option HomeSectors → Type 0
-LooksAt before after unit wanted = LooksOnly (IsLogOr (first_home_of unit) wanted) before after
+LooksAt before after unit wanted = LooksOnly (ReadsBackOr unit wanted) before after
 
 -- each names a sector of the log, or the home of a block that is read
 abbrev pub LooksToRead : {M : Type 0} → State → State → UnitValue M → Option Transfer → Type 0

@@ -1,20 +1,31 @@
 -- When a unit sends the oldest record of its log home: the policy that its start asks for.
-use Rattle.std.specs.Prelude.{◌≡◌, Bool, false}
+use Rattle.std.specs.Prelude.{◌≡◌, ◌×◌, Bool, false, max, min}
 use Rattle.blocks.specs.Opening.{Shape}
 use Rattle.blocks.specs.StoreValue.{layout_of}
 -- handed on to the layers above: a log of which shapes allows a unit to go ahead
 pub use Rattle.blocks.specs.Ahead.{may_go_ahead}
+use Rattle.blocks.specs.{Ahead.may_go_by, Started.keeps_by, Started.ring_by}
+use Rattle.blocks.specs.declared.start.Keeping.{Keeping}
+use Rattle.blocks.specs.declared.start.Keeping.TheVariants as keeping
 use Rattle.scsi_unit.specs.declared.retiring.Retiring.{Retiring}
-use Rattle.scsi_unit.specs.declared.retiring.Retiring.TheVariants.{Late, Ahead}
+use Rattle.scsi_unit.specs.declared.retiring.Retiring.TheVariants.{Late, Ahead, Kept}
 use Rattle.scsi_unit.specs.UnitValue.{UnitValue}
+
+-- what becomes of the blocks of its records: they are read back, or those of so many are kept
+abbrev pub keeping_of : Retiring → Keeping
+keeping_of Late = keeping.ReadBack
+keeping_of Ahead = keeping.ReadBack
+keeping_of (Kept count) = keeping.Kept (max count 1)
 
 -- whether a unit goes ahead of which a start asked for this, over a log of this shape
 abbrev pub goes_ahead_by : Retiring → Shape → Bool
 goes_ahead_by Late shape = false
 goes_ahead_by Ahead shape = may_go_ahead shape
+goes_ahead_by (Kept count) shape =
+    may_go_by shape.format (ring_by (keeping_of (Kept count)) shape.slots)
 
 -- A unit retires as a start asked: it goes ahead exactly where that asked for it and its log allows
--- it.
-abbrev pub RetiresBy : {M : Type 0} → Retiring → UnitValue M → Type 0
-RetiresBy retiring unit =
-    unit.store.goes_ahead ≡ goes_ahead_by retiring (layout_of unit.store.cached)
+-- it, and its log keeps blocks exactly where that asked for it.
+pub record RetiresBy {M : Type 0} (retiring : Retiring) (unit : UnitValue M) : Type 0 where
+  pub ahead : unit.store.goes_ahead ≡ goes_ahead_by retiring (layout_of unit.store.cached)
+  pub keeps : unit.store.cached.log.keeps ≡ keeps_by (keeping_of retiring)

@@ -38,6 +38,7 @@ pub record Serves {M : Type 0} (before after : State) (block taken : List ℕ) (
   pub failures_stay : before.failures ≤ after.failures
   pub size_stays : after.size ≡ before.size
   pub layout_stays : layout_of new.store.cached ≡ layout_of old.store.cached
+  pub keeps_stays : new.store.cached.log.keeps ≡ old.store.cached.log.keeps
   pub blocks_stay : blocks_of new.store.cached ≡ blocks_of old.store.cached
   pub limit_stays : unit_limit new ≡ unit_limit old
   pub policy_stays : new.store.goes_ahead ≡ old.store.goes_ahead
@@ -170,6 +171,7 @@ pub record TicksOver {M : Type 0} (work : Work) (before after : State) (old new 
   pub failures_stay : before.failures ≤ after.failures
   pub size_stays : after.size ≡ before.size
   pub layout_stays : layout_of new.store.cached ≡ layout_of old.store.cached
+  pub keeps_stays : new.store.cached.log.keeps ≡ old.store.cached.log.keeps
   pub blocks_stay : blocks_of new.store.cached ≡ blocks_of old.store.cached
   pub limit_stays : unit_limit new ≡ unit_limit old
   pub policy_stays : new.store.goes_ahead ≡ old.store.goes_ahead

@@ -9,7 +9,7 @@ use Rattle.blocks.specs.StoreValue.{Cached, StoreValue}
 use Rattle.spec.specs.Identification.{Identification}
 use Rattle.spec.specs.Rules.{opened_unit}
 use Rattle.scsi_unit.specs.UnitValue.{UnitValue, unit_limit, state_of}
-use Rattle.scsi_unit.specs.Retiring.{goes_ahead_by, RetiresBy}
+use Rattle.scsi_unit.specs.Retiring.{goes_ahead_by, keeping_of, RetiresBy}
 use Rattle.scsi_unit.specs.declared.retiring.Retiring.{Retiring}
 use Rattle.scsi_unit.specs.declared.retiring.Retiring.TheVariants.{Late}
 use Rattle.blocks.specs.Opening.{StartFault}
@@ -17,7 +17,8 @@ use Rattle.blocks.specs.Opening.{StartFault}
 pub use Rattle.blocks.specs.Limit.{HasLimit}
 pub use Rattle.blocks.specs.Opening.{IsOursForSome, Stands, StandsForOpening, StandsForSome}
 pub use Rattle.blocks.specs.Opening.{OpensOn, IsCauseFor}
-pub use Rattle.blocks.specs.Started.{IsStarted, IsStartCause, StartLeaves}
+pub use Rattle.blocks.specs.Started.{IsStarted, IsStartedBy, IsStartCause, StartLeaves}
+use Rattle.blocks.specs.declared.start.Keeping.{Keeping}
 -- what it leaves of its medium, and which sectors its reads name
 pub use Rattle.blocks.specs.Started.{LeavesMedium}
 -- for the number of blocks with which a life opened
@@ -28,7 +29,7 @@ pub use Rattle.blocks.specs.StoreValue.{layout_of, blocks_of}
 -- book of its life. It retires as its start asked.
 pub record IsUnitStartedBy {M : Type 0} (retiring : Retiring) (before after : State)
     (identity : Identification) (unit : UnitValue M) : Type 0 where
-  pub store : IsStarted before after unit.store.cached
+  pub store : IsStartedBy (keeping_of retiring) before after unit.store.cached
   pub retires : RetiresBy retiring unit
   -- where it goes ahead its ring is never full
   pub headroom : unit.store.goes_ahead ≡ true → HasHeadroom unit.store.cached.log
@@ -71,7 +72,7 @@ pub record RefusesUnit {M : Type 0} (state : M → State) (Follows : M → M →
 -- A store that has started for a unit, and retires as that asked.
 pub record StoreStartsBy {M : Type 0} (retiring : Retiring) (state : M → State)
     (Follows : M → M → Type 0) (medium : M) (store : StoreValue M) : Type 0 where
-  pub started : IsStarted (state medium) (state store.medium) store.cached
+  pub started : IsStartedBy (keeping_of retiring) (state medium) (state store.medium) store.cached
   pub policy : store.goes_ahead ≡ goes_ahead_by retiring (layout_of store.cached)
   pub headroom : store.goes_ahead ≡ true → HasHeadroom store.cached.log
   pub leaves : LeavesMedium state Follows medium store.medium
@@ -84,4 +85,5 @@ pub record StoreRefuses {M : Type 0} (state : M → State) (Follows : M → M �
 
 -- a store has started
 abbrev pub HasStore : State → State → Type 0
-HasStore before after = (store : Cached) × IsStarted before after store
+HasStore before after = (keeping : Keeping) × (store : Cached)
+    × IsStartedBy keeping before after store

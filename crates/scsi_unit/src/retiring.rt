@@ -10,4 +10,8 @@ pub enum Retiring {
     /// Ahead of the flush of the next record, which then covers it too, where fewer slots are free
     /// than three. It needs format 2 and three slots; else it is `Late`.
     Ahead,
+    /// As `Ahead`, over a log that keeps the blocks of its records in memory and reads none back:
+    /// those of so many records, one at least, and no more stand in it at once. Where these are
+    /// fewer than three, or in format 1, they go home as `Late` has it.
+    Kept(u8),
 }
