@@ -11,7 +11,7 @@ use Rattle.spec.specs.{declared.event.Event.Event, declared.event.Answer.Answer}
 use Rattle.bot_machine.proofs.Wrappers.{one_wrapper}
 use Rattle.window.specs.{Window.{Window, state_of, is_in_sight, ComesAfter, IsServed}, Looks.{near_in_sight, shown_in_sight, none_refused}}
 use Rattle.window.specs.{Looks.none_kept_out, Sight.AreMissing}
-use Rattle.scsi_unit.specs.{Reading.first_home_of, declared.reading.HomeSectors.HomeSectors}
+use Rattle.scsi_unit.specs.{Reading.ReadsBack, declared.reading.HomeSectors.HomeSectors}
 use Rattle.bot_machine.specs.{Device.Device, Disk.{IsStep, IsRearmed}, Opening.IsOpened, Reading.{ReadsHome, ReadsAt, sectors_in}}
 use Rattle.bot_machine.specs.{Reading.sectors_for}
 use Rattle.spec.specs.declared.event.Event.TheVariants as event
@@ -104,8 +104,8 @@ module _ {D : Type 0} where
   few old played ready sends = omega (arith, sends, ready.room, ap (λ l. length l) ready.empty)
 
   named_in_sight : (old : DiskOn D) (event : Event) → IsReady old → SeesHome old event → (s : ℕ)
-      → (s < first_home_of old.unit) ⊎ ReadsAt old event s → is_in_sight (window_of old) s ≡ true
-  named_in_sight old event ready home s (inl low) = near_in_sight (window_of old) s (omega (arith, low, ready.log))
+      → ReadsBack old.unit s ⊎ ReadsAt old event s → is_in_sight (window_of old) s ≡ true
+  named_in_sight old event ready home s (inl low) = near_in_sight (window_of old) s (omega (arith, low.1, ready.log))
   named_in_sight old (event.Out packet) ready home s (inr at) = home at.0 at.1 s at.2.0 at.2.1
   named_in_sight old _ ready home s (inr at) = absurd at
 
@@ -120,7 +120,7 @@ module _ {D : Type 0} where
       → IsServed (window_of old) (window_of played) → IsReady old → SeesHome old event
       → RefusesNone (window_of old) (window_of played)
   event_served old played event answer step served ready home =
-      none_refused (λ s. (s < first_home_of old.unit) ⊎ ReadsAt old event s) (window_of old) (window_of played) served
+      none_refused (λ s. ReadsBack old.unit s ⊎ ReadsAt old event s) (window_of old) (window_of played) served
       (named_in_sight old event ready home) step.looks
       (few old played ready (omega (arith, step.few.sent, enough (layout_on old).format (layout_on old).slots)))
 

@@ -10,7 +10,7 @@ use Rattle.recovery.specs.Recovered.{RecoverySends}
 use Rattle.window.specs.Window.{Window, state_of, is_in_sight, ComesAfter, IsServed}
 use Rattle.window.specs.WindowLaws.{comes_after_itself}
 use Rattle.window.specs.Looks.{near_in_sight, none_refused, none_missed, none_kept_out}
-use Rattle.blocks.specs.Looks.{IsLogOrHome, LooksAtLog, LooksAtBlocks}
+use Rattle.blocks.specs.Looks.{IsReadBack, IsReadFor, LooksAtLog, LooksAtBlocks}
 use Rattle.blocks.specs.Started.{LeavesMedium}
 use Rattle.blocks.specs.StoreValue.{layout_of, is_dead}
 use Rattle.blocks.specs.Turns.{IsReadCause}
@@ -55,8 +55,8 @@ pub appends_log : (most : ℕ) (old new : Store) → Foresees old.medium → Com
     → SendsUpTo most (state_of old.medium) (state_of new.medium)
     → LooksAtLog (state_of old.medium) (state_of new.medium) old.cached → Appends (TakesCalls most old) old new
 appends_log most old new sees follows sends named =
-    appends (λ s. s < first_home (layout_of old.cached)) most old new sees follows sends named
-    (λ log s low. near_in_sight old.medium s (omega (arith, low, log)))
+    appends (IsReadBack old.cached.log) most old new sees follows sends named
+    (λ log s low. near_in_sight old.medium s (omega (arith, low.1, log)))
 
 -- one that makes no call of the medium
 pub appends_none : (old new : Store) → Foresees old.medium → new.medium ≡ old.medium → Appends (TakesCalls 0 old) old new
@@ -65,8 +65,8 @@ appends_none old new sees same = appends_log 0 old new sees
 
 -- a sector of the log, or the home of one of these blocks, is in sight
 log_or_home : (old : Store) (address count : ℕ) → AreInSight old.medium (first_home (layout_of old.cached) + address) count
-    → HoldsLog old → (s : ℕ) → IsLogOrHome (first_home (layout_of old.cached)) address count s → is_in_sight old.medium s ≡ true
-log_or_home old address count seen log s (inl low) = near_in_sight old.medium s (omega (arith, low, log))
+    → HoldsLog old → (s : ℕ) → IsReadFor old.cached address count s → is_in_sight old.medium s ≡ true
+log_or_home old address count seen log s (inl low) = near_in_sight old.medium s (omega (arith, low.1, log))
 log_or_home old address count seen log s (inr at) = seen s at.0 at.1
 
 -- one that reads these blocks
@@ -75,7 +75,7 @@ pub appends_read : (address count : ℕ) (old new : Store) → Foresees old.medi
     → LooksAtBlocks (state_of old.medium) (state_of new.medium) old.cached address count
     → AreInSight old.medium (first_home (layout_of old.cached) + address) count → Appends (TakesCalls 0 old) old new
 appends_read address count old new sees follows sends named seen =
-    appends (IsLogOrHome (first_home (layout_of old.cached)) address count) 0 old new sees follows sends named
+    appends (IsReadFor old.cached address count) 0 old new sees follows sends named
     (log_or_home old address count seen)
 
 -- a live store refuses a read of blocks in sight only where a sector of the log is not in memory

@@ -47,7 +47,7 @@ joined first second old mid new a b = record {
   none_refused = λ live. b.none_refused live
       ∙ a.none_refused (lived (is_dead mid.cached) (is_dead new.cached) b.turn.goes_on.dead_stays live);
   follows = comes_after_through old.medium mid.medium new.medium a.follows b.follows;
-  looks = looks_on (state_of old.medium) (state_of mid.medium) (state_of new.medium) old.cached mid.cached a.turn.goes_on.layout_stays
+  looks = looks_on (state_of old.medium) (state_of mid.medium) (state_of new.medium) old.cached mid.cached a.turn.goes_on
       a.looks b.looks;
   policy = b.policy ∙ a.policy;
 }
