@@ -2,7 +2,7 @@
 use Rattle.std.specs.Prelude.{◌⊎◌, ◌<◌, ◌≤◌, ◌+◌, ℕ}
 use Rattle.medium.specs.Medium.{State, LooksOnly}
 use Rattle.journal.specs.Places.{first_home}
-use Rattle.redo_log.specs.Value.{IsReadBack}
+pub use Rattle.redo_log.specs.Value.{IsReadBack}
 use Rattle.blocks.specs.StoreValue.{Cached, layout_of}
 
 -- each read names a sector of the log, one before home, and none where the log keeps its blocks
