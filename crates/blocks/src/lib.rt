@@ -23,6 +23,7 @@ mod write_back;
 pub use fault::StoreFault;
 pub use laws::flush_laws;
 pub use recovery::StartFault;
+pub use start::Keeping;
 pub use start_error::StartError;
 pub use store::Store;
 pub use work::Work;

@@ -19,11 +19,12 @@ use recovery::{Recovered, StartFault, recover};
 use redo_log::{Log, LogFault};
 use std::alloc::Global;
 
-/// What becomes of the bytes of a record's blocks: they are read back from the log, or kept in
-/// memory, of so many records at most.
+/// What becomes of the bytes of a record's blocks once it is in the log.
 #[derive(Clone, Copy)]
-pub(crate) enum Keeping {
+pub enum Keeping {
+    /// They are read back from the log.
     ReadBack,
+    /// They are kept in memory, of so many records at most.
     Kept(u8),
 }
 

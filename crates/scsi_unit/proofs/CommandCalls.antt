@@ -108,7 +108,7 @@ module _ {M : Type 0} {Follows : M → M → Type 0} {before after : State} {old
           };
           quiet = λ quiet. grind (arith, nat_tests, some, quiet, writes.quiet, makes.unwanted);
           looks = log_looked before after old None
-              (looks_on before mid after old.store.cached half.cached layout writes.looks makes.looks);
+              (looks_on before mid after old.store.cached half.cached writes.turn.goes_on writes.looks makes.looks);
         }
 
 -- blocks are not accepted
@@ -182,7 +182,7 @@ records_flush_once active old head under_way =
     let some = λ (begun : 0 < old.log.steps_left). some_wanted old.frozen.numbers (under_way begun) in (
       both_each old.frozen.numbers active old.log head some,
       one_each old.frozen.numbers old.log head some,
-      headroom_finished old.frozen.numbers (firsts_in old.frozen) old.log head,
+      headroom_finished old.frozen.numbers (firsts_in old.frozen) old.frozen.bytes old.log head,
     )
 
 pub steady_is_cheap : SteadyIsCheap

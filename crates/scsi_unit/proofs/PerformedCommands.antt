@@ -29,6 +29,7 @@ record Stays (before after : State) (old new : Cached) : Type 0 where
   pub failures : before.failures ≤ after.failures
   pub size : after.size ≡ before.size
   pub layout : layout_of new ≡ layout_of old
+  pub keeps : new.log.keeps ≡ old.log.keeps
   pub blocks : blocks_of new ≡ blocks_of old
 
 module _ {M : Type 0} {before after : State} {old new : UnitValue M} {told : Result Command Sense} {taken : List ℕ}

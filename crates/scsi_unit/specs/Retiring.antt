@@ -1,5 +1,5 @@
 -- When a unit sends the oldest record of its log home: the policy that its start asks for.
-use Rattle.std.specs.Prelude.{◌≡◌, ◌×◌, Bool, false, max, min}
+use Rattle.std.specs.Prelude.{◌≡◌, Bool, false, max}
 use Rattle.blocks.specs.Opening.{Shape}
 use Rattle.blocks.specs.StoreValue.{layout_of}
 -- handed on to the layers above: a log of which shapes allows a unit to go ahead

@@ -24,7 +24,7 @@ returns g c =
     rw c.new.ensures.value (record {
       started = record {
         store = starts.started;
-        retires = starts.policy;
+        retires = record { ahead = starts.policy; keeps = rw starts.started.log refl };
         headroom = starts.headroom;
         limit = record {
           shape = layout_of store.cached;
