@@ -1,5 +1,5 @@
 -- How a store starts.
-use Rattle.std.specs.Prelude.{◌≡◌, ◌⊎◌, ℕ, ◌+◌, ◌*◌, ◌^◌, ◌<◌, ◌≤◌, Bool, true, false, [], min}
+use Rattle.std.specs.Prelude.{◌≡◌, ◌⊎◌, ℕ, ◌+◌, ◌*◌, ◌^◌, ◌<◌, ◌≤◌, Bool, true, false, [], min, max}
 use Rattle.medium.specs.Medium.{State, Image}
 use Rattle.medium.specs.Moments.{EachCut, LeavesOnly, IsFlushed}
 use Rattle.spec.specs.{Blocks.Array, Book.Book, Book.opened}
@@ -21,10 +21,11 @@ use Rattle.blocks.specs.{Kept.Invariant, Opening.OpensOn}
 use Rattle.blocks.specs.StoreValue.{Cached, layout_of, blocks_of, is_dead, active_of, steps_left}
 use Rattle.blocks.specs.StoreValue.{FitsBook, StoreValue, slots_of}
 
--- how many records may stand at once in a log of so many slots, and whether their blocks are kept
+-- how many records may stand at once in a log of so many slots, one at least, and whether their
+-- blocks are kept
 abbrev pub ring_by : Keeping → ℕ → ℕ
 ring_by ReadBack slots = slots
-ring_by (Kept count) slots = min count slots
+ring_by (Kept count) slots = min (max count 1) slots
 
 abbrev pub keeps_by : Keeping → Bool
 keeps_by ReadBack = false
@@ -115,16 +116,18 @@ pub record LeavesMedium {M : Type 0} (state : M → State) (Follows : M → M �
   -- each read names a sector of the log
   pub looks : recovery.LooksAtLog (state old) (state new)
 
--- where the log keeps its blocks, it does so of one record at least
-abbrev pub KeepsSome : Keeping → Type 0
-KeepsSome ReadBack = Unit {0}
-KeepsSome (Kept count) = 1 ≤ count
-
 -- The medium was recovered, and what a store on it keeps in memory was made.
 pub record MakesParts (keeping : Keeping) (before after : State) (sizes : Super) (cached : Cached)
     : Type 0 where
   pub started : IsStartedBy keeping before after cached
   pub kept : Invariant after.size sizes cached false false
+
+-- A store that was started so, and that does not go ahead.
+pub record StartsPlain {M : Type 0} (keeping : Keeping) (state : M → State)
+    (Follows : M → M → Type 0) (medium : M) (store : StoreValue M) : Type 0 where
+  pub started : IsStartedBy keeping (state medium) (state store.medium) store.cached
+  pub policy : store.goes_ahead ≡ false
+  pub leaves : LeavesMedium state Follows medium store.medium
 
 -- A store that was started as any, and that goes ahead where its log allows it. The ring that
 -- records alone fill then is steady after as many syncs of one batch as it has slots but one.
@@ -144,7 +147,7 @@ pub record StartsKeeping {M : Type 0} (state : M → State) (Follows : M → M �
     (medium : M) (store : StoreValue M) : Type 0 where
   pub started : IsStartedBy (Kept kept) (state medium) (state store.medium) store.cached
   pub keeps : store.cached.log.keeps ≡ true
-  pub ring : store.cached.log.ring ≡ min kept (slots_of store.cached)
+  pub ring : store.cached.log.ring ≡ min (max kept 1) (slots_of store.cached)
   pub policy : store.goes_ahead
       ≡ may_go_by (layout_of store.cached).format store.cached.log.ring
   pub filling : store.goes_ahead ≡ true → IsFilling store.cached.log

@@ -31,8 +31,8 @@ impl<M: Medium> Store<M> {
             self.old self.new }
         ensures turn { IsTurn (M.state self.old.medium) (M.state self.new.medium)
             self.old.cached self.new.cached }
-        // It reads no block twice, and makes no call for a block that a batch has, or that stands in
-        // a record which the log keeps.
+        // It reads no block twice, and makes no call for a block that a batch has, or that the log
+        // keeps.
         ensures cost { CostsReads result (2 * (length to.old / 512))
             (reads_of self.old.cached address (length to.old / 512))
             (M.state self.old.medium) (M.state self.new.medium) }

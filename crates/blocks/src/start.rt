@@ -7,16 +7,16 @@ ghost use Rattle.journal.specs.Standing.{StandsFor};
 ghost use Rattle.journal.specs.Formats.{shape_of};
 ghost use Rattle.recovery.specs.Causes.{IsDeviceFault};
 ghost use Rattle.blocks.specs.Ahead.{may_go_by};
-ghost use Rattle.blocks.specs.Started.{IsStarted, IsStartedBy, IsStartCause, LeavesMedium};
+ghost use Rattle.blocks.specs.Started.{IsStarted, IsStartCause, LeavesMedium};
 ghost use Rattle.blocks.specs.Started.{StartsAhead, StartsKeeping, RefusesStart, MakesParts};
-ghost use Rattle.blocks.specs.Started.{started_log, KeepsSome};
+ghost use Rattle.blocks.specs.Started.{started_log, StartsPlain};
 
 use crate::{StartError, Store};
 use cache::{Batch, Frozen};
 use journal::Super;
 use medium::Medium;
 use recovery::{Recovered, StartFault, recover};
-use redo_log::{Log, LogFault};
+use redo_log::Log;
 use std::alloc::Global;
 
 /// What becomes of the bytes of a record's blocks once it is in the log.
@@ -44,7 +44,6 @@ impl Parts {
         medium: &mut M,
         keeping: Keeping,
     ) -> Result<Parts, StartFault>
-        requires { KeepsSome keeping }
         ensures ok { IfOk result (λ parts. MakesParts keeping (M.state medium.old)
             (M.state medium.new) parts.sizes
             (record { log = parts.log; active = parts.active; frozen = parts.frozen })) }
@@ -59,7 +58,6 @@ impl Parts {
     // A log without records and two empty batches. No other call takes memory.
     fn new(alloc: Global, recovered: &Recovered, keeping: Keeping) -> Result<Parts, StartFault>
         requires stamp { (1 ≤ recovered.now.next) × (recovered.now.next < 2 ^ 63) }
-        requires some { KeepsSome keeping }
         ensures ok { IfOk result (λ parts. parts ≡ record {
           sizes = recovered.now.sizes;
           log = started_log keeping (shape_of recovered.now.sizes) recovered.now.next;
@@ -68,7 +66,14 @@ impl Parts {
         }) }
         ensures err { IfErr result (λ fault. fault ≡ StartFault.NoMemory) }
     {
-        let Ok(log) = log_of(alloc, recovered, keeping) else {
+        let made = match keeping {
+            Keeping::ReadBack => Log::idle(alloc, &recovered.sizes, recovered.next),
+            Keeping::Kept(most) => {
+                let most = (most as u64).max(1);
+                Log::keeping(alloc, &recovered.sizes, recovered.next, most)
+            }
+        };
+        let Ok(log) = made else {
             return Err(StartFault::NoMemory);
         };
         let limit = recovered.sizes.format.limit() as usize;
@@ -84,21 +89,6 @@ impl Parts {
             active,
             frozen,
         })
-    }
-}
-
-// A log without records on a recovered medium.
-fn log_of(alloc: Global, recovered: &Recovered, keeping: Keeping) -> Result<Log, LogFault>
-    requires stamp { (1 ≤ recovered.now.next) × (recovered.now.next < 2 ^ 63) }
-    requires some { KeepsSome keeping }
-    ensures { IfOk result (λ log.
-        log ≡ started_log keeping (shape_of recovered.now.sizes) recovered.now.next) }
-{
-    match keeping {
-        Keeping::ReadBack => Log::idle(alloc, &recovered.sizes, recovered.next),
-        Keeping::Kept(most) => {
-            Log::keeping(alloc, &recovered.sizes, recovered.next, most as u64)
-        }
     }
 }
 
@@ -134,12 +124,8 @@ impl<M: Medium> Store<M> {
 
     // Starts a store that does not go ahead.
     fn started(alloc: Global, medium: M, keeping: Keeping) -> Result<Store<M>, StartError<M>>
-        requires { KeepsSome keeping }
-        ensures ok { IfOk result (λ store. IsStartedBy keeping (M.state medium)
-            (M.state store.medium) store.cached) }
-        ensures policy { IfOk result (λ store. store.goes_ahead ≡ false) }
-        ensures leaves { IfOk result (λ store.
-            LeavesMedium M.state M.follows medium store.medium) }
+        ensures ok { IfOk result (λ store.
+            StartsPlain keeping M.state M.follows medium store) }
         ensures refused { IfErr result (λ error.
             RefusesStart M.state M.follows medium error.medium error.fault) }
     {
@@ -181,14 +167,13 @@ impl<M: Medium> Store<M> {
 
     /// Starts a store as `start_ahead` does, but one that keeps the bytes of the blocks of its
     /// records in memory, and never reads its log back. At most `kept` records stand in its log at
-    /// once, and no more than it has slots; it goes ahead where these are three, in format 2. The
-    /// memory for their blocks is taken here too.
+    /// once, one at least, and no more than it has slots; it goes ahead where three may, in format
+    /// 2. The memory for their blocks is taken here too.
     ///
     /// # Errors
     ///
     /// Those of `start`.
     pub fn start_keeping(alloc: Global, medium: M, kept: u8) -> Result<Store<M>, StartError<M>>
-        requires { 1 ≤ kept }
         ensures { MatchResult result
             (λ store. StartsKeeping M.state M.follows kept medium store)
             (λ error. RefusesStart M.state M.follows medium error.medium error.fault) }
@@ -197,7 +182,8 @@ impl<M: Medium> Store<M> {
             Ok(store) => store,
             Err(error) => return Err(error),
         };
-        store.goes_ahead = may_go_by(&store.sizes, (kept as u64).min(store.sizes.slots));
+        let ring = (kept as u64).max(1).min(store.sizes.slots);
+        store.goes_ahead = may_go_by(&store.sizes, ring);
         Ok(store)
     }
 }
