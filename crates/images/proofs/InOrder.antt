@@ -61,8 +61,4 @@ module _ {D : Type 0} {told : D → Told} {at_once : D → List DeviceCall → D
   -- for what was taken out of a window
   pub asked_out : {was is : D} {old new : Window} {good : Bool} (f : IsCarriedOut good (told was) (told is) old new)
       → AsksInRuns at_once was is old.outbox new.outbox → IsAskedInRuns told at_once was is
-  asked_out {was = was} {is = is} {old = old} {new = new} f runs = record {
-    calls = f.part;
-    asked = f.asked;
-    runs = runs_alone at_once was is old.outbox f.part new.outbox f.lets_go.waited runs;
-  }
+  asked_out f runs = record { calls = f.part; asked = f.asked; runs = runs_alone at_once _ _ _ f.part _ f.lets_go.waited runs }

@@ -100,8 +100,8 @@ pub record GoesInRuns {D : Type 0} (told : D → Told) (at_once : D → List Dev
   pub runs : IsAskedInRuns told at_once old between
   pub ends : (new ≡ between) ⊎ at_once between (Flush ∷ []) new
 
--- It was asked in runs for the blocks as they lie at home, and then so for what waits and goes home;
--- or for nothing more.
+-- It was asked in runs for the blocks as they lie, and then so for what waits and goes home; or for
+-- nothing more.
 pub record ExportsInRuns {D : Type 0} (told : D → Told)
     (at_once : D → List DeviceCall → D → Type 0) (old new : D) : Type 0 where
   pub copied : D

@@ -97,8 +97,8 @@ fn migrate_from<D: DeviceFile>(
         (D.told file.new)) }
     ensures err { IfErr result (IsNotMigratedOn first device.now.bytes (D.told file.old)
         (D.told file.new)) }
-    ensures runs { IsAskedInRuns D.told D.at_once file.old file.new }
-    ensures size { D.size file.new ≡ D.size file.old }
+    ensures asks { IsAskedInRuns D.told D.at_once file.old file.new
+        × (D.size file.new ≡ D.size file.old) }
 {
     let Ok(mut run) = Run::new(alloc) else {
         return Err(Refusal::NoMemory);

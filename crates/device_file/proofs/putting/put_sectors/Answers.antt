@@ -12,7 +12,8 @@ returns-in_err-put_some g c = rw (err_is c.from_residual.result c.from_residual.
 
 pub sectors-preserved : goal.sectors-preserved
 sectors-preserved g c =
-    sector_takes c.args.first c.sectors.i c.args.bytes.now c.block_at.result c.block_at.ensures c.sectors.invariant c.in_ok-put_some.ensures.takes
+    sector_takes c.args.first c.sectors.i c.args.bytes.now c.block_at.result c.block_at.ensures c.sectors.invariant
+    c.in_ok-put_some.ensures.takes
 
 pub sectors-init : goal.sectors-init
 sectors-init g c = takes_none c.args.file.now (waiting_in c.args.run.now)

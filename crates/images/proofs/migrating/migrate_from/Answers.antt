@@ -1,14 +1,17 @@
+use Rattle.std.proofs.Common.{refl}
 use Rattle.images.proofs.InOrder.{asked_none, asked_out}
 use Rattle.images.proofs.migrating.migrate_from.Goals as goal
 
-pub returns-in_default-clause-runs : goal.returns-in_default-clause-runs
-returns-in_default-clause-runs g c = asked_none c.args.file.now
+pub returns-in_default-clause-asks : goal.returns-in_default-clause-asks
+returns-in_default-clause-asks g c = (asked_none c.args.file.now, refl)
 
-pub returns-in_err-window-clause-runs : goal.returns-in_err-window-clause-runs
-returns-in_err-window-clause-runs g c = asked_none c.args.file.now
+pub returns-in_err-window-clause-asks : goal.returns-in_err-window-clause-asks
+returns-in_err-window-clause-asks g c = (asked_none c.args.file.now, refl)
 
-pub returns-in-Ok-carry_all-clause-runs : goal.returns-in-Ok-carry_all-clause-runs
-returns-in-Ok-carry_all-clause-runs g c = asked_out c.carry_all.ensures.carries.carried c.carry_all.ensures.runs
+pub returns-in-Ok-carry_all-clause-asks : goal.returns-in-Ok-carry_all-clause-asks
+returns-in-Ok-carry_all-clause-asks g c =
+    (asked_out c.carry_all.ensures.carries.carried c.carry_all.ensures.runs, c.carry_all.ensures.carries.size)
 
-pub returns-clause-runs : goal.returns-clause-runs
-returns-clause-runs g c = asked_out c.carry_all.ensures.carries.carried c.carry_all.ensures.runs
+pub returns-clause-asks : goal.returns-clause-asks
+returns-clause-asks g c =
+    (asked_out c.carry_all.ensures.carries.carried c.carry_all.ensures.runs, c.carry_all.ensures.carries.size)
