@@ -8,6 +8,7 @@ use Rattle.journal.specs.{Places.Shape, Sectors.IsSuper, Formats.shape_of, decla
 use Rattle.journal.proofs.SectorNumbers.{IsSuper-one}
 use Rattle.window.specs.Window.{Window, state_of, fresh}
 use Rattle.window.proofs.Kept.{opened_length, opened_front}
+use Rattle.device_file.proofs.Fresh.{covers_fresh}
 use Rattle.device_file.specs.First.{SpellsSuper, near_of}
 use Rattle.live.specs.{Ready.{IsReadyToStart, HasRoomToStart}, Starting.{IsWindowOf, room_for}}
 
@@ -75,6 +76,7 @@ module _ (sectors : ℕ) (bytes device : List ℕ) (some : 0 < sectors) where
         };
         room = room_of_image sizes spells count;
         span = omega arith;
+        foresees = λ new. covers_fresh sectors bytes device 240 room (over room) new refl;
       }
   ready None spells count =
       let zero = at_0 1 2 (omega arith) count in
@@ -86,6 +88,7 @@ module _ (sectors : ℕ) (bytes device : List ℕ) (some : 0 < sectors) where
         };
         room = inr (λ shape has. spells shape (subst (IsSuper shape) zero has.super), omega arith);
         span = omega arith;
+        foresees = λ new. covers_fresh sectors bytes device 240 1 (over 1) new refl;
       }
 
 pub opened_ready : {D : Type 0} (holds : D → ℕ → List ℕ → Type 0) (size : D → ℕ) (device : List ℕ) (file : D) (w : Window)

@@ -10,7 +10,7 @@ use Rattle.spec.specs.{declared.case.Case.Case, declared.case.Case.TheVariants.{
 use Rattle.spec.specs.{declared.event.Event.Event, declared.event.Answer.Answer}
 use Rattle.bot_machine.proofs.Wrappers.{one_wrapper}
 use Rattle.window.specs.{Window.{Window, state_of, is_in_sight, ComesAfter, IsServed}, Looks.{near_in_sight, shown_in_sight, none_refused}}
-use Rattle.window.specs.{Looks.none_kept_out, Sight.AreMissing}
+use Rattle.window.specs.{Looks.none_kept_out, Sight.AreMissing, declared.call.DeviceCall.DeviceCall}
 use Rattle.scsi_unit.specs.{Reading.ReadsBack, declared.reading.HomeSectors.HomeSectors}
 use Rattle.bot_machine.specs.{Device.Device, Disk.{IsStep, IsRearmed}, Opening.IsOpened, Reading.{ReadsHome, ReadsAt, sectors_in}}
 use Rattle.bot_machine.specs.{Reading.sectors_for}
@@ -71,8 +71,8 @@ module _ {D : Type 0} where
     span = omega (arith, ready.span, follows.span_stays);
   }
 
-  ready_carried : (told : D → Told) (played new : DiskOn D) → IsFit played → Carries told (medium_of played) (medium_of new)
-      → IsRearmed played new → (medium_of new).fault ≡ None → IsReady new
+  ready_carried : (told : D → Told) {at_once : D → List DeviceCall → D → Type 0} (played new : DiskOn D) → IsFit played
+      → Carries told at_once (medium_of played) (medium_of new) → IsRearmed played new → (medium_of new).fault ≡ None → IsReady new
   ready_carried told played new fit carries others well =
       let is = carries.carried.lets_go.is in
       let layout = ap (λ (d : DiskOn D). layout_on d) others in record {
@@ -83,15 +83,17 @@ module _ {D : Type 0} where
       }
 
   -- a disk that started, and whose file carried out all
-  pub ready_started : (told : D → Told) (first : Window) (started new : DiskOn D) (device : Device) → IsReadyToStart first
-      → IsOpened (state_of first) (state_of (window_of started)) device started → ComesAfter first (window_of started)
-      → Carries told (medium_of started) (medium_of new) → IsRearmed started new → (medium_of new).fault ≡ None → IsReady new
+  pub ready_started : (told : D → Told) {at_once : D → List DeviceCall → D → Type 0} (first : Window) (started new : DiskOn D)
+      (device : Device) → IsReadyToStart first → IsOpened (state_of first) (state_of (window_of started)) device started
+      → ComesAfter first (window_of started) → Carries told at_once (medium_of started) (medium_of new) → IsRearmed started new
+      → (medium_of new).fault ≡ None → IsReady new
   ready_started told first started new device ready opened follows carries others well =
       ready_carried told started new (fit_started first started device ready opened follows) carries others well
 
   -- so behind an event
-  pub ready_again : (told : D → Told) (old played new : DiskOn D) → ComesAfter (window_of old) (window_of played)
-      → layout_on played ≡ layout_on old → Carries told (medium_of played) (medium_of new) → IsRearmed played new
+  pub ready_again : (told : D → Told) {at_once : D → List DeviceCall → D → Type 0} (old played new : DiskOn D)
+      → ComesAfter (window_of old) (window_of played) → layout_on played ≡ layout_on old
+      → Carries told at_once (medium_of played) (medium_of new) → IsRearmed played new
       → IsReady old → (medium_of new).fault ≡ None → IsReady new
   ready_again told old played new follows layout carries others ready well =
       ready_carried told played new (fit_played old played ready follows layout) carries others well
@@ -158,10 +160,11 @@ module _ {D : Type 0} where
       ∙ in_case s.case (sectors_for disk.unit s.command.block.items) b s.reads in
       cc
 
-  module _ (told : D → Told) (holds : D → ℕ → List ℕ → Type 0) (refuses : D → ℕ → ℕ → Type 0) where
+  module _ (told : D → Told) (at_once : D → List DeviceCall → D → Type 0) (holds : D → ℕ → List ℕ → Type 0)
+      (refuses : D → ℕ → ℕ → Type 0) where
     taken_if : (old new : DiskOn D) (home : HomeSectors) (first count : ℕ) → IsReady old
         → AreMissing (window_of old) home.first home.count first count
-        → (sees : SeesRead told holds refuses old first count new) → sees.taken ≡ true
+        → (sees : SeesRead told at_once holds refuses old first count new) → sees.taken ≡ true
     taken_if old new home first count ready missing sees = sees.shown.shown.fits.1 (
       omega (arith, sees.whole),
       omega (arith, sees.whole, missing.few, ready.span),
@@ -169,7 +172,8 @@ module _ {D : Type 0} where
       omega (arith, sees.whole, missing.on_device, size_most (window_of old)),
     )
 
-    ready_shown : (old new : DiskOn D) (first count : ℕ) → SeesRead told holds refuses old first count new → IsReady old → IsReady new
+    ready_shown : (old new : DiskOn D) (first count : ℕ) → SeesRead told at_once holds refuses old first count new → IsReady old
+        → IsReady new
     ready_shown old new first count sees ready =
         let is = sees.shown.shown.others in
         let layout = ap (λ (d : DiskOn D). layout_on d) sees.others in record {
@@ -181,7 +185,7 @@ module _ {D : Type 0} where
 
     -- all that the packet has read is in sight then
     shown_sees : (old new : DiskOn D) (packet : List ℕ) (first count : ℕ) → IsReady old → Wants old packet first count
-        → SeesRead told holds refuses old first count new → WantsNone new packet
+        → SeesRead told at_once holds refuses old first count new → WantsNone new packet
     shown_sees old new packet first count ready (home, reads, missing) sees = λ other others s low high.
         let same = one_home old packet home other reads (same_home old new sees.others packet other others) in
         let there = sees.shown.shown.there (taken_if old new home first count ready missing sees) in
@@ -195,7 +199,7 @@ module _ {D : Type 0} where
               (omega (arith, there.0, there.1, sees.whole, missing.end, high, begins, many))
         ]
 
-    pub ready_prepared : (old : DiskOn D) (event : Event) (new : DiskOn D) → Prepares told holds refuses old event new
+    pub ready_prepared : (old : DiskOn D) (event : Event) (new : DiskOn D) → Prepares told at_once holds refuses old event new
         → IsReady old → IsReady new
     ready_prepared old (event.Out packet) new (inl (none, same)) ready = rw same ready
     ready_prepared old (event.Out packet) new (inr (first, count, wants, inl sees)) ready = ready_shown old new first count sees ready
@@ -203,13 +207,14 @@ module _ {D : Type 0} where
     ready_prepared old _ new same ready = rw same ready
 
     module _ (old : DiskOn D) (event : Event) (answer : Answer) (ready new : DiskOn D)
-        (plays : PlaysReady told holds refuses ready event answer new) (was : IsReady ready) where
-      sees_all : SeesHome ready event → MissesNothing told holds refuses old event ready plays.played
+        (plays : PlaysReady told at_once holds refuses ready event answer new) (was : IsReady ready) where
+      sees_all : SeesHome ready event → MissesNothing told at_once holds refuses old event ready plays.played
       sees_all home = record { kept = plays.kept was; seen = inl (plays.served was home) }
 
     pub misses_nothing : (old : DiskOn D) (event : Event) (answer : Answer) (ready new : DiskOn D)
-        → Prepares told holds refuses old event ready → (plays : PlaysReady told holds refuses ready event answer new) → IsReady old
-        → MissesNothing told holds refuses old event ready plays.played
+        → Prepares told at_once holds refuses old event ready
+        → (plays : PlaysReady told at_once holds refuses ready event answer new) → IsReady old
+        → MissesNothing told at_once holds refuses old event ready plays.played
     misses_nothing old (event.Out packet) answer ready new (inl (none, same)) plays was =
         sees_all old (event.Out packet) answer ready new plays (rw same was) (rw same none)
     misses_nothing old (event.Out packet) answer ready new (inr (first, count, wants, inl sees)) plays was =

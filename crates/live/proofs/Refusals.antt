@@ -1,16 +1,12 @@
 -- Which refusals the serving of an image file may have.
-use Rattle.std.proofs.Common.{◌≡◌, ◌⊎◌, ◌≤◌, ℕ, List, refl, sym, ◌∙◌, ap, inl, inr, arith}
+use Rattle.std.proofs.Common.{◌≡◌, ◌≤◌, ℕ, List, refl, sym, ◌∙◌, ap, inl, inr, arith}
 use Rattle.std.proofs.Common.{subst}
 use Rattle.std.specs.Prelude.{Option, Some, None, IfSome}
 use Rattle.std.specs.declared.io.ErrorKind.{ErrorKind}
-use Rattle.std.specs.declared.io.ErrorKind.TheVariants as causes
 use Rattle.medium.specs.declared.file_call.Access.TheVariants.{Change}
-use Rattle.window.specs.{declared.call.DeviceCall.DeviceCall, declared.call.DeviceCall.TheVariants.{Write, Flush}}
+use Rattle.window.specs.{declared.call.DeviceCall.DeviceCall, declared.call.DeviceCall.TheVariants.{Flush}}
 use Rattle.device_file.specs.{Outbox.{EndIn, kind_of}, Asked.Told, FileValue.{FileValue, IsOpened}, declared.fault.FileCall.FileCall}
 use Rattle.device_file.specs.{declared.fault.FileFault.FileFault, declared.opening.OpenFault.OpenFault}
-use Rattle.bot_machine.specs.StartFaults.{StartFault}
-use Rattle.bot_machine.specs.StartFaults as start
-use Rattle.device_file.specs.declared.fault.FileCall.TheVariants as call
 use Rattle.device_file.specs.declared.opening.OpenFault.TheVariants as opening
 use Rattle.console.proofs.Statuses.{file_refused, start_refused}
 use Rattle.console.specs.Status.{status_at, status_of_fault}
@@ -95,14 +91,16 @@ player_not_three : (calls : List DeviceCall) (why : Option FileFault) → IfSome
 player_not_three calls None named is = omega (arith, is)
 player_not_three calls (Some fault) named is = waiting_not_three calls fault named is
 
-serving_not_three : {D : Type 0} (told : D → Told) (holds : D → ℕ → List ℕ → Type 0) (refuses : D → ℕ → ℕ → Type 0) (most : ℕ)
+serving_not_three : {D : Type 0} (told : D → Told) (at_once : D → List DeviceCall → D → Type 0)
+    (holds : D → ℕ → List ℕ → Type 0) (refuses : D → ℕ → ℕ → Type 0) (most : ℕ)
     (was now left after : Option (List ℕ)) (first last : DiskOn D) (fault : ServeFault)
-    → IsStoppedBy (AnswersThrough told holds refuses) (IsUnanswered told holds refuses) most was now first last left after fault
+    → IsStoppedBy (AnswersThrough told at_once holds refuses) (IsUnanswered told at_once holds refuses) most was now first last left
+    after fault
     → status_of (refusal_of_serving fault (medium_of last).fault) ≡ 3 → ⊥
-serving_not_three told holds refuses most was now left after first last serve.Player (script, all, stops) is =
+serving_not_three told at_once holds refuses most was now left after first last serve.Player (script, all, stops) is =
     let carried = stops.ends.stops.1.plays.carried in
     player_not_three carried.carried.part (medium_of last).fault carried.named is
-serving_not_three told holds refuses most was now left after first last _ stops is = omega (arith, is)
+serving_not_three told at_once holds refuses most was now left after first last _ stops is = omega (arith, is)
 
 abbrev Unasked : Option FileValue → Type 0
 Unasked back = IfSome back IsUnasked
@@ -121,7 +119,7 @@ module _ (device : List ℕ) (was now left after : Option (List ℕ)) (back : Op
               part.starts.carried.named
               (sym (ap status_of part.refused_is) ∙ three))
         ]
-        | inr serving ↦ absurd (serving_not_three _ _ _ most was now left after serving.first serving.last serving.fault serving.stopped
+        | inr serving ↦ absurd (serving_not_three _ _ _ _ most was now left after serving.first serving.last serving.fault serving.stopped
             (sym (ap status_of serving.refused_is) ∙ three))
       ]
 

@@ -4,13 +4,14 @@ use Rattle.std.proofs.Common.{inl, inr, refl, ap, ◌∙◌, subst}
 use Rattle.spec.specs.{declared.event.Event.Event, declared.event.Answer.Answer}
 use Rattle.spec.specs.declared.event.Event.TheVariants as event
 use Rattle.device_file.specs.Asked.{Told}
+use Rattle.window.specs.declared.call.DeviceCall.{DeviceCall}
 use Rattle.runner.specs.{Played.packets_of, Players.IsPlayer}
 use Rattle.live.specs.{Missing.DiskOn, Playing.{Prepares, PreparesPacket, Plays, AnswersThrough}}
 
-module _ {D : Type 0} (told : D → Told) (holds : D → ℕ → List ℕ → Type 0)
-    (refuses : D → ℕ → ℕ → Type 0) where
+module _ {D : Type 0} (told : D → Told) (at_once : D → List DeviceCall → D → Type 0)
+    (holds : D → ℕ → List ℕ → Type 0) (refuses : D → ℕ → ℕ → Type 0) where
   abbrev Through : DiskOn D → List Event → List Answer → DiskOn D → Type 0
-  Through = AnswersThrough told holds refuses
+  Through = AnswersThrough told at_once holds refuses
 
   through-append : (first rest : List Event) (said more : List Answer) (old mid new : DiskOn D)
       → Through old first said mid → Through mid rest more new
@@ -22,7 +23,7 @@ module _ {D : Type 0} (told : D → Told) (holds : D → ℕ → List ℕ → Ty
   through-append _ rest _ more old mid new done next = absurd done
 
   packet_keeps : (old : DiskOn D) (packet : List ℕ) (new : DiskOn D)
-      → PreparesPacket told holds refuses old packet new → packets_of new ≡ packets_of old
+      → PreparesPacket told at_once holds refuses old packet new → packets_of new ≡ packets_of old
   packet_keeps old packet new (inl none) = ap (λ (d : DiskOn D). d.line.packet_size) none.1
   packet_keeps old packet new (inr (first, count, wants, inl sees)) =
       ap (λ (d : DiskOn D). d.line.packet_size) sees.others
@@ -31,12 +32,12 @@ module _ {D : Type 0} (told : D → Told) (holds : D → ℕ → List ℕ → Ty
 
   -- the size of packets stays
   pub prepared_keeps : (old : DiskOn D) (event : Event) (new : DiskOn D)
-      → Prepares told holds refuses old event new → packets_of new ≡ packets_of old
+      → Prepares told at_once holds refuses old event new → packets_of new ≡ packets_of old
   prepared_keeps old (event.Out packet) new prepared = packet_keeps old packet.items new prepared
   prepared_keeps old _ new same = ap (λ (d : DiskOn D). d.line.packet_size) same
 
   plays_keeps : (old : DiskOn D) (event : Event) (answer : Answer) (good : Bool) (new : DiskOn D)
-      → Plays told holds refuses old event answer good new → packets_of new ≡ packets_of old
+      → Plays told at_once holds refuses old event answer good new → packets_of new ≡ packets_of old
   plays_keeps old event answer good new plays =
       ap (λ (d : DiskOn D). d.line.packet_size) plays.plays.others
       ∙ plays.plays.step.packets_stay ∙ prepared_keeps old event plays.ready plays.prepares

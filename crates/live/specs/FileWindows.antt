@@ -38,15 +38,12 @@ module _ {D : Type 0} where
 
   -- The file was asked for exactly what waited, in order, and carried it out; or for a first part
   -- of it, of which it refused the last call, and the others wait still.
-  pub record Carries (told : D → Told) (old new : FileWindow D) : Type 0 where
+  pub record Carries (told : D → Told) (at_once : D → List DeviceCall → D → Type 0)
+      (old new : FileWindow D) : Type 0 where
     pub carried : IsCarriedOut (is_well new.fault) (told old.file) (told new.file)
         old.window new.window
     pub all : new.fault ≡ None → new.window.outbox ≡ []
     -- a fault is of that call: it names a write or a synchronising, as that was one
     pub named : IfSome new.fault (λ fault. EndIn carried.part fault.call)
-
-  -- by one call of the file for each flush and for each longest run of neighbouring sectors
-  abbrev pub CarriesInRuns : (D → List DeviceCall → D → Type 0) → FileWindow D → FileWindow D
-      → Type 0
-  CarriesInRuns at_once old new =
-      AsksInRuns at_once old.file new.file old.window.outbox new.window.outbox
+    -- by one call of the file for each flush and for each longest run of neighbouring sectors
+    pub runs : AsksInRuns at_once old.file new.file old.window.outbox new.window.outbox

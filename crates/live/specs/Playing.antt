@@ -1,30 +1,19 @@
 -- How a disk over a file goes through events.
 use Rattle.std.specs.Prelude.{◌≡◌, ◌⊎◌, ℕ, ◌*◌, ◌/◌, Bool, true, false, List, [], ◌∷◌, length, None}
 use Rattle.medium.specs.Inlet.{AreHeld}
-use Rattle.window.specs.Window.{Window, mirror_of, ComesAfter, CoversDevice, IsServed}
-use Rattle.window.specs.Parts as mirror
+use Rattle.window.specs.Window.{CoversDevice}
+use Rattle.window.specs.declared.call.DeviceCall.{DeviceCall}
 use Rattle.spec.specs.{Book.Book, declared.event.Event.Event, declared.event.Answer.Answer}
 use Rattle.bot_machine.specs.Disk.{FitsDisk, IsStep, IsRearmed}
 use Rattle.spec.specs.declared.event.Event.TheVariants as event
 use Rattle.device_file.specs.{Asked.Told, Reads.AreRead}
 use Rattle.live.specs.{FileWindows.{state_of, is_well, GoesOn, Shows, Carries}, Missing.DiskOn}
 use Rattle.live.specs.{Missing.{medium_of, window_of, Wants, WantsNone}, Ready.{IsReady, SeesHome}}
-use Rattle.live.specs.{Ready.{RefusesNone, KeepsAll}}
-
--- a device that was handed what was sent until the first moment, and any first part of what was
--- sent since, and has carried out any part of the writes behind its last flush
-abbrev pub CoversParts : Window → Window → Type 0
-CoversParts old new = mirror.CoversParts (mirror_of old) (mirror_of new)
-
--- what a window says of all calls of it that may come
-pub record Foresees (w : Window) : Type 0 where
-  pub covers : (new : Window) → ComesAfter w new → CoversDevice w new
-  pub parts : (new : Window) → ComesAfter w new → CoversParts w new
-  pub served : (new : Window) → ComesAfter w new → IsServed w new
+use Rattle.live.specs.{Ready.{CoversParts, RefusesNone, KeepsAll}}
 
 -- What a file was asked, what its reads gave, and which of them it refused.
-module _ {D : Type 0} (told : D → Told) (holds : D → ℕ → List ℕ → Type 0)
-    (refuses : D → ℕ → ℕ → Type 0) where
+module _ {D : Type 0} (told : D → Told) (at_once : D → List DeviceCall → D → Type 0)
+    (holds : D → ℕ → List ℕ → Type 0) (refuses : D → ℕ → ℕ → Type 0) where
   -- Of the file count sectors were read, and exactly what it gave was shown to the window. Where
   -- that is what the medium holds, the disk fits what it fitted.
   pub record SeesRead (old : DiskOn D) (first count : ℕ) (new : DiskOn D) : Type 0 where
@@ -69,7 +58,7 @@ module _ {D : Type 0} (told : D → Told) (holds : D → ℕ → List ℕ → Ty
     pub kept : IsReady old → KeepsAll (window_of old) (window_of played)
     -- and no call at all where the blocks that the event reads are in sight
     pub served : IsReady old → SeesHome old event → RefusesNone (window_of old) (window_of played)
-    pub carried : Carries told (medium_of played) (medium_of new)
+    pub carried : Carries told at_once (medium_of played) (medium_of new)
     pub others : IsRearmed played new
     -- it is ready again once all is carried out
     pub again : IsReady old → (medium_of new).fault ≡ None → IsReady new

@@ -6,7 +6,8 @@ use Rattle.spec.specs.{Packets.bytes_of, declared.packet_size.PacketSize.PacketS
 use Rattle.console.specs.declared.words.ArgumentFault.{ArgumentFault}
 use Rattle.console.specs.declared.words.ArgumentFault.TheVariants as argument
 use Rattle.device_file.specs.{Asked.Told, FileValue.{FileValue, GivesBlock, IsOpened}}
-use Rattle.device_file.specs.{declared.fault.FileFault.FileFault}
+use Rattle.device_file.specs.{Carried.AsksPart, declared.fault.FileFault.FileFault}
+use Rattle.window.specs.declared.call.DeviceCall.{DeviceCall}
 use Rattle.runner.specs.Live.{AreLiveWords, IsLiveLine}
 use Rattle.live.specs.{Serving.{IsServedOn, IsNotServedOn}, Status.refusal_of_argument}
 use Rattle.live.specs.{declared.refusal.Refusal.Refusal}
@@ -15,6 +16,10 @@ use Rattle.live.specs.declared.refusal.Refusal.TheVariants as refused
 -- what a file of the system was asked, and how many sectors it has
 abbrev pub told_of : FileValue → Told
 told_of file = file.told
+
+-- by which calls of the file behind it was asked these at once
+abbrev pub at_once_of : FileValue → List DeviceCall → FileValue → Type 0
+at_once_of old calls new = AsksPart calls old.file new.file
 
 abbrev pub size_of : FileValue → ℕ
 size_of file = file.size
@@ -62,15 +67,15 @@ module _ (device : List ℕ) (was now left after : Option (List ℕ)) (back : Op
   pub record IsLiveOn (opened : FileValue) (most : ℕ) : Type 0 where
     pub last : FileValue
     pub given : back ≡ Some last
-    pub served : IsServedOn told_of holds_of refuses_of size_of device most opened was now left
-        after last
+    pub served : IsServedOn told_of at_once_of holds_of refuses_of size_of device most opened was
+        now left after last
 
   -- why it was not
   pub record IsStoppedOn (opened : FileValue) (most : ℕ) (refusal : Refusal) : Type 0 where
     pub last : FileValue
     pub given : back ≡ Some last
-    pub refused : IsNotServedOn told_of holds_of refuses_of size_of device most opened was now left
-        after last refusal
+    pub refused : IsNotServedOn told_of at_once_of holds_of refuses_of size_of device most opened
+        was now left after last refusal
 
   -- The file at the path of this word was opened to be changed, locked, and only then measured, and
   -- the input was served on it.

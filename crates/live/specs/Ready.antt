@@ -6,7 +6,8 @@ use Rattle.journal.specs.{declared.log_format.LogFormat.LogFormat}
 use Rattle.medium.specs.Medium.{Image}
 use Rattle.recovery.specs.Calls.{most_start_sends, HoldsLog}
 use Rattle.scsi_unit.specs.{Calls.most_sends_of, Starting.layout_of}
-use Rattle.window.specs.Window.{Window, state_of, kept_out}
+use Rattle.window.specs.Parts as mirror
+use Rattle.window.specs.Window.{Window, mirror_of, state_of, kept_out, ComesAfter, CoversDevice}
 use Rattle.spec.specs.declared.event.Event.{Event}
 use Rattle.spec.specs.declared.event.Event.TheVariants as event
 use Rattle.live.specs.Missing.{DiskOn, window_of, WantsNone}
@@ -24,6 +25,15 @@ RefusesNone old new = (state_of new).failures ≡ (state_of old).failures
 abbrev pub KeepsAll : Window → Window → Type 0
 KeepsAll old new = kept_out new.seen.told.refused ≡ kept_out old.seen.told.refused
 
+-- a device that was handed what was sent until the first moment, and any first part of what was
+-- sent since, and has carried out any part of the writes behind its last flush
+abbrev pub CoversParts : Window → Window → Type 0
+CoversParts old new = mirror.CoversParts (mirror_of old) (mirror_of new)
+
+-- whatever calls of a window come, such a device is the first of these
+abbrev pub Foresees : Window → Type 0
+Foresees w = (new : Window) → ComesAfter w new → CoversDevice w new
+
 -- ---- a start
 
 -- The room is that of the image, where its super tells the format and the slots and the medium has
@@ -40,6 +50,7 @@ pub record IsReadyToStart (w : Window) : Type 0 where
   pub log : HoldsLog w.near (state_of w).size (state_of w).content
   pub room : HasRoomToStart (state_of w).size (state_of w).content w.room
   pub span : 240 ≤ w.span
+  pub foresees : Foresees w
 
 -- ---- an event
 

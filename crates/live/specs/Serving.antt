@@ -2,6 +2,7 @@
 use Rattle.std.specs.Prelude.{◌≡◌, ◌⊎◌, ℕ, List, Option}
 use Rattle.std.specs.Io.KnownBytes.{Keeps}
 use Rattle.device_file.specs.Asked.{Told}
+use Rattle.window.specs.declared.call.DeviceCall.{DeviceCall}
 use Rattle.runner.specs.{Served.{IsServedBy, IsStoppedBy}, declared.player.ServeFault.ServeFault}
 use Rattle.live.specs.{Missing.{DiskOn, medium_of}, Playing.{AnswersThrough, IsUnanswered}}
 use Rattle.live.specs.{Starting.{IsStartedOn, IsNotStartedOn}, Status.refusal_of_serving}
@@ -10,34 +11,34 @@ use Rattle.live.specs.{declared.refusal.Refusal.Refusal}
 -- What a file was asked, what its reads gave, which of them it refused, how many sectors it has,
 -- and which bytes are thought to stand behind the first ones: whatever they are. Packets have at
 -- most `most` bytes. What was written, and what the input had left, then and now.
-module _ {D : Type 0} (told : D → Told) (holds : D → ℕ → List ℕ → Type 0)
-    (refuses : D → ℕ → ℕ → Type 0) (size : D → ℕ) (device : List ℕ) (most : ℕ) (file : D)
-    (was now left after : Option (List ℕ)) where
+module _ {D : Type 0} (told : D → Told) (at_once : D → List DeviceCall → D → Type 0)
+    (holds : D → ℕ → List ℕ → Type 0) (refuses : D → ℕ → ℕ → Type 0) (size : D → ℕ)
+    (device : List ℕ) (most : ℕ) (file : D) (was now left after : Option (List ℕ)) where
   -- A disk started on the file, and the input was served to its end. The file comes back as the
   -- last answer left it: it was asked for nothing afterwards.
   pub record IsServedOn (back : D) : Type 0 where
     pub first : DiskOn D
-    pub started : IsStartedOn told holds size device most file first
+    pub started : IsStartedOn told at_once holds size device most file first
     pub last : DiskOn D
-    pub served : IsServedBy (AnswersThrough told holds refuses) (IsUnanswered told holds refuses)
-        most was now first last left after
+    pub served : IsServedBy (AnswersThrough told at_once holds refuses)
+        (IsUnanswered told at_once holds refuses) most was now first last left after
     pub given : back ≡ (medium_of last).file
 
   -- A disk started on the file, and the input was served in part. The file comes back as the last
   -- event left it.
   pub record IsStoppedOn (back : D) (refusal : Refusal) : Type 0 where
     pub first : DiskOn D
-    pub started : IsStartedOn told holds size device most file first
+    pub started : IsStartedOn told at_once holds size device most file first
     pub last : DiskOn D
     pub fault : ServeFault
-    pub stopped : IsStoppedBy (AnswersThrough told holds refuses)
-        (IsUnanswered told holds refuses) most was now first last left after fault
+    pub stopped : IsStoppedBy (AnswersThrough told at_once holds refuses)
+        (IsUnanswered told at_once holds refuses) most was now first last left after fault
     pub refused_is : refusal ≡ refusal_of_serving fault (medium_of last).fault
     pub given : back ≡ (medium_of last).file
 
   -- No disk started, and nothing was read or written; or the input was served in part.
   abbrev pub IsNotServedOn : D → Refusal → Type 0
   IsNotServedOn back refusal =
-      (IsNotStartedOn told holds size device most file refuses back refusal × (after ≡ left)
+      (IsNotStartedOn told at_once holds size device most file refuses back refusal × (after ≡ left)
       × Keeps was now)
       ⊎ IsStoppedOn back refusal

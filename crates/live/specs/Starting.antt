@@ -4,13 +4,14 @@ use Rattle.medium.specs.Writes.{sector_of}
 use Rattle.journal.specs.declared.super_sector.Super.{Super}
 use Rattle.recovery.specs.Causes.{IsDeviceFault}
 use Rattle.window.specs.Window.{Window, CoversDevice, fresh}
+use Rattle.window.specs.declared.call.DeviceCall.{DeviceCall}
 use Rattle.device_file.specs.{Asked.Told, First.{IsUnopened, SpellsSuper}, Reads.AreRead}
 use Rattle.device_file.specs.{declared.fault.FileFault.FileFault}
 use Rattle.device_file.specs.{declared.opening.FirstSectors.FirstSectors}
 use Rattle.device_file.specs.{declared.opening.OpenFault.OpenFault}
 use Rattle.live.specs.{declared.file.FileWindow.FileWindow, FileWindows.{state_of, GoesOn, Carries}}
 use Rattle.live.specs.{FileWindows.IsOver, Missing.{DiskOn, medium_of, window_of}}
-use Rattle.live.specs.{Playing.CoversParts, Ready.{room_of, IsReady, RefusesNone}}
+use Rattle.live.specs.{Ready.{CoversParts, room_of, IsReady, RefusesNone}}
 use Rattle.live.specs.{Status.refusal_of_open, declared.refusal.Refusal.Refusal}
 use Rattle.bot_machine.specs.{Device.{Device, Ahead}, Disk.IsRearmed, Opening.IsOpened}
 use Rattle.bot_machine.specs.{Opening.{IsNotOpened, StartLeaves}, StartFaults.StartFault}
@@ -54,9 +55,10 @@ HasNoWindow refuses size refusal =
     ⊎ (refusal ≡ refused.NoMemory)
 
 -- Of a disk that started: what waits was asked of the file, and nothing else changed.
-module _ {D : Type 0} (told : D → Told) (started : DiskOn D) where
+module _ {D : Type 0} (told : D → Told) (at_once : D → List DeviceCall → D → Type 0)
+    (started : DiskOn D) where
   pub record IsCarried (new : DiskOn D) : Type 0 where
-    pub carried : Carries told (medium_of started) (medium_of new)
+    pub carried : Carries told at_once (medium_of started) (medium_of new)
     pub others : IsRearmed started new
 
   -- the file refused a call of that, and comes back
@@ -69,7 +71,8 @@ module _ {D : Type 0} (told : D → Told) (started : DiskOn D) where
     pub given : back ≡ (medium_of disk).file
 
 -- What a file was asked. Packets have at most `most` bytes.
-module _ {D : Type 0} (told : D → Told) (most : ℕ) (medium : FileWindow D) where
+module _ {D : Type 0} (told : D → Told) (at_once : D → List DeviceCall → D → Type 0) (most : ℕ)
+    (medium : FileWindow D) where
   -- A disk started on the medium, and the file was asked for nothing. Then it was asked for exactly
   -- what waits, in order: it carried that out, or refused a call, behind which it was asked for
   -- nothing.
@@ -85,7 +88,7 @@ module _ {D : Type 0} (told : D → Told) (most : ℕ) (medium : FileWindow D) w
     pub parts : CoversParts medium.window (window_of started)
     -- no start misses: none of its calls was refused
     pub misses : RefusesNone medium.window (window_of started)
-    pub carried : Carries told (medium_of started) (medium_of new)
+    pub carried : Carries told at_once (medium_of started) (medium_of new)
     pub others : IsRearmed started new
 
   -- No disk started, since the image has a fault or there was no memory: no call was refused. The
@@ -121,19 +124,19 @@ module _ {D : Type 0} (told : D → Told) (most : ℕ) (medium : FileWindow D) w
 
 -- What reads of a file gave, how many sectors it has, which bytes are thought to stand behind the
 -- first ones, and what it was asked.
-module _ {D : Type 0} (told : D → Told) (holds : D → ℕ → List ℕ → Type 0) (size : D → ℕ)
-    (device : List ℕ) (most : ℕ) (file : D) where
+module _ {D : Type 0} (told : D → Told) (at_once : D → List DeviceCall → D → Type 0)
+    (holds : D → ℕ → List ℕ → Type 0) (size : D → ℕ) (device : List ℕ) (most : ℕ) (file : D) where
   -- a disk started on the file
   pub record IsStartedOn (new : DiskOn D) : Type 0 where
     pub medium : FileWindow D
     pub on : IsMediumOn holds size device file medium
-    pub started : IsStarted told most medium new
+    pub started : IsStarted told at_once most medium new
 
   -- none did, since it was refused
   pub record IsRefusedOn (back : D) (refusal : Refusal) : Type 0 where
     pub medium : FileWindow D
     pub on : IsMediumOn holds size device file medium
-    pub refused : IsRefusedStart told most medium back refusal
+    pub refused : IsRefusedStart told at_once most medium back refusal
 
   -- or since no medium was had of a file that refuses these reads; it was asked for nothing
   abbrev pub IsNotStartedOn : (D → ℕ → ℕ → Type 0) → D → Refusal → Type 0

@@ -20,7 +20,7 @@ pub struct FileWindow<D> {
 }
 
 impl<D: DeviceFile> FileWindow<D> {
-    ghost use Rattle.live.specs.FileWindows.{IsOver, Carries, CarriesInRuns};
+    ghost use Rattle.live.specs.FileWindows.{IsOver, Carries};
 
     /// A window over this file, with the memory for the longest write.
     pub fn new(window: WindowMedium, file: D, run: Run) -> FileWindow<D>
@@ -69,8 +69,7 @@ impl<D: DeviceFile> FileWindow<D> {
 
     // Has the file carry out what waits.
     fn carry(&mut self)
-        ensures carries { Carries D.told self.old self.new }
-        ensures runs { CarriesInRuns D.at_once self.old self.new }
+        ensures { Carries D.told D.at_once self.old self.new }
     {
         self.fault = match carry_out(&mut self.window, &mut self.file, &mut self.run) {
             Ok(()) => None,
@@ -115,9 +114,9 @@ impl<D: DeviceFile> Medium for FileWindow<D> {
 
 // To let go of what waits has the file carry it out.
 impl<D: DeviceFile> Outlet for FileWindow<D> {
-    ghost use Rattle.live.specs.FileWindows.{Carries, CarriesInRuns};
+    ghost use Rattle.live.specs.FileWindows.{Carries};
 
-    ghost given = { λ old new. Carries D.told old new × CarriesInRuns D.at_once old new };
+    ghost given = { Carries D.told D.at_once };
 
     fn pop(&mut self) {
         self.carry();

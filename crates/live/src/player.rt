@@ -2,8 +2,9 @@
 ghost use Rattle.std.specs.Prelude.{◌≡◌, ◌⊎◌, ◌*◌, ℕ, length, true, IfSome, IfNone};
 ghost use Rattle.bot_machine.specs.Fitting.{IsWithin};
 ghost use Rattle.live.specs.Missing.{medium_of, window_of};
-ghost use Rattle.live.specs.Playing.{Foresees, SeesRead, MissesRead, PreparesPacket, Prepares};
+ghost use Rattle.live.specs.Playing.{SeesRead, MissesRead, PreparesPacket, Prepares};
 ghost use Rattle.live.specs.Playing.{PlaysReady, Plays, IsUnanswered};
+ghost use Rattle.live.specs.Ready.{Foresees};
 
 use crate::file::FileWindow;
 use crate::missing::missing_for;
@@ -11,7 +12,7 @@ use bot_machine::{Answer, Disk, Event, PacketSize, answer_to};
 use device_file::{DeviceFile, FileFault};
 use runner::Player;
 use std::marker::Model;
-use window::{SECTOR, device_laws};
+use window::SECTOR;
 
 /// The most bytes that one packet has read of a file: 240 sectors of 512.
 pub const TRANSFER: usize = 122_880;
@@ -63,26 +64,18 @@ impl<D: DeviceFile> FileDisk<D> {
     }
 }
 
-/// Does nothing. The laws of the outbox say of all that may come what it is for the file.
-pub(crate) fn foresee_window<D: DeviceFile>(medium: &FileWindow<D>)
-    ensures { Foresees medium.now.window }
-{
-    let _waiting = medium.window().waiting();
-    device_laws();
-}
-
-// So for the window of a disk.
+// Does nothing. The law of the outbox says of all that may come what it is for the file.
 fn foresee<D: DeviceFile>(disk: &Disk<FileWindow<D>>)
     ensures { Foresees (window_of disk.now) }
 {
-    foresee_window(disk.medium());
+    let _waiting = disk.medium().window().waiting();
 }
 
 // Reads sectors of the file, and shows them. Where the file refuses that, nothing is shown.
 fn show_read<D: DeviceFile>(disk: &mut Disk<FileWindow<D>>, first: u64, count: u32, to: &mut [u8])
     requires { length to.old ≡ 512 * count }
-    ensures { SeesRead D.told D.holds D.refuses disk.old first count disk.new
-        ⊎ MissesRead D.told D.holds D.refuses disk.old first count disk.new }
+    ensures { SeesRead D.told D.at_once D.holds D.refuses disk.old first count disk.new
+        ⊎ MissesRead D.told D.at_once D.holds D.refuses disk.old first count disk.new }
 {
     match disk.medium().read_file(first, to) {
         Ok(()) => {
@@ -95,7 +88,7 @@ fn show_read<D: DeviceFile>(disk: &mut Disk<FileWindow<D>>, first: u64, count: u
 // Reads of the file what a packet wants, and shows it.
 fn prepare_packet<D: DeviceFile>(disk: &mut Disk<FileWindow<D>>, bytes: &mut [u8], packet: &[u8])
     requires { length bytes.old ≡ 122880 }
-    ensures { PreparesPacket D.told D.holds D.refuses disk.old packet.now disk.new }
+    ensures { PreparesPacket D.told D.at_once D.holds D.refuses disk.old packet.now disk.new }
 {
     let Some(read) = missing_for(disk, packet) else {
         return;
@@ -107,7 +100,7 @@ fn prepare_packet<D: DeviceFile>(disk: &mut Disk<FileWindow<D>>, bytes: &mut [u8
 // Makes the disk ready for an event.
 fn prepare<D: DeviceFile>(disk: &mut Disk<FileWindow<D>>, bytes: &mut [u8], event: &Event)
     requires { length bytes.old ≡ 122880 }
-    ensures { Prepares D.told D.holds D.refuses disk.old event.now disk.new }
+    ensures { Prepares D.told D.at_once D.holds D.refuses disk.old event.now disk.new }
 {
     if let Event::Out(packet) = event {
         prepare_packet(disk, bytes, packet.as_slice());
@@ -117,7 +110,7 @@ fn prepare<D: DeviceFile>(disk: &mut Disk<FileWindow<D>>, bytes: &mut [u8], even
 // Plays an event for which the disk is ready, and has the file carry out what waits.
 fn play_ready<D: DeviceFile>(disk: &mut Disk<FileWindow<D>>, event: &Event) -> Answer
     requires { IsWithin disk.old.line.packet_size event.now }
-    ensures { PlaysReady D.told D.holds D.refuses disk.old event.now result disk.new }
+    ensures { PlaysReady D.told D.at_once D.holds D.refuses disk.old event.now result disk.new }
 {
     foresee(disk);
     let answer = answer_to(disk, event);
@@ -134,9 +127,9 @@ fn play_event<D: DeviceFile>(
     requires room { length bytes.old ≡ 122880 }
     requires within { IsWithin disk.old.line.packet_size event.now }
     ensures played { IfSome result (λ answer.
-        Plays D.told D.holds D.refuses disk.old event.now answer true disk.new) }
+        Plays D.told D.at_once D.holds D.refuses disk.old event.now answer true disk.new) }
     ensures stopped { IfNone result
-        (IsUnanswered D.told D.holds D.refuses disk.old event.now disk.new) }
+        (IsUnanswered D.told D.at_once D.holds D.refuses disk.old event.now disk.new) }
 {
     prepare(disk, bytes, event);
     let answer = play_ready(disk, event);
@@ -151,13 +144,13 @@ impl<D: DeviceFile> Player for FileDisk<D> {
     ghost use Rattle.live.specs.Playing.{AnswersThrough, IsUnanswered};
     ghost use Rattle.live.specs.FileLaws.{file_plays};
 
-    ghost goes = { AnswersThrough D.told D.holds D.refuses };
+    ghost goes = { AnswersThrough D.told D.at_once D.holds D.refuses };
 
-    ghost stops = { IsUnanswered D.told D.holds D.refuses };
+    ghost stops = { IsUnanswered D.told D.at_once D.holds D.refuses };
 
     ghost most = { packets_of };
 
-    ghost laws = { file_plays D.told D.holds D.refuses };
+    ghost laws = { file_plays D.told D.at_once D.holds D.refuses };
 
     fn longest_packet(&self) -> PacketSize {
         match self.disk.packet_size() {

@@ -31,11 +31,11 @@ pub fn serve_file<D: DeviceFile, I: Read, O: Write>(
     input: &mut I,
     out: &mut O,
 ) -> Result<D, Stopped<D>>
-    ensures served { IfOk result (IsServedOn D.told D.holds D.refuses D.size device.now.bytes
-        (bytes_of size) file (O.contents out.old) (O.contents out.new) (I.remaining input.old)
-        (I.remaining input.new)) }
-    ensures refused { IfErr result (λ stopped. IsNotServedOn D.told D.holds D.refuses D.size
+    ensures served { IfOk result (IsServedOn D.told D.at_once D.holds D.refuses D.size
         device.now.bytes (bytes_of size) file (O.contents out.old) (O.contents out.new)
+        (I.remaining input.old) (I.remaining input.new)) }
+    ensures refused { IfErr result (λ stopped. IsNotServedOn D.told D.at_once D.holds D.refuses
+        D.size device.now.bytes (bytes_of size) file (O.contents out.old) (O.contents out.new)
         (I.remaining input.old) (I.remaining input.new) stopped.file stopped.refusal) }
 {
     let mut disk = match start_on(alloc, file, device, size) {

@@ -10,7 +10,7 @@ ghost use Rattle.live.specs.Status.{refusal_of_open};
 
 use crate::ended::Stopped;
 use crate::file::FileWindow;
-use crate::player::{FileDisk, TRANSFER, foresee_window};
+use crate::player::{FileDisk, TRANSFER};
 use crate::refusal::Refusal;
 use bot_machine::{Disk, PacketSize, Retiring};
 use device_file::{DeviceFile, FirstSectors, OpenFault, Run};
@@ -33,9 +33,9 @@ pub(crate) fn start_on<D: DeviceFile>(
     device: &DeviceHolds,
     size: PacketSize,
 ) -> Result<FileDisk<D>, Stopped<D>>
-    ensures started { IfOk result (IsStartedOn D.told D.holds D.size device.now.bytes
+    ensures started { IfOk result (IsStartedOn D.told D.at_once D.holds D.size device.now.bytes
         (bytes_of size) file) }
-    ensures refused { IfErr result (λ stopped. IsNotStartedOn D.told D.holds D.size
+    ensures refused { IfErr result (λ stopped. IsNotStartedOn D.told D.at_once D.holds D.size
         device.now.bytes (bytes_of size) file D.refuses stopped.file stopped.refusal) }
 {
     let window = match window_over(alloc, &file, device) {
@@ -126,11 +126,10 @@ fn start_disk<D: DeviceFile>(
     size: PacketSize,
 ) -> Result<Disk<FileWindow<D>>, Stopped<D>>
     requires { IsReadyToStart medium.window }
-    ensures started { IfOk result (IsStarted D.told (bytes_of size) medium) }
-    ensures refused { IfErr result (λ stopped. IsRefusedStart D.told (bytes_of size) medium
-        stopped.file stopped.refusal) }
+    ensures started { IfOk result (IsStarted D.told D.at_once (bytes_of size) medium) }
+    ensures refused { IfErr result (λ stopped. IsRefusedStart D.told D.at_once (bytes_of size)
+        medium stopped.file stopped.refusal) }
 {
-    foresee_window(&medium);
     match Disk::start_by(alloc, medium, disk_identity(), size, Retiring::Ahead) {
         Ok(disk) => carry_start(disk),
         Err(error) => Err(Stopped {
@@ -144,9 +143,9 @@ fn start_disk<D: DeviceFile>(
 fn carry_start<D: DeviceFile>(
     mut disk: Disk<FileWindow<D>>,
 ) -> Result<Disk<FileWindow<D>>, Stopped<D>>
-    ensures ok { IfOk result (λ carried. IsCarried D.told disk carried
+    ensures ok { IfOk result (λ carried. IsCarried D.told D.at_once disk carried
         × ((medium_of carried).fault ≡ None)) }
-    ensures err { IfErr result (λ stopped. IsCarriedInPart D.told disk stopped.file
+    ensures err { IfErr result (λ stopped. IsCarriedInPart D.told D.at_once disk stopped.file
         stopped.refusal) }
 {
     disk.pop();

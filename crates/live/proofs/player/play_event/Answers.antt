@@ -13,7 +13,7 @@ returns-in-Some-clause-stopped g c =
         prepares = c.prepare.ensures;
         plays = c.play_ready-answer.ensures;
         is_good = ap is_well fault;
-        misses = misses_nothing file.told file.holds file.refuses c.args.disk.now c.args.event.now c.play_ready-answer.result
+        misses = misses_nothing file.told file.at_once file.holds file.refuses c.args.disk.now c.args.event.now c.play_ready-answer.result
             c.prepare.new.disk c.play_ready-answer.new.disk c.prepare.ensures c.play_ready-answer.ensures;
         again = λ ready good. cc;
       },
@@ -28,9 +28,10 @@ returns-clause-played g c =
       prepares = c.prepare.ensures;
       plays = c.play_ready-answer.ensures;
       is_good = ap is_well fault;
-      misses = misses_nothing file.told file.holds file.refuses c.args.disk.now c.args.event.now c.play_ready-answer.result
+      misses = misses_nothing file.told file.at_once file.holds file.refuses c.args.disk.now c.args.event.now c.play_ready-answer.result
           c.prepare.new.disk c.play_ready-answer.new.disk c.prepare.ensures c.play_ready-answer.ensures;
       again = λ ready good. c.play_ready-answer.ensures.again
-          (ready_prepared file.told file.holds file.refuses c.args.disk.now c.args.event.now c.prepare.new.disk c.prepare.ensures ready)
+          (ready_prepared file.told file.at_once file.holds file.refuses c.args.disk.now c.args.event.now c.prepare.new.disk
+          c.prepare.ensures ready)
           fault;
     }

@@ -2,14 +2,16 @@ use Rattle.std.proofs.Common.{◌≡◌, ◌∙◌, ℕ, List, inl, inr, refl, a
 use Rattle.std.proofs.KnownBytes.{Keeps-refl}
 use Rattle.spec.specs.Exchange.{Line}
 use Rattle.device_file.specs.Asked.{Told}
+use Rattle.window.specs.declared.call.DeviceCall.{DeviceCall}
 use Rattle.runner.specs.{Played.packets_of, Served.{IsServedBy, IsStoppedBy}}
 use Rattle.live.specs.{Missing.DiskOn, Playing.{AnswersThrough, IsUnanswered}, Starting.IsStartedOn, Status.refusal_of_serving}
 use Rattle.live.proofs.serving.serve_file.Goals as goal
 
 -- packets have as many bytes as the start was given
-packets : {D : Type 0} (told : D → Told) (holds : D → ℕ → List ℕ → Type 0) (size : D → ℕ) (device : List ℕ) (most : ℕ) (file : D)
-    (new : DiskOn D) → IsStartedOn told holds size device most file new → packets_of new ≡ most
-packets {D} told holds size device most file new on =
+packets : {D : Type 0} (told : D → Told) (at_once : D → List DeviceCall → D → Type 0) (holds : D → ℕ → List ℕ → Type 0)
+    (size : D → ℕ) (device : List ℕ) (most : ℕ) (file : D) (new : DiskOn D)
+    → IsStartedOn told at_once holds size device most file new → packets_of new ≡ most
+packets {D} told at_once holds size device most file new on =
     ap (λ (d : DiskOn D). d.line.packet_size) on.started.starts.others
     ∙ ap (λ (l : Line). l.packet_size) on.started.starts.opens.line
 
@@ -20,6 +22,7 @@ returns-in-Err-clause-refused g c =
 pub returns-in-Ok-serve_player-clause-served : goal.returns-in-Ok-serve_player-clause-served
 returns-in-Ok-serve_player-clause-served g c =
     let told = g.D.DeviceFile.told in
+    let at_once = g.D.DeviceFile.at_once in
     let holds = g.D.DeviceFile.holds in
     let refuses = g.D.DeviceFile.refuses in
     let contents = g.O.Write.contents in
@@ -30,10 +33,10 @@ returns-in-Ok-serve_player-clause-served g c =
       first = first;
       started = c.in-Ok.ensures.started;
       last = last;
-      served = subst (λ (most : ℕ). IsServedBy (AnswersThrough told holds refuses) (IsUnanswered told holds refuses) most
+      served = subst (λ (most : ℕ). IsServedBy (AnswersThrough told at_once holds refuses) (IsUnanswered told at_once holds refuses) most
           (contents c.args.out.now) (contents c.serve_player.new.out) first last (remaining c.args.input.now)
           (remaining c.serve_player.new.source))
-          (packets told holds g.D.DeviceFile.size c.args.device.now.bytes _ c.args.file first c.in-Ok.ensures.started)
+          (packets told at_once holds g.D.DeviceFile.size c.args.device.now.bytes _ c.args.file first c.in-Ok.ensures.started)
           c.in-Ok-serve_player.ensures.served;
       given = c.into_file.ensures;
     }
@@ -41,6 +44,7 @@ returns-in-Ok-serve_player-clause-served g c =
 pub returns-in-Err-serve_player-clause-refused : goal.returns-in-Err-serve_player-clause-refused
 returns-in-Err-serve_player-clause-refused g c =
     let told = g.D.DeviceFile.told in
+    let at_once = g.D.DeviceFile.at_once in
     let holds = g.D.DeviceFile.holds in
     let refuses = g.D.DeviceFile.refuses in
     let contents = g.O.Write.contents in
@@ -52,10 +56,10 @@ returns-in-Err-serve_player-clause-refused g c =
       started = c.in-Ok.ensures.started;
       last = last;
       fault = c.in-Err-serve_player.fault;
-      stopped = subst (λ (most : ℕ). IsStoppedBy (AnswersThrough told holds refuses) (IsUnanswered told holds refuses) most
+      stopped = subst (λ (most : ℕ). IsStoppedBy (AnswersThrough told at_once holds refuses) (IsUnanswered told at_once holds refuses) most
           (contents c.args.out.now) (contents c.serve_player.new.out) first last (remaining c.args.input.now)
           (remaining c.serve_player.new.source) c.in-Err-serve_player.fault)
-          (packets told holds g.D.DeviceFile.size c.args.device.now.bytes _ c.args.file first c.in-Ok.ensures.started)
+          (packets told at_once holds g.D.DeviceFile.size c.args.device.now.bytes _ c.args.file first c.in-Ok.ensures.started)
           c.in-Err-serve_player.ensures.stopped;
       refused_is = c.refusal_of.ensures ∙ ap (λ why. refusal_of_serving c.in-Err-serve_player.fault why) c.fault.ensures;
       given = c.into_file-in-Err-serve_player.ensures;

@@ -1,5 +1,8 @@
 use Rattle.std.proofs.Common.{◌∙◌, inl, inr, refl}
 use Rattle.runner.proofs.Options.{if_ok, if_err}
+use Rattle.window.specs.Window.{mirror_of}
+use Rattle.window.proofs.InFlight.{parts_follow}
+use Rattle.device_file.proofs.Fresh.{served_after}
 use Rattle.live.proofs.{Ready.ready_started, Rooms.{start_misses, by_image}}
 use Rattle.live.proofs.starting.start_disk.Goals as goal
 
@@ -10,7 +13,7 @@ returns-in-Err-clause-refused g c =
     let leaves = c.in-Err.ensures.leaves in
     let follows = leaves.medium.follows.follows in
     let misses = start_misses first after c.requires leaves.leaves follows leaves.medium.looks
-    (c.foresee_window.ensures.served after follows) in
+    (served_after first after follows) in
     inl (record {
       after = c.in-Err.error.medium;
       fault = c.in-Err.error.fault;
@@ -33,10 +36,10 @@ returns-in-Ok-clause-started g c =
         opens = rw c.disk_identity.ensures at c.in-Ok.ensures.opened;
         leaves = c.in-Ok.ensures.leaves.leaves;
         follows = c.in-Ok.ensures.leaves.medium.follows;
-        covers = c.foresee_window.ensures.covers started follows;
-        parts = c.foresee_window.ensures.parts started follows;
+        covers = c.requires.foresees started follows;
+        parts = parts_follow (mirror_of first) (mirror_of started) (c.requires.foresees started follows);
         misses = start_misses first started c.requires c.in-Ok.ensures.leaves.leaves follows c.in-Ok.ensures.leaves.medium.looks
-            (c.foresee_window.ensures.served started follows);
+            (served_after first started follows);
         carried = both.0.carried;
         others = both.0.others;
       };
@@ -56,10 +59,10 @@ returns-in-Ok-clause-refused g c =
         opens = rw c.disk_identity.ensures at c.in-Ok.ensures.opened;
         leaves = c.in-Ok.ensures.leaves.leaves;
         follows = c.in-Ok.ensures.leaves.medium.follows;
-        covers = c.foresee_window.ensures.covers started follows;
-        parts = c.foresee_window.ensures.parts started follows;
+        covers = c.requires.foresees started follows;
+        parts = parts_follow (mirror_of first) (mirror_of started) (c.requires.foresees started follows);
         misses = start_misses first started c.requires c.in-Ok.ensures.leaves.leaves follows c.in-Ok.ensures.leaves.medium.looks
-            (c.foresee_window.ensures.served started follows);
+            (served_after first started follows);
         carried = part.carried.carried;
         others = part.carried.others;
       };

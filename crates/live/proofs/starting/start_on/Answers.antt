@@ -12,7 +12,7 @@ pub returns-in-Ok-start_disk-clause-started : goal.returns-in-Ok-start_disk-clau
 returns-in-Ok-start_disk-clause-started g c = record {
   medium = c.new.result;
   on = record { window = c.in-Ok.window; of = c.in-Ok.ensures.ok; over = c.new.ensures };
-  started = subst (λ (d : DiskOn g.row.D.Denot). IsStarted g.D.DeviceFile.told (bytes_of c.args.size) c.new.result d)
+  started = subst (λ (d : DiskOn g.row.D.Denot). IsStarted g.D.DeviceFile.told g.D.DeviceFile.at_once (bytes_of c.args.size) c.new.result d)
       (sym c.new-in-Ok-start_disk.ensures) c.in-Ok-start_disk.ensures.started;
 }
 
