@@ -16,3 +16,4 @@ pub use player::{FileDisk, TRANSFER};
 pub use program::{live_command, run_live};
 pub use refusal::Refusal;
 pub use serving::serve_file;
+pub use starting::DiskOptions;

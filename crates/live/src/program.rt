@@ -12,7 +12,7 @@ ghost use Rattle.runner.specs.Live.{IsLiveLine};
 use crate::ended::{Ended, Stopped};
 use crate::refusal::Refusal;
 use crate::serving::serve_file;
-use bot_machine::PacketSize;
+use crate::starting::DiskOptions;
 use console::{ArgumentFault, guard_streams, words_of};
 use device_file::SystemFile;
 use medium::{Access, OpenedFile};
@@ -124,7 +124,7 @@ fn serve_image<R: Files<File = File> + AllocGlobal, I: Read, O: Write>(
         return Err(stopped(Refusal::Streams));
     };
     match device_file::open(rt, image, Access::Change) {
-        Ok(file) => serve_opened(rt.alloc(), file, device, size, input, out),
+        Ok(file) => serve_opened(rt.alloc(), file, DiskOptions { device, size }, input, out),
         Err(fault) => Err(stopped(Refusal::File(fault))),
     }
 }
@@ -133,19 +133,18 @@ fn serve_image<R: Files<File = File> + AllocGlobal, I: Read, O: Write>(
 fn serve_opened<I: Read, O: Write>(
     alloc: Global,
     file: SystemFile<OpenedFile<File>>,
-    device: &DeviceHolds,
-    size: PacketSize,
+    options: DiskOptions,
     input: &mut I,
     out: &mut O,
 ) -> Result<LeftFile, Stopped<LeftFile>>
-    ensures done { IfOk result (λ back. IsLiveOn device.now.bytes (O.contents out.old)
-        (O.contents out.new) (I.remaining input.old) (I.remaining input.new) back file
-        (bytes_of size)) }
-    ensures refused { IfErr result (λ stopped. IsStoppedOn device.now.bytes (O.contents out.old)
-        (O.contents out.new) (I.remaining input.old) (I.remaining input.new) stopped.file file
-        (bytes_of size) stopped.refusal) }
+    ensures done { IfOk result (λ back. IsLiveOn options.entry.device.now.bytes
+        (O.contents out.old) (O.contents out.new) (I.remaining input.old) (I.remaining input.new)
+        back file (bytes_of options.entry.size)) }
+    ensures refused { IfErr result (λ stopped. IsStoppedOn options.entry.device.now.bytes
+        (O.contents out.old) (O.contents out.new) (I.remaining input.old) (I.remaining input.new)
+        stopped.file file (bytes_of options.entry.size) stopped.refusal) }
 {
-    match serve_file(alloc, file, device, size, input, out) {
+    match serve_file(alloc, file, options, input, out) {
         Ok(file) => Ok(Some(file)),
         Err(stopped) => Err(Stopped {
             refusal: stopped.refusal,

@@ -6,13 +6,11 @@ ghost use Rattle.live.specs.Status.{refusal_of_serving};
 
 use crate::ended::Stopped;
 use crate::refusal::Refusal;
-use crate::starting::start_on;
-use bot_machine::PacketSize;
+use crate::starting::{DiskOptions, start_on};
 use device_file::{DeviceFile, FileFault};
 use runner::{ServeFault, serve_player};
 use std::alloc::Global;
 use std::io::{Read, Write};
-use window::DeviceHolds;
 
 /// Starts a disk on an open file and serves the lines of an input, each before more is read. Behind
 /// the start, and behind each event before it is answered, the file carries out what was sent. The
@@ -26,19 +24,19 @@ use window::DeviceHolds;
 pub fn serve_file<D: DeviceFile, I: Read, O: Write>(
     alloc: Global,
     file: D,
-    device: &DeviceHolds,
-    size: PacketSize,
+    options: DiskOptions,
     input: &mut I,
     out: &mut O,
 ) -> Result<D, Stopped<D>>
     ensures served { IfOk result (IsServedOn D.told D.at_once D.holds D.refuses D.size
-        device.now.bytes (bytes_of size) file (O.contents out.old) (O.contents out.new)
-        (I.remaining input.old) (I.remaining input.new)) }
+        options.entry.device.now.bytes (bytes_of options.entry.size) file (O.contents out.old)
+        (O.contents out.new) (I.remaining input.old) (I.remaining input.new)) }
     ensures refused { IfErr result (λ stopped. IsNotServedOn D.told D.at_once D.holds D.refuses
-        D.size device.now.bytes (bytes_of size) file (O.contents out.old) (O.contents out.new)
-        (I.remaining input.old) (I.remaining input.new) stopped.file stopped.refusal) }
+        D.size options.entry.device.now.bytes (bytes_of options.entry.size) file
+        (O.contents out.old) (O.contents out.new) (I.remaining input.old) (I.remaining input.new)
+        stopped.file stopped.refusal) }
 {
-    let mut disk = match start_on(alloc, file, device, size) {
+    let mut disk = match start_on(alloc, file, options) {
         Ok(disk) => disk,
         Err(stopped) => return Err(stopped),
     };

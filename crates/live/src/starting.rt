@@ -26,19 +26,27 @@ const SPAN: u32 = 240;
 /// As many writes and flushes as a start makes at most where no disk can start: it flushes.
 const ROOM_WITHOUT_IMAGE: usize = 1;
 
+/// Of a disk on an open file: which device it is over, of which the file has the first sectors, and
+/// how many bytes its packets have at most.
+#[derive(Clone, Copy)]
+pub struct DiskOptions<'a> {
+    pub device: &'a DeviceHolds,
+    pub size: PacketSize,
+}
+
 /// A disk that has started on an open file, once the file has carried out what the start sent.
 pub(crate) fn start_on<D: DeviceFile>(
     alloc: Global,
     file: D,
-    device: &DeviceHolds,
-    size: PacketSize,
+    options: DiskOptions,
 ) -> Result<FileDisk<D>, Stopped<D>>
-    ensures started { IfOk result (IsStartedOn D.told D.at_once D.holds D.size device.now.bytes
-        (bytes_of size) file) }
+    ensures started { IfOk result (IsStartedOn D.told D.at_once D.holds D.size
+        options.entry.device.now.bytes (bytes_of options.entry.size) file) }
     ensures refused { IfErr result (λ stopped. IsNotStartedOn D.told D.at_once D.holds D.size
-        device.now.bytes (bytes_of size) file D.refuses stopped.file stopped.refusal) }
+        options.entry.device.now.bytes (bytes_of options.entry.size) file D.refuses stopped.file
+        stopped.refusal) }
 {
-    let window = match window_over(alloc, &file, device) {
+    let window = match window_over(alloc, &file, options.device) {
         Ok(window) => window,
         Err(refusal) => return Err(Stopped { refusal, file }),
     };
@@ -51,7 +59,7 @@ pub(crate) fn start_on<D: DeviceFile>(
             });
         }
     };
-    match start_disk(alloc, FileWindow::new(window, file, run), size) {
+    match start_disk(alloc, FileWindow::new(window, file, run), options.size) {
         Ok(disk) => Ok(FileDisk::new(disk, bytes)),
         Err(stopped) => Err(stopped),
     }

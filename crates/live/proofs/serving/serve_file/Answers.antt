@@ -36,7 +36,7 @@ returns-in-Ok-serve_player-clause-served g c =
       served = subst (λ (most : ℕ). IsServedBy (AnswersThrough told at_once holds refuses) (IsUnanswered told at_once holds refuses) most
           (contents c.args.out.now) (contents c.serve_player.new.out) first last (remaining c.args.input.now)
           (remaining c.serve_player.new.source))
-          (packets told at_once holds g.D.DeviceFile.size c.args.device.now.bytes _ c.args.file first c.in-Ok.ensures.started)
+          (packets told at_once holds g.D.DeviceFile.size c.args.options.device.now.bytes _ c.args.file first c.in-Ok.ensures.started)
           c.in-Ok-serve_player.ensures.served;
       given = c.into_file.ensures;
     }
@@ -59,7 +59,7 @@ returns-in-Err-serve_player-clause-refused g c =
       stopped = subst (λ (most : ℕ). IsStoppedBy (AnswersThrough told at_once holds refuses) (IsUnanswered told at_once holds refuses) most
           (contents c.args.out.now) (contents c.serve_player.new.out) first last (remaining c.args.input.now)
           (remaining c.serve_player.new.source) c.in-Err-serve_player.fault)
-          (packets told at_once holds g.D.DeviceFile.size c.args.device.now.bytes _ c.args.file first c.in-Ok.ensures.started)
+          (packets told at_once holds g.D.DeviceFile.size c.args.options.device.now.bytes _ c.args.file first c.in-Ok.ensures.started)
           c.in-Err-serve_player.ensures.stopped;
       refused_is = c.refusal_of.ensures ∙ ap (λ why. refusal_of_serving c.in-Err-serve_player.fault why) c.fault.ensures;
       given = c.into_file-in-Err-serve_player.ensures;
