@@ -1,5 +1,5 @@
 -- When a unit sends the oldest record of its log home: the policy that its start asks for.
-use Rattle.std.specs.Prelude.{◌≡◌, Bool, false, max}
+use Rattle.std.specs.Prelude.{◌≡◌, Bool, false}
 use Rattle.blocks.specs.Opening.{Shape}
 use Rattle.blocks.specs.StoreValue.{layout_of}
 -- handed on to the layers above: a log of which shapes allows a unit to go ahead
@@ -15,7 +15,7 @@ use Rattle.scsi_unit.specs.UnitValue.{UnitValue}
 abbrev pub keeping_of : Retiring → Keeping
 keeping_of Late = keeping.ReadBack
 keeping_of Ahead = keeping.ReadBack
-keeping_of (Kept count) = keeping.Kept (max count 1)
+keeping_of (Kept count) = keeping.Kept count
 
 -- whether a unit goes ahead of which a start asked for this, over a log of this shape
 abbrev pub goes_ahead_by : Retiring → Shape → Bool

@@ -78,6 +78,6 @@ fn start_store<M: Medium>(
     match retiring {
         Retiring::Late => Store::start(alloc, medium),
         Retiring::Ahead => Store::start_ahead(alloc, medium),
-        Retiring::Kept(count) => Store::start_keeping(alloc, medium, count.max(1)),
+        Retiring::Kept(count) => Store::start_keeping(alloc, medium, count),
     }
 }

@@ -8,4 +8,4 @@ pub returns-in-Ahead : goal.returns-in-Ahead
 returns-in-Ahead g c = rw c.in-Ahead.is (grind (arith, c.start_ahead.ensures))
 
 pub returns-in-Kept : goal.returns-in-Kept
-returns-in-Kept g c = rw c.in-Kept.is (grind (arith, c.start_keeping.ensures, c.max.ensures))
+returns-in-Kept g c = rw c.in-Kept.is (grind (arith, c.start_keeping.ensures))
