@@ -37,8 +37,7 @@ module _ {M : Type 0} (state : M → State) where
       (refusals refused : List Bool) → start ≡ old
       → (run : UnitRun old events answers refusals new) → IsUntroubled old events answers refusals new run
       → (again : UnitRun start others told refused other) → IsUntroubled start others told refused other again
-      → without_ticks events ≡ without_ticks others
-      → answers_without_ticks events answers ≡ answers_without_ticks others told
+      → without_ticks events ≡ without_ticks others → answers_without_ticks events answers ≡ answers_without_ticks others told
   alike old start new other events others answers told refusals refused same run u again v ticks =
       subst (λ (c : Conversation UnitState). (again : UnitRun c others told refused other)
       → IsUntroubled c others told refused other again → answers_without_ticks events answers ≡ answers_without_ticks others told)
