@@ -23,8 +23,8 @@ use spec::{Event, PacketSize};
 use std::alloc::Global;
 
 /// Lives a disk's lives with packets of at most 512 bytes (high speed): see `run_lives_with`. The
-/// power of the medium is on, nothing is unflushed and no fuse is armed, and each event has room for
-/// its answer.
+/// power of the medium is on, nothing is unflushed and no fuse is armed, and each event has room
+/// for its answer.
 ///
 /// # Errors
 ///
