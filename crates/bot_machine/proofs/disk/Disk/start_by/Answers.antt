@@ -15,7 +15,7 @@ returns-in_err-unit g c =
 pub returns-in_default : goal.returns-in_default
 returns-in_default g c = rw c.into_medium.ensures (record {
   cause = record {
-    cause = inr (refl, (c.in_ok-unit.unit.store.cached, c.in_ok-unit.ensures.started.store));
+    cause = inr (refl, (_, c.in_ok-unit.unit.store.cached, c.in_ok-unit.ensures.started.store));
     possible = λ book on. tt;
   };
   leaves = c.in_ok-unit.ensures.leaves;
