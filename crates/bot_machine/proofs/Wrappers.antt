@@ -15,7 +15,8 @@ use Rattle.medium.specs.Medium.{State}
 use Rattle.medium.proofs.SectorsRead.{looks_wider}
 use Rattle.scsi_unit.proofs.SectorsRead.{sends_none-reads_none}
 use Rattle.spec.specs.declared.intent.Intent.TheVariants as intent
-use Rattle.scsi_unit.specs.{Reading.{ReadsBack, first_home_of, home_sectors_of, IsOneOf}, UnitValue.{UnitValue, intention_of, state_of, IsOfSize}}
+use Rattle.scsi_unit.specs.{Reading.{ReadsBack, first_home_of, home_sectors_of, IsOneOf}, UnitValue.{UnitValue, intention_of, state_of}}
+use Rattle.scsi_unit.specs.UnitValue.{IsOfSize}
 use Rattle.scsi_unit.specs.declared.reading.HomeSectors.{HomeSectors}
 use Rattle.std.specs.Prelude.{None}
 use Rattle.bot_machine.proofs.UnitLaws.{intends_by_book}

@@ -5,7 +5,8 @@ use Rattle.spec.specs.{declared.wrapper.Cbw.Cbw, declared.case.Case.Case}
 use Rattle.spec.specs.{declared.case.Case.TheVariants.{C5, C6}, Cases.IsCase}
 use Rattle.spec.specs.{CommandWrapper.SpellsCommand, declared.event.Event.Event, Exchange.finished}
 use Rattle.spec.specs.UnitConversation.{way_of}
-use Rattle.scsi_unit.specs.Reading.{ReadsBack, first_home_of, home_sectors_of, read_of, IsOneOf, AreHome}
+use Rattle.scsi_unit.specs.Reading.{ReadsBack, first_home_of, home_sectors_of, read_of, IsOneOf}
+use Rattle.scsi_unit.specs.Reading.{AreHome}
 use Rattle.scsi_unit.specs.{Serving.command_for, UnitValue.{UnitValue, unit_limit, intention_of}}
 use Rattle.scsi_unit.specs.declared.reading.HomeSectors.{HomeSectors}
 use Rattle.spec.specs.declared.event.Event.TheVariants as happens
