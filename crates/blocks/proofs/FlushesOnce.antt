@@ -87,7 +87,7 @@ store_is s t medium cached policy = grind (arith, medium, cached, policy)
 -- a flush was counted
 pub counted_store : {M : Type 0} {state : M → State} {old mid : StoreValue M} → SettlesFlush state old mid
     → mid ≡ record old { cached = with_counted old.cached }
-counted_store {old = old} {mid = mid} made = grind (arith, made, made.counts, made.counts.stays)
+counted_store {old = old} {mid = mid} made = grind (arith, made, made.stays)
 
 -- no flush is counted where no step is left
 pub none_counted : (s : Cached) → steps_left s ≡ 0 → counted s.log ≡ s.log

@@ -9,10 +9,6 @@ module _ (ahead : Bool) (before : State) (log : LogValue) where
   pub none_sent : (after : State) → sent after ≡ sent before → SendsOneBatch ahead before after log
   none_sent after same = record { most = omega (arith, same); prepared = λ prepared. omega (arith, same) }
 
-  -- a record alone
-  pub record_sent : (after : State) → sent after ≤ sent before + most_steps log.shape.format → SendsOneBatch ahead before after log
-  record_sent after few = record { most = omega (arith, few); prepared = λ prepared. few }
-
   -- room for it, and then its record
   pub room_sent : (mid after : State) → sent mid ≤ sent before + most_retire_sends log.shape.format
       → (IsPrepared ahead log → sent mid ≡ sent before) → sent after ≤ sent mid + most_steps log.shape.format

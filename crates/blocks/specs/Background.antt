@@ -39,11 +39,6 @@ pub record IsRecordStep (before after : State) (old new : Cached) : Type 0 where
       → (after.failures ≡ before.failures) × (progress : Progress) × HasGoneOn progress old new
   pub dies : is_dead new ≡ true → HasDied before after old new
 
--- Told that more steps are needed, some are left; told durable, none is, and the batch is empty.
-pub record TellsProgress (result : Result Progress StoreFault) (new : Cached) : Type 0 where
-  pub more : result ≡ Ok More → 0 < new.log.steps_left
-  pub durable : result ≡ Ok Durable → (new.log.steps_left ≡ 0) × (new.frozen.numbers ≡ [])
-
 -- A step of the record under way leaves fewer of them, and that record has to be retired later. No
 -- record is retired, and the active batch stays.
 pub record WritesOn (old new : Cached) : Type 0 where
@@ -97,14 +92,6 @@ pub record IsRetiring (before after : State) (old new : Cached) : Type 0 where
   pub live : 0 < length old.log.waiting → is_dead new ≡ false
       → (after.failures ≡ before.failures) × IsRetireStepped old.log new.log
   pub dies : is_dead new ≡ true → HasDied before after old new
-
--- Where no record waits a step of retiring does nothing, and else it leaves fewer. No record is
--- under way.
-pub record CountsRetired {M : Type 0} (old new : StoreValue M) : Type 0 where
-  pub none : old.cached.log.waiting ≡ [] → new ≡ old
-  pub falls : 0 < length old.cached.log.waiting → is_dead new.cached ≡ false
-      → steps_left new.cached < steps_left old.cached
-  pub idle : new.cached.log.steps_left ≡ 0
 
 -- A record may be begun: none is under way, the log has room, and a batch holds blocks. Where the
 -- store goes ahead three slots are free: two are left for records that a call has to begin.
@@ -166,22 +153,29 @@ pub record BeginsNext {M : Type 0} (state : M → State) (old new : StoreValue M
   pub falls : is_dead new.cached ≡ false → steps_left new.cached < steps_left old.cached
   pub active : MayEmpty (active_of old.cached) (active_of new.cached)
 
--- one step of the record under way is made, and told
+-- One step of the record under way is made, and told. Told that more are needed, some are left;
+-- told durable, none is, and the batch is empty.
 pub record StepsOn {M : Type 0} (state : M → State) (Follows : M → M → Type 0)
     (result : Result Progress StoreFault) (old new : StoreValue M) : Type 0 where
   pub passes : PassesOn state Follows IsTurn 1 1 old new
   pub record_step : IsRecordStep (state old.medium) (state new.medium) old.cached new.cached
   pub answer : TellsLife result new.cached
-  pub tells : TellsProgress result new.cached
+  pub more : result ≡ Ok More → 0 < new.cached.log.steps_left
+  pub durable : result ≡ Ok Durable
+      → (new.cached.log.steps_left ≡ 0) × (new.cached.frozen.numbers ≡ [])
   pub writes : WritesOn old.cached new.cached
 
--- one step of retiring is made, and told
+-- One step of retiring is made, and told. Where no record waits it does nothing, and else it leaves
+-- fewer. No record is under way.
 pub record RetiresOn {M : Type 0} (state : M → State) (Follows : M → M → Type 0)
     (result : Result (Unit {0}) StoreFault) (old new : StoreValue M) : Type 0 where
   pub passes : PassesOn state Follows IsTurn 2 2 old new
   pub retiring : IsRetiring (state old.medium) (state new.medium) old.cached new.cached
   pub answer : TellsLife result new.cached
-  pub counts : CountsRetired old new
+  pub none : old.cached.log.waiting ≡ [] → new ≡ old
+  pub falls : 0 < length old.cached.log.waiting → is_dead new.cached ≡ false
+      → steps_left new.cached < steps_left old.cached
+  pub idle : new.cached.log.steps_left ≡ 0
 
 -- one background step of a live store is made
 pub record WorksOn {M : Type 0} (state : M → State) (Follows : M → M → Type 0)
@@ -200,13 +194,6 @@ pub record StaysIdle (old new : Cached) : Type 0 where
   pub frozen : new.frozen ≡ old.frozen
   pub idle : new.log.steps_left ≡ 0
   pub head : new.log.head ≤ old.log.head + 1
-
--- a flush is counted, without a call, where it covers the oldest record
-pub record CountsFlush (old new : Cached) : Type 0 where
-  pub log : new.log ≡ counted old.log
-  pub fewer : steps_left new ≤ steps_left old
-  pub head : new.log.head ≡ old.log.head
-  pub stays : StaysIdle old new
 
 -- the head goes past the oldest record, where that is flushed at home, by one write
 pub record PassesHead (before after : State) (old new : Cached) : Type 0 where
@@ -241,10 +228,14 @@ pub record GoesAhead (result : Result (Unit {0}) StoreFault) (is : LogValue) (co
   pub head : new.log.head ≤ old.log.head + most
   pub answer : TellsLife result new
 
--- a flush is counted, which leaves the medium and the life of the store as they are
+-- a flush is counted where it covers the oldest record, which leaves the medium and the life of the
+-- store as they are
 pub record SettlesFlush {M : Type 0} (state : M → State) (old new : StoreValue M) : Type 0 where
   pub keeps : KeepsMedium state IsTurn old new
-  pub counts : CountsFlush old.cached new.cached
+  pub log : new.cached.log ≡ counted old.cached.log
+  pub fewer : steps_left new.cached ≤ steps_left old.cached
+  pub head : new.cached.log.head ≡ old.cached.log.head
+  pub stays : StaysIdle old.cached new.cached
   pub life : is_dead new.cached ≡ is_dead old.cached
 
 -- the oldest record is brought on in this way, and that is told

@@ -16,7 +16,7 @@ passes : (g : Over) (c : After-pass_head g) → PassesPaid g.M.Medium.state g.M.
 passes g c =
     let counts = c.count_flush.ensures in
     paid_then {first = 0} g.met.M.Medium.follows_through
-    (kept_paid g.met.M.Medium.follows_itself counts.keeps (λ live. counts.counts.fewer)) (counts.life ∙ c.requires.live)
+    (kept_paid g.met.M.Medium.follows_itself counts.keeps (λ live. counts.fewer)) (counts.life ∙ c.requires.live)
     c.pass_head.ensures.passes (omega (arith, ap (λ m. sent (g.M.Medium.state m)) counts.keeps.medium, c.pass_head.ensures.passes.sent))
 
 -- what the head that went past makes of the log, by how many calls
@@ -27,7 +27,7 @@ gone_past : (g : Over) (c : In_ok-pass_head g) → (HasSlots 3 c.args.self.now.c
     × ((g.M.Medium.state c.pass_head.new.self.medium).made Flush ≡ (g.M.Medium.state c.args.self.now.medium).made Flush)
 gone_past g c short =
     let passing = rw c.count_flush.ensures.keeps.medium at c.pass_head.ensures.way in
-    grind (arith, nat_tests, passing, c.in_ok-pass_head.ensures.answer, c.count_flush.ensures.counts.log, short)
+    grind (arith, nat_tests, passing, c.in_ok-pass_head.ensures.answer, c.count_flush.ensures.log, short)
 
 pub returns-then-needs_none_ahead-clause-passes : goal.returns-then-needs_none_ahead-clause-passes
 returns-then-needs_none_ahead-clause-passes g c = rested_paid g.met.M.Medium.follows_itself g.met.M.Medium.sound
@@ -43,7 +43,7 @@ returns-in_err-pass_head g c =
     let passing = rw c.count_flush.ensures.keeps.medium at c.pass_head.ensures.way in
     record {
       passes = paid_more all (omega (arith, all.sent));
-      going = grind (arith, c.in_err-pass_head.ensures.answer, c.count_flush.ensures.counts, passing);
+      going = grind (arith, c.in_err-pass_head.ensures.answer, c.count_flush.ensures, passing);
       rests = λ none. absurd (few g (goal.at.returns-in_err-pass_head g c).Else-needs_none_ahead none);
     }
 
@@ -54,7 +54,7 @@ returns-then-has_slots g c =
     let slots : HasSlots 3 c.pass_head.new.self.cached.log = rw (← c.self.view_is) (c.has_slots.ensures.0 c.if-has_slots.true) in
     let past = gone_past g (goal.at.returns-then-has_slots g c).In_ok-pass_head (λ slots. some (inl slots)) in
     let live = c.in_ok-pass_head.ensures.answer in
-    grind (arith, nat_tests, all, some, slots, past, live, c.count_flush.ensures.counts, c.pass_head.ensures.way.stays)
+    grind (arith, nat_tests, all, some, slots, past, live, c.count_flush.ensures, c.pass_head.ensures.way.stays)
 
 pub returns : goal.returns
 returns g c =
@@ -67,4 +67,4 @@ returns g c =
     let limit = ap (λ (shape : Shape). limit_of shape.format) first.turn.goes_on.layout_stays in
     let all = paid_then {all = limit_of c.args.self.now.cached.log.shape.format + 1} g.met.M.Medium.follows_through first
     c.in_ok-pass_head.ensures.answer last.passes (omega (arith, first.sent, last.passes.sent, limit)) in
-    grind (arith, nat_tests, all, some, short, past, last.going, c.count_flush.ensures.counts, c.pass_head.ensures.way.stays)
+    grind (arith, nat_tests, all, some, short, past, last.going, c.count_flush.ensures, c.pass_head.ensures.way.stays)

@@ -21,7 +21,7 @@ step_passes g c few =
     let first = c.loop-self.invariant.passes (sent (g.M.Medium.state c.loop-self.self.medium)) (omega arith) in
     let left = must_step g c in
     paid_then g.met.M.Medium.follows_through first c.loop-self.invariant.live
-    (on_paid left.1 (c.retire.ensures.counts.falls left.0) c.retire.ensures.passes.calls c.retire.ensures.passes) few
+    (on_paid left.1 (c.retire.ensures.falls left.0) c.retire.ensures.passes.calls c.retire.ensures.passes) few
 
 is_full : (g : Over) (c : After-retire g) → IsFull c.args.self.now.cached.log c.loop-self.self.cached.log
 is_full g c =
@@ -44,7 +44,7 @@ loop-self-init g c = search (rules, arith, rested_paid, g.met.M.Medium.follows_i
 
 pub loop-self-smaller : goal.loop-self-smaller
 loop-self-smaller g c =
-    c.in_ok-retire.ensures.counts.falls (must_step g (goal.at.loop-self-smaller g c).After-retire).0 c.in_ok-retire.ensures.answer
+    c.in_ok-retire.ensures.falls (must_step g (goal.at.loop-self-smaller g c).After-retire).0 c.in_ok-retire.ensures.answer
 
 pub loop-self-preserved : goal.loop-self-preserved
 loop-self-preserved g c =
@@ -58,7 +58,7 @@ loop-self-preserved g c =
       retires = retires_more (is_full g at) c.loop-self.invariant.retires stepped (retiring.counted live) retiring.sent
           (retiring.flushed live);
       live = live;
-      idle = c.retire.ensures.counts.idle;
+      idle = c.retire.ensures.idle;
       active = retiring.active ∙ c.loop-self.invariant.active;
       frozen = retiring.frozen ∙ c.loop-self.invariant.frozen;
     }

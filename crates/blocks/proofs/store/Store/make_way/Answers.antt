@@ -10,10 +10,7 @@ returns-then-not-self g c =
     grind (arith, off, c.retire.ensures, c.requires.waits)
 
 pub step_ahead-requires : goal.step_ahead-requires
-step_ahead-requires g c = record {
-  live = c.count_flush.ensures.life ∙ c.requires.idle.live;
-  idle = c.count_flush.ensures.counts.stays.idle;
-}
+step_ahead-requires g c = grind (arith, c.count_flush.ensures, c.requires.idle)
 
 pub returns-then-may_go : goal.returns-then-may_go
 returns-then-may_go g c =
@@ -22,13 +19,10 @@ returns-then-may_go g c =
     let may = rw is at (c.may_go.ensures.0 c.if-may_go.true) in
     let goes = rw is at c.step_ahead.ensures.goes in
     let passes = kept_then c.count_flush.ensures.keeps c.step_ahead.ensures.passes in
-    grind (arith, on, may, goes, passes, go_falls _ _ _ _ goes may, (rw is at c.count_flush.ensures.counts).fewer)
+    grind (arith, on, may, goes, passes, go_falls _ _ _ _ goes may, (rw is at c.count_flush.ensures).fewer)
 
 pub retire-requires-2 : goal.retire-requires-2
-retire-requires-2 g c = record {
-  live = c.count_flush.ensures.life ∙ c.requires.idle.live;
-  idle = c.count_flush.ensures.counts.stays.idle;
-}
+retire-requires-2 g c = grind (arith, c.count_flush.ensures, c.requires.idle)
 
 pub returns : goal.returns
 returns g c =
@@ -38,8 +32,8 @@ returns g c =
     let is = counted_store c.count_flush.ensures in
     let none = rw is at no in
     let retiring = rw is at c.retire-2.ensures.retiring in
-    let same = ap (λ (l : LogValue). length l.waiting) c.count_flush.ensures.counts.log in
+    let same = ap (λ (l : LogValue). length l.waiting) c.count_flush.ensures.log in
     let waits : 0 < length log.waiting = grind (arith, nat_tests, c.requires.waits, same) in
-    let falls = c.retire-2.ensures.counts.falls waits in
+    let falls = c.retire-2.ensures.falls waits in
     let passes = kept_then c.count_flush.ensures.keeps c.retire-2.ensures.passes in
-    grind (arith, on, none, retiring, falls, passes, c.count_flush.ensures.counts.fewer)
+    grind (arith, on, none, retiring, falls, passes, c.count_flush.ensures.fewer)

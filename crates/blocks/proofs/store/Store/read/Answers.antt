@@ -10,12 +10,8 @@ readable : (g : Over) (c : Else-is_dead g)
     → AreReadable c.args.self.now.cached c.args.address (length c.args.to.now / 512) (length c.args.to.now)
 readable g c =
     let same = ap (λ v. v.cached.log.shape.blocks) c.self.view_is in
-    record {
-      live = search rules;
-      inside = c.requires.inside;
-      small = omega (arith, ap (λ (s : Shape). s.blocks) c.self.invariant.shape, same, c.self.inside.sizes.most_blocks, c.requires.inside);
-      size = omega (arith, c.requires.whole);
-    }
+    let small = ap (λ (s : Shape). s.blocks) c.self.invariant.shape in
+    grind (arith, same, small, c.self.inside.sizes.most_blocks, c.requires, c.is_dead.ensures, c.if-is_dead.false, c.self.view_is)
 
 pub are_at_home-requires : goal.are_at_home-requires
 are_at_home-requires g c = (readable g (goal.at.are_at_home-requires g c).Else-is_dead).small

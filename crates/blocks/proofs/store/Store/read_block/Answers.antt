@@ -12,7 +12,6 @@ returns-in-Some g c =
     let none = reads_newest s c.args.block c.in-Some.bytes.now held in
     let newest = newest_is m s c.args.block c.in-Some.bytes.now (omega (arith, c.requires.readable.inside)) held in
     let looks = none_read m m s c.args.block 1 refl in
-    let same = c.copy_from_slice.ensures.after in
     search (rules, arith, none, newest)
 
 -- its copy in the log is read, or that is refused

@@ -17,5 +17,7 @@ returns g c =
           (retire_stays _ _ (λ none. (called.none none).1)) (omega (arith, few_next c.self.inside.log)));
       retiring = rw (← c.self.view_is) (is_retiring (rw (← c.self.view_is) at c.requires.live) c.retire_step.result called);
       answer = search rules;
-      counts = search rules;
+      none = search rules;
+      falls = search rules;
+      idle = search rules;
     }

@@ -11,7 +11,8 @@ returns-in-Ok-More g c = record {
       (rw (c.in-Ok-More.field-0-is, c.numbers-numbers.ensures.value, c.bytes.ensures.value) at c.in-Ok-More.ensures));
   record_step = search rules;
   answer = search rules;
-  tells = search rules;
+  more = search rules;
+  durable = search rules;
   writes = search rules;
 }
 
@@ -22,7 +23,8 @@ returns-in-Ok-Durable g c = record {
       (rw (c.in-Ok-Durable.field-0-is, c.numbers-numbers.ensures.value, c.bytes.ensures.value) at c.in-Ok-Durable.ensures));
   record_step = search rules;
   answer = search rules;
-  tells = search rules;
+  more = search rules;
+  durable = search rules;
   writes = search rules;
 }
 
@@ -33,6 +35,7 @@ returns-in-Err g c = record {
       (rw (c.numbers-numbers.ensures.value, c.bytes.ensures.value) at c.in-Err.ensures));
   record_step = search rules;
   answer = search rules;
-  tells = search rules;
+  more = search rules;
+  durable = search rules;
   writes = search rules;
 }

@@ -21,4 +21,4 @@ returns g c =
     let is = counted_store c.count_flush.ensures in
     let goes = rw is at c.step_ahead.ensures.goes in
     let passes = kept_then c.count_flush.ensures.keeps c.step_ahead.ensures.passes in
-    grind (arith, live, on, goes, passes, c.step_ahead.ensures, c.count_flush.ensures.counts.fewer, is, none_counted old.cached)
+    grind (arith, live, on, goes, passes, c.step_ahead.ensures, c.count_flush.ensures.fewer, is, none_counted old.cached)

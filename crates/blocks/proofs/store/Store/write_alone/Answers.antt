@@ -10,11 +10,8 @@ use Rattle.blocks.proofs.store.Store.write_alone.Goals as goal
 pub append-requires : goal.append-requires
 append-requires g c =
     let shape = c.finish.ensures.passes.turn.goes_on.layout_stays in
-    rw c.freeze.ensures.swapped (record {
-      range = rw shape c.requires.range;
-      fits = rw (c.in_ok-finish.ensures.batch.done.1, shape)
-          (omega (arith, unlisted_empty c.args.address (length c.args.bytes.now / 512), c.requires.range.most));
-    })
+    let none = unlisted_empty c.args.address (length c.args.bytes.now / 512) in
+    rw c.freeze.ensures.swapped (grind (arith, shape, c.requires.range, c.in_ok-finish.ensures.batch.done, none))
 
 pub returns-in_err-finish : goal.returns-in_err-finish
 returns-in_err-finish g c =

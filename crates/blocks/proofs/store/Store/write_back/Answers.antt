@@ -1,7 +1,7 @@
 use Rattle.std.proofs.Common.{◌≡◌, ◌<◌, ◌∙◌, sym, arith, false}
 use Rattle.std.proofs.lemmas.Bool.{false≢true}
 use Rattle.medium.proofs.Moments.{unchanged}
-use Rattle.blocks.specs.{StoreValue.is_dead, Work.MayWrite, Written.IsWritten}
+use Rattle.blocks.specs.{StoreValue.is_dead, StoreValue.steps_left, StoreValue.unwritten, Work.MayWrite, Written.IsWritten}
 use Rattle.blocks.proofs.{EmptyBatches.steps_to_write, TurnsJoined.kept_on, TurnsJoined.rested_on, store.Store.write_back.Given.Over}
 use Rattle.blocks.proofs.FlushesOnce.{live_to_write, some_to_write}
 use Rattle.blocks.proofs.store.Store.write_back.Goals.{Else-is_written, Then-self, Else-self}
@@ -15,11 +15,13 @@ returns-then-is_written g c =
     g.met.M.Medium.sound in
     grind (arith, unchanged (g.M.Medium.state c.args.self.now.medium), written, passes)
 
-left : (g : Over) (c : Else-is_written g) → ¬ IsWritten c.args.self.now.cached
-left g c written = false≢true (sym c.if-is_written.false ∙ c.is_written.ensures.1 written)
-
-live : (g : Over) (c : Else-is_written g) → is_dead c.args.self.now.cached ≡ false
-live g c = live_to_write c.args.self.now.cached (left g c)
+-- a record is left to write, of a live store
+left : (g : Over) (c : Else-is_written g) → (¬ IsWritten c.args.self.now.cached) × (is_dead c.args.self.now.cached ≡ false)
+    × (0 < steps_left c.args.self.now.cached) × (0 < unwritten c.args.self.now.cached)
+left g c =
+    let s = c.args.self.now.cached in
+    let some : ¬ IsWritten s = λ written. false≢true (sym c.if-is_written.false ∙ c.is_written.ensures.1 written) in
+    (some, live_to_write s some, steps_to_write s some, some_to_write s some)
 
 -- a record is under way
 begun : (g : Over) (c : Then-self g) → is_dead c.args.self.now.cached ≡ false → 0 < c.args.self.now.cached.log.steps_left
@@ -31,42 +33,36 @@ idle g c lives = rw (← c.self.view_is) (c.self.invariant.rests (rw (← c.self
 
 pub step-requires : goal.step-requires
 step-requires g c =
-    let lives = live g (goal.at.step-requires g c).Else-is_written in
+    let lives = (left g (goal.at.step-requires g c).Else-is_written).1 in
     record { live = lives; under_way = begun g (goal.at.step-requires g c).Then-self lives }
 
 pub returns-then-self : goal.returns-then-self
 returns-then-self g c =
-    let open_ = left g (goal.at.returns-then-self g c).Else-is_written in
-    let lives = live g (goal.at.returns-then-self g c).Else-is_written in
-    let under_way = begun g (goal.at.returns-then-self g c).Then-self lives in
-    grind (arith, open_, lives, under_way, steps_to_write c.args.self.now.cached open_, c.step.ensures)
+    let some = left g (goal.at.returns-then-self g c).Else-is_written in
+    let under_way = begun g (goal.at.returns-then-self g c).Then-self some.1 in
+    grind (arith, some, under_way, c.step.ensures)
 
 pub begin_next-requires : goal.begin_next-requires
-begin_next-requires g c = record {
-  live = live g (goal.at.begin_next-requires g c).Else-is_written;
-  room = (c.may_write.ensures.begins.0 c.if-may_write.true).room;
-  some = some_to_write c.args.self.now.cached (left g (goal.at.begin_next-requires g c).Else-is_written);
-}
+begin_next-requires g c =
+    let some = left g (goal.at.begin_next-requires g c).Else-is_written in
+    record { live = some.1; room = (c.may_write.ensures.begins.0 c.if-may_write.true).room; some = some.3 }
 
 pub returns-then-may_write : goal.returns-then-may_write
 returns-then-may_write g c =
-    let open_ = left g (goal.at.returns-then-may_write g c).Else-is_written in
-    let lives = live g (goal.at.returns-then-may_write g c).Else-is_written in
+    let some = left g (goal.at.returns-then-may_write g c).Else-is_written in
     let passes = kept_on {Follows = g.M.Medium.follows} {most = 2} {sends = 2} g.met.M.Medium.follows_itself c.begin_next.ensures.keeps in
-    let may = c.may_write.ensures.begins.0 c.if-may_write.true in
-    grind (arith, open_, lives, may, steps_to_write c.args.self.now.cached open_, c.begin_next.ensures, passes)
+    grind (arith, some, c.may_write.ensures.begins.0 c.if-may_write.true, c.begin_next.ensures, passes)
 
 pub make_way-requires : goal.make_way-requires
 make_way-requires g c =
-    let lives = live g (goal.at.make_way-requires g c).Else-is_written in
+    let lives = (left g (goal.at.make_way-requires g c).Else-is_written).1 in
     let none = idle g (goal.at.make_way-requires g c).Else-self lives in
     record { idle = record { live = lives; idle = none }; waits = c.may_write.ensures.else_waits c.if-may_write.false none }
 
 pub returns : goal.returns
 returns g c =
-    let open_ = left g (goal.at.returns g c).Else-is_written in
-    let lives = live g (goal.at.returns g c).Else-is_written in
+    let some = left g (goal.at.returns g c).Else-is_written in
     let no : ¬ MayWrite c.args.self.now.goes_ahead c.args.self.now.cached.log =
     λ may. false≢true (sym c.if-may_write.false ∙ c.may_write.ensures.begins.1 may) in
-    let none = idle g (goal.at.returns g c).Else-self lives in
-    grind (arith, open_, lives, none, no, steps_to_write c.args.self.now.cached open_, c.make_way.ensures)
+    let none = idle g (goal.at.returns g c).Else-self some.1 in
+    grind (arith, some, none, no, c.make_way.ensures)

@@ -28,7 +28,7 @@ returns-in_err-step g c =
 pub loop-preserved : goal.loop-preserved
 loop-preserved g c =
     let gone = c.step.ensures.record_step.live c.in_ok-step.ensures.answer in
-    let more = c.step.ensures.tells.more (c.in_ok-step.was ∙ ap Ok c.in-More.is) in
+    let more = c.step.ensures.more (c.in_ok-step.was ∙ ap Ok c.in-More.is) in
     let so_far = c.loop.invariant in
     let wrote = writes_more c.args.self.now.cached.log _ _ _ gone.2.log more so_far.so_far in
     let less = flushes_step gone.1 c.loop.self.cached.log c.step.new.self.cached.log so_far.under_way gone.2.log in
@@ -37,7 +37,7 @@ loop-preserved g c =
 pub returns : goal.returns
 returns g c =
     let gone = c.step.ensures.record_step.live c.in_ok-step.ensures.answer in
-    let none = (c.step.ensures.tells.durable (c.in_ok-step.was ∙ ap Ok c.in_default.is)).0 in
+    let none = (c.step.ensures.durable (c.in_ok-step.was ∙ ap Ok c.in_default.is)).0 in
     let so_far = c.loop.invariant in
     let wrote = writes_last c.args.self.now.cached.log _ _ _ gone.2.log none so_far.so_far in
     let less = flushes_step gone.1 c.loop.self.cached.log c.step.new.self.cached.log so_far.under_way gone.2.log in
