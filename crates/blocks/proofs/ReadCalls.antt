@@ -224,13 +224,10 @@ module _ {M : Type 0} {state : M → State} {Follows : M → M → Type 0} {addr
         → length block ≡ length (take size (drop at bytes))
         → ReadsBlock state Follows (Ok done) (address + i) block mid new
         → HasRead state Follows address (i + 1) (put_mid at size bytes block) old new
-    block_more sound through {block = block} at size at_is size_is inside alike one = record {
-      keeps = keeps_more through (omega arith) one.keeps;
-      calls = omega (arith, read.calls, one.cost.calls);
-      reads =
-          let same = ap (λ (s : Cached). block_reads s (address + i)) read.keeps.stays in
-          omega (arith, read.reads, one.cost.exactly, same, reads_more old.cached address i);
-      none_sent = omega (arith, read.none_sent, one.cost.none_sent);
-      so_far = λ book fits. put_block (array_of book) address i at size (512 * (i + 1)) bytes block at_is size_is refl inside alike
-          (read.so_far book fits) (one.ok book ((keeps_turn sound read.keeps).fits book fits));
-    }
+    block_more sound through {block = block} at size at_is size_is inside alike one =
+        let keeps = keeps_more through {count = i + 1} (omega arith) one.keeps in
+        let same = ap (λ (s : Cached). block_reads s (address + i)) read.keeps.stays in
+        let so_far = λ (book : Book) (fits : FitsBook (state old.medium) old.cached book).
+        put_block (array_of book) address i at size (512 * (i + 1)) bytes block at_is size_is refl inside alike
+        (read.so_far book fits) (one.ok book ((keeps_turn sound read.keeps).fits book fits)) in
+        grind (arith, keeps, read, one, same, reads_more old.cached address i, so_far)

@@ -1,4 +1,4 @@
-use Rattle.std.proofs.Common.{◌≡◌, ◌∙◌, arith, sym, subst, refl, true}
+use Rattle.std.proofs.Common.{◌≡◌, arith, sym, subst, refl, true}
 use Rattle.std.specs.Prelude.{min, max}
 use Rattle.blocks.specs.{Ahead.may_go_by, Started.IsStartedBy, Started.LeavesMedium, StoreValue.Cached}
 use Rattle.blocks.specs.declared.start.Keeping.TheVariants.{Kept}
@@ -17,17 +17,9 @@ returns g c =
     let keeps : cached.log.keeps ≡ true = rw started.log refl in
     let policy : c.may_go_by.result ≡ may_go_by cached.log.shape.format cached.log.ring =
     rw (ring, c.store.invariant.shape) (rw (c.min-ring.ensures, c.max.ensures) at c.may_go_by.ensures) in
-    record {
-      started = started;
-      keeps = keeps;
-      ring = ring;
-      policy = policy;
-      filling = λ on. starts_filling started (sym policy ∙ on);
-      reaches = λ on. starts_reaching started (sym policy ∙ on);
-      headroom = λ on. starts_with_room started (sym policy ∙ on);
-      leaves = subst (λ v. LeavesMedium g.M.Medium.state g.M.Medium.follows c.args.medium v.medium) (sym c.store.view_is)
-          c.in-Ok.ensures.ok.leaves;
-    }
+    let leaves = subst (λ v. LeavesMedium g.M.Medium.state g.M.Medium.follows c.args.medium v.medium) (sym c.store.view_is)
+    c.in-Ok.ensures.ok.leaves in
+    grind (arith, started, keeps, ring, policy, leaves, starts_filling started, starts_reaching started, starts_with_room started)
 
 pub invariant_of-store : goal.invariant_of-store
 invariant_of-store g c = with_policy _ _ _ _ _ _ c.store.invariant
