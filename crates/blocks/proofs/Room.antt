@@ -167,20 +167,12 @@ full_is log full = grind (arith, nat_tests)
 
 -- ---- how the oldest record goes home ahead, turn by turn, and what that costs
 
--- a block is away still, or none was
-pub record Going (old new : LogValue) : Type 0 where
-  pub so_far : new ≡ record old { retire_steps_left = new.retire_steps_left }
-  pub away : 2 < of_oldest old → 2 < of_oldest new
-  pub none : of_oldest old ≤ 2 → new ≡ old
-
--- the blocks that were away are home
-pub record Gone (old new : LogValue) : Type 0 where
-  pub away : 2 < of_oldest old
-  pub is : new ≡ record old { retire_steps_left = behind_oldest old + 2; ahead = ahead_of old }
-
--- with the calls of the steps that are left they are those of all steps, and with the writes and flushes of these no more than all
+-- A block is away still, or none was; or the blocks that were away are home. With the calls of the steps that are left they are those of all
+-- steps, and with the writes and flushes of these no more than all.
 pub record GoesHome (old new : LogValue) (calls calls' sends sends' : ℕ) : Type 0 where
-  pub home : Going old new ⊎ Gone old new
+  pub home : ((new ≡ record old { retire_steps_left = new.retire_steps_left }) × (2 < of_oldest old → 2 < of_oldest new)
+      × (of_oldest old ≤ 2 → new ≡ old))
+      ⊎ ((2 < of_oldest old) × (new ≡ record old { retire_steps_left = behind_oldest old + 2; ahead = ahead_of old }))
   pub costs : calls' + turns_calls old.keeps (of_oldest new) ≡ calls + turns_calls old.keeps (of_oldest old)
   pub sent : sends' + turns_sends (of_oldest new) ≤ sends + turns_sends (of_oldest old)
 
@@ -218,11 +210,7 @@ module _ {old mid : LogValue} {calls calls' sends sends' : ℕ} (so_far : GoesHo
   all_sends few = grind (arith, nat_tests, rest)
 
 -- where nothing is to be done ahead nothing is done, by no call
-pub record DoesNoneAhead (log : LogValue) : Type 0 where
-  pub is : sent_home (passed log) ≡ log
-  pub passing : passed_calls log ≡ 0
-  pub sending : sent_calls (passed log) ≡ 0
-
-pub none_ahead : (log : LogValue) → NeedsNoneAhead log → DoesNoneAhead log
+pub none_ahead : (log : LogValue) → NeedsNoneAhead log
+    → (sent_home (passed log) ≡ log) × (passed_calls log ≡ 0) × (sent_calls (passed log) ≡ 0)
 none_ahead log (inl slots) = grind (arith, nat_tests, slots)
 none_ahead log (inr rests) = grind (arith, nat_tests, rests.counted, rests.past, rests.home)

@@ -69,12 +69,6 @@ then_steady numbers firsts copy log under_way waits each some one_free =
 
 -- ---- a ring that fills
 
--- what one record more makes of a ring
-pub record Filled (old new : LogValue) : Type 0 where
-  pub fuller : IsFuller old new
-  pub blocks : HaveBlocks new.waiting
-  pub ring : new.ring ≡ old.ring
-
 -- three slots are free, and nothing is done for room; or two are, and the oldest record goes home
 fills_room : (log : LogValue) → IsFilling log → HaveBlocks log.waiting
     → ((ahead_room log ≡ log) × (length log.waiting + 3 ≤ log.ring))
@@ -83,7 +77,8 @@ fills_room log f each = grind (arith, nat_tests, first_owed log.waiting)
 
 -- a ring that fills comes by one record more, and is steady where only one slot is left then
 pub fills : (numbers : List ℕ) (firsts : List (List ℕ)) (copy : List ℕ) (log : LogValue) → IsFilling log → HaveBlocks log.waiting
-    → 0 < length numbers → Filled log (finished_with true numbers firsts copy log)
+    → 0 < length numbers → IsFuller log (finished_with true numbers firsts copy log)
+    × HaveBlocks (finished_with true numbers firsts copy log).waiting × ((finished_with true numbers firsts copy log).ring ≡ log.ring)
 fills numbers firsts copy log f each some =
     let is = finished_is numbers firsts copy log f.idle some in
     let blocks = blocks_more log.waiting numbers each some in
@@ -149,10 +144,10 @@ fills_each (batch ∷ batches) log f each blocks enough =
     let one = fills batch.numbers (firsts_in batch) batch.bytes log f each (blocks 0 batch (omega arith)) in
     let rest : ListBlocks batches = λ j d below. blocks (suc j) d (omega arith) in
     let fill = λ (three : length log.waiting + 3 ≤ log.ring).
-    fills_each batches (finished true batch log) (one.fuller.on three) one.blocks rest in
+    fills_each batches (finished true batch log) (one.0.on three) one.1 rest in
     let keep = λ (two : length log.waiting + 2 ≡ log.ring).
-    keeps_each batches (finished true batch log) (one.fuller.full two) one.blocks rest in
-    grind (arith, f.two_free, fill, keep, one.fuller.one_more, one.ring)
+    keeps_each batches (finished true batch log) (one.0.full two) one.1 rest in
+    grind (arith, f.two_free, fill, keep, one.0.one_more, one.2)
 
 -- a ring that fills becomes steady, and stays so
 pub reaches : (log : LogValue) → IsFilling log → HaveBlocks log.waiting → log.waiting ≡ [] → ReachesSteady log
