@@ -47,18 +47,6 @@ pub record WritesOn (old new : Cached) : Type 0 where
   pub head : new.log.head ≡ old.log.head
   pub active : new.active ≡ old.active
 
--- The record of the frozen batch is begun, which leaves fewer steps, or, where no stamp is left for
--- it, the log is dead. No record is retired, and both batches stay.
-pub record BeginsFrozen (old new : Cached) : Type 0 where
-  pub live : is_dead new ≡ false
-      → (old.log.next < 2 ^ 63 - 1)
-      × (new.log ≡ begun old.frozen.numbers (firsts_in old.frozen) old.frozen.bytes old.log)
-  pub dies : is_dead new ≡ true → (old.log.next ≡ 2 ^ 63 - 1) × (new.log ≡ died old.log)
-  pub falls : is_dead new ≡ false → steps_left new < steps_left old
-  pub head : new.log.head ≡ old.log.head
-  pub active : new.active ≡ old.active
-  pub frozen : new.frozen ≡ old.frozen
-
 -- The frozen batch comes first: the batches stay as they are. Where it is empty the active batch
 -- takes its place.
 pub record FreezesNext (old new : Cached) : Type 0 where
@@ -138,11 +126,21 @@ pub record Freezes {M : Type 0} (state : M → State) (old new : StoreValue M) :
     frozen = old.cached.active;
   }
 
--- the record of the frozen batch is begun, and where it is, some of its steps are left
+-- The record of the frozen batch is begun, which leaves fewer steps, and some of its own, or, where
+-- no stamp is left for it, the log is dead. No record is retired, and both batches stay.
 pub record Begins {M : Type 0} (state : M → State) (result : Result (Unit {0}) StoreFault)
     (old new : StoreValue M) : Type 0 where
   pub keeps : KeepsMedium state IsTurn old new
-  pub begins : BeginsFrozen old.cached new.cached
+  pub live : is_dead new.cached ≡ false
+      → (old.cached.log.next < 2 ^ 63 - 1)
+      × (new.cached.log ≡ begun old.cached.frozen.numbers (firsts_in old.cached.frozen)
+      old.cached.frozen.bytes old.cached.log)
+  pub dies : is_dead new.cached ≡ true
+      → (old.cached.log.next ≡ 2 ^ 63 - 1) × (new.cached.log ≡ died old.cached.log)
+  pub falls : is_dead new.cached ≡ false → steps_left new.cached < steps_left old.cached
+  pub head : new.cached.log.head ≡ old.cached.log.head
+  pub active : new.cached.active ≡ old.cached.active
+  pub frozen : new.cached.frozen ≡ old.cached.frozen
   pub answer : TellsLife result new.cached
   pub begun : OnOk result (0 < new.cached.log.steps_left)
 

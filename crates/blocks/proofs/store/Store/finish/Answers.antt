@@ -63,11 +63,11 @@ returns-in_err-begin g c =
     let begins = c.begin.ensures in
     let quiet = ap (λ m. sent (g.M.Medium.state m)) begins.keeps.medium in
     let kept = kept_paid {Follows = g.M.Medium.follows} {sends = 0} g.met.M.Medium.follows_itself begins.keeps
-    (λ live. omega (arith, begins.begins.falls live)) in
+    (λ live. omega (arith, begins.falls live)) in
     record {
       passes = paid_then g.met.M.Medium.follows_through ready.passes c.in_ok-make_ready.ensures.answer kept
           (omega (arith, ready.passes.sent, quiet));
-      batch = grind (arith, begins.begins, begins.answer, ready.room, c.from_residual-in_err-begin.ensures, c.if-is_dead.false);
+      batch = grind (arith, begins, ready.room, c.from_residual-in_err-begin.ensures, c.if-is_dead.false);
       cost = search rules;
       flushes = search rules;
       one_batch = made_room g (goal.at.returns-in_err-begin g c).After-make_ready (omega (arith, quiet));
@@ -91,7 +91,7 @@ returns g c =
     let begins = c.begin.ensures in
     let wrote = c.write_out-2.ensures in
     let first : c.begin.new.self.cached.log ≡ begun numbers (firsts_in old.frozen) old.frozen.bytes c.make_ready.new.self.cached.log =
-    rw (← ready.room.frozen) (begins.begins.live c.in_ok-begin.ensures.answer).1 in
+    rw (← ready.room.frozen) (begins.live c.in_ok-begin.ensures.answer).1 in
     let shape = ready.passes.turn.goes_on.layout_stays in
     let quiet = ap (λ m. sent (g.M.Medium.state m)) begins.keeps.medium in
     let calls = ap (λ m. (g.M.Medium.state m).calls) begins.keeps.medium in
@@ -108,12 +108,12 @@ returns g c =
     let stay = λ (on : ahead ≡ true) (steady : IsSteady old.log).
     stays_on numbers (firsts_in old.frozen) old.frozen.bytes old.log steady (room.blocks on) in
     let kept = kept_paid {Follows = g.M.Medium.follows} {sends = 0} g.met.M.Medium.follows_itself begins.keeps
-    (λ lives. omega (arith, begins.begins.falls lives)) in
+    (λ lives. omega (arith, begins.falls lives)) in
     record {
       passes = paid_then {last = c.begin.new.self.cached.log.steps_left} g.met.M.Medium.follows_through ready.passes room.answer
           (paid_then g.met.M.Medium.follows_through kept c.in_ok-begin.ensures.answer wrote.passes
           (omega (arith, quiet, wrote.passes.sent))) (omega (arith, ready.passes.sent, wrote.passes.sent, few, quiet));
-      batch = grind (arith, live, idle, some, wrote.answer, wrote.batch, begins.begins, room.room, finishes, fill, stay);
+      batch = grind (arith, live, idle, some, wrote.answer, wrote.batch, begins, room.room, finishes, fill, stay);
       cost = grind (arith, rw (first, shape) at wrote.exactly, calls, room.cost, finish_begun ahead numbers old.log idle some);
       flushes = grind (arith, rw (first, shape) at wrote.flushes, made, room.flushed, flushes_begun numbers old.log idle some);
       one_batch = made_room g (goal.at.returns g c).After-make_ready (omega (arith, quiet, few, wrote.passes.sent));
