@@ -167,8 +167,8 @@ full_is log full = grind (arith, nat_tests)
 
 -- ---- how the oldest record goes home ahead, turn by turn, and what that costs
 
--- A block is away still, or none was; or the blocks that were away are home. With the calls of the steps that are left they are those of all
--- steps, and with the writes and flushes of these no more than all.
+-- A block is away still, or none was; or the blocks that were away are home. With the calls of the steps that are left they are those of
+-- all steps, and with the writes and flushes of these no more than all.
 pub record GoesHome (old new : LogValue) (calls calls' sends sends' : ℕ) : Type 0 where
   pub home : ((new ≡ record old { retire_steps_left = new.retire_steps_left }) × (2 < of_oldest old → 2 < of_oldest new)
       × (of_oldest old ≤ 2 → new ≡ old))
