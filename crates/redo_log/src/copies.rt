@@ -77,7 +77,7 @@ impl Copies {
             unreachable!()
         };
         copy.clear();
-        let _ = copy.extend_from_slice(bytes);
+        fill(&mut copy, bytes);
         self.kept.push_back_reserved(copy);
     }
 
@@ -100,6 +100,19 @@ impl Copies {
             unreachable!()
         };
         block
+    }
+}
+
+// Copies these bytes to memory that has room for them. What would ask for more, were there none,
+// wants a function of the system that makers do not give.
+fn fill(copy: &mut Vec<u8>, bytes: &[u8])
+    requires empty { copy.old.items ≡ [] }
+    requires room { length bytes.now ≤ vec_capacity copy.old }
+    ensures items { copy.new.items ≡ bytes.now }
+    ensures capacity { vec_capacity copy.new ≡ vec_capacity copy.old }
+{
+    for i in 0..bytes.len() {
+        copy.push_reserved(bytes[i]);
     }
 }
 
