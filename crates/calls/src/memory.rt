@@ -7,7 +7,7 @@ use disk_machine::room_for;
 use journal::LogFormat;
 
 // What the box behind a handle takes.
-const KEPT: u64 = 840;
+const KEPT: u64 = 928;
 
 /// How many bytes of memory a disk takes on an image of this format with `slots` slots, whose
 /// blocks begin behind the log. 0 where there is no such format or number of slots.

@@ -44,4 +44,4 @@ slot_memory format = 1928 * version_of format + 8 * limit_of format
 -- two batches and a buffer of a transfer each, what each slot takes, and the disk.
 abbrev pub memory_of : ℕ → ℕ → ℕ → ℕ → LogFormat → ℕ
 memory_of size slots span room format =
-    size + 512 * span + 528 * room + 1584 * limit_of format + slot_memory format * slots + 720
+    size + 512 * span + 528 * room + 1584 * limit_of format + slot_memory format * slots + 808
