@@ -76,6 +76,13 @@ naming_place shape stamp stage.Commit2 = commit_place (stamp % shape.slots)
 naming_place shape stamp (stage.Descriptor2 count index) = place_of (stamp % shape.slots) + index
 naming_place shape stamp _ = 0
 
+-- These tell whether the record of a stamp is there at all: descriptor and commit in format 1, and
+-- in format 2 the commit.
+abbrev pub IsToldAt : LogFormat → Shape → ℕ → ℕ → Type 0
+IsToldAt One shape stamp s = (s ≡ naming_place shape stamp stage.Descriptor)
+    ⊎ (s ≡ naming_place shape stamp stage.Commit)
+IsToldAt Two shape stamp s = s ≡ naming_place shape stamp stage.Commit2
+
 -- how many are left at most
 abbrev pub names_left : NamingStage → ℕ
 names_left stage.Descriptor = 2

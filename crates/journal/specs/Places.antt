@@ -36,6 +36,20 @@ abbrev pub first_data_of : LogFormat → ℕ
 first_data_of One = 1
 first_data_of Two = 8
 
+-- The sectors of a slot that tell whether a record is there lie in one run: from which one of the
+-- slot on, and how many. In format 1 it is the whole slot, and in format 2 the commit alone.
+abbrev pub first_told_of : LogFormat → ℕ
+first_told_of One = 0
+first_told_of Two = 248
+
+abbrev pub told_of : LogFormat → ℕ
+told_of One = 50
+told_of Two = 1
+
+-- where that run begins
+abbrev pub told_place : LogFormat → ℕ → ℕ
+told_place format slot = 2 + slot_sectors_of format * slot + first_told_of format
+
 -- how many sectors more there may be between the log and home, and one
 abbrev pub gap_of : LogFormat → ℕ
 gap_of One = 1

@@ -1,6 +1,9 @@
 //! The format of a log.
 use crate::{v1, v2};
 
+// In format 2 the commit alone tells whether a record is there.
+const COMMIT_ALONE: u64 = 1;
+
 /// How records lie in the slots of a log, and how many blocks a record has at most.
 #[derive(Clone, Copy, Debug, PartialEq, Eq)]
 pub enum LogFormat {
@@ -13,7 +16,7 @@ pub enum LogFormat {
 impl LogFormat {
     ghost use Rattle.std.specs.Prelude.{◌≡◌, ◌≢◌, ◌↔◌, IfSome, IsTrue, None};
     ghost use Rattle.journal.specs.Places.{flushes_of, limit_of, slot_sectors_of, gap_of};
-    ghost use Rattle.journal.specs.Places.{record_calls_of};
+    ghost use Rattle.journal.specs.Places.{record_calls_of, told_of, told_place};
     ghost use Rattle.journal.specs.Sectors.{version_of};
 
     /// How many blocks a record has at most, which is what a batch and a transfer have at most.
@@ -53,6 +56,27 @@ impl LogFormat {
     {
         let sent = self.slot_sectors() + self.flushes() as u64;
         sent + u64::from(self.limit()) + 3
+    }
+
+    /// The sectors of a slot that tell whether a record stands there lie in one run: how many they
+    /// are. In format 1 that is the whole slot, and in format 2 the commit alone.
+    pub fn told_sectors(self) -> u64
+        ensures { result ≡ told_of self }
+    {
+        match self {
+            LogFormat::One => self.slot_sectors(),
+            LogFormat::Two => COMMIT_ALONE,
+        }
+    }
+
+    /// The first sector of that run.
+    pub fn told_place(self, slot: u8) -> u64
+        ensures { result ≡ told_place self slot }
+    {
+        match self {
+            LogFormat::One => v1::place_of(slot),
+            LogFormat::Two => v2::commit_place(slot),
+        }
     }
 
     /// One more than the number of sectors that may lie between the log and home.
