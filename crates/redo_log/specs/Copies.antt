@@ -1,7 +1,8 @@
 -- The bytes of the blocks of records that are kept in memory, and the memory for them.
-use Rattle.std.specs.Prelude.{ℕ, ◌+◌, ◌≤◌, ◌<◌, List, map, length, All, Bool, Vec, vec_capacity}
+use Rattle.std.specs.Prelude.{ℕ, ◌+◌, ◌≤◌, ◌<◌, List, map, take, length, All, Bool, vec_capacity}
 use Rattle.std.specs.VecDeque.{deque_capacity}
 use Rattle.redo_log.specs.{Value.with_copy, declared.copies.Copies.TheInside.Inside}
+use Rattle.redo_log.specs.declared.copies.Memory.{Memory}
 
 -- what a caller sees of them
 pub record CopiesValue : Type 0 where
@@ -14,13 +15,17 @@ pub record CopiesValue : Type 0 where
   -- those of each record, the oldest first
   pub kept : List (List ℕ)
 
--- the bytes that stand in each of these
-abbrev pub bytes_in : {Z : Type 0} → List (Vec ℕ Z) → List (List ℕ)
-bytes_in copies = map (λ c. c.items) copies
+-- the bytes of the record that stand in this memory
+abbrev pub record_in : Memory → List ℕ
+record_in memory = take memory.length memory.bytes.items
+
+-- those that stand in each of these
+abbrev pub bytes_in : List Memory → List (List ℕ)
+bytes_in memories = map record_in memories
 
 -- each of these has room for so many bytes
-abbrev pub HaveRoom : {Z : Type 0} → ℕ → List (Vec ℕ Z) → Type 0
-HaveRoom most = All (λ c. most ≤ vec_capacity c)
+abbrev pub HaveRoom : ℕ → List Memory → Type 0
+HaveRoom most = All (λ m. most ≤ length m.bytes.items)
 
 -- what a caller sees of the fields
 abbrev pub copies_of : Inside → CopiesValue

@@ -1,19 +1,26 @@
 //! The bytes of the blocks of the records of a log that keeps them.
-ghost use Rattle.std.specs.Prelude.{◌≡◌, ◌≤◌, ◌<◌, ◌+◌, ◌*◌, [], length, drop, get_or, true};
+ghost use Rattle.std.specs.Prelude.{◌≡◌, ◌≤◌, ◌<◌, ◌+◌, ◌*◌, ◌++◌, [], length, drop, get_or, true};
 ghost use Rattle.std.specs.Prelude.{IfOk, vec_capacity, if◌then◌else◌};
-ghost use Rattle.redo_log.specs.Copies.{HaveRoom};
+ghost use Rattle.redo_log.specs.Copies.{HaveRoom, record_in};
 
 use std::alloc::{AllocError, Global};
 use std::collections::VecDeque;
 use std::marker::Model;
 
+// Memory for those of a record, and how many of its first bytes are theirs. It never grows.
+#[derive(Drop)]
+pub(crate) struct Memory {
+    bytes: Vec<u8>,
+    length: usize,
+}
+
 /// Those of each record, the oldest first. No call but `new` takes memory.
 #[derive(Drop)]
 pub(crate) struct Copies {
     keeps: bool,
-    kept: VecDeque<Vec<u8>>,
+    kept: VecDeque<Memory>,
     // The memory that no record has now.
-    spare: Vec<Vec<u8>>,
+    spare: Vec<Memory>,
     // How many bytes of a record there is room for.
     most: usize,
 }
@@ -73,20 +80,19 @@ impl Copies {
         if !self.keeps {
             return;
         }
-        let Some(mut copy) = self.spare.pop() else {
+        let Some(mut memory) = self.spare.pop() else {
             unreachable!()
         };
-        copy.clear();
-        fill(&mut copy, bytes);
-        self.kept.push_back_reserved(copy);
+        fill(&mut memory, bytes);
+        self.kept.push_back_reserved(memory);
     }
 
     /// Forgets those of the oldest record, if there are any.
     pub(crate) fn forget(&mut self)
         ensures { self.new ≡ record self.old { kept = drop 1 self.old.kept } }
     {
-        if let Some(copy) = self.kept.pop_front() {
-            self.spare.push_reserved(copy);
+        if let Some(memory) = self.kept.pop_front() {
+            self.spare.push_reserved(memory);
         }
     }
 
@@ -96,35 +102,41 @@ impl Copies {
         ensures { result.now ≡ copy_kept self.now.kept age place }
     {
         let at = 512 * place;
-        let Some(block) = self.kept[age][at..].first_chunk::<512>() else {
+        let Some(block) = self.kept[age].bytes[at..].first_chunk::<512>() else {
             unreachable!()
         };
         block
     }
 }
 
-// Copies these bytes to memory that has room for them. What would ask for more, were there none,
-// wants a function of the system that makers do not give.
-fn fill(copy: &mut Vec<u8>, bytes: &[u8])
-    requires empty { copy.old.items ≡ [] }
-    requires room { length bytes.now ≤ vec_capacity copy.old }
-    ensures items { copy.new.items ≡ bytes.now }
-    ensures capacity { vec_capacity copy.new ≡ vec_capacity copy.old }
+// Copies these bytes to memory that has room for them.
+fn fill(memory: &mut Memory, bytes: &[u8])
+    requires { length bytes.now ≤ length memory.old.bytes.items }
+    ensures copied { record_in memory.new ≡ bytes.now }
+    ensures room { length memory.new.bytes.items ≡ length memory.old.bytes.items }
 {
-    for i in 0..bytes.len() {
-        copy.push_reserved(bytes[i]);
-    }
+    put(&mut memory.bytes, bytes);
+    memory.length = bytes.len();
+}
+
+// Copies bytes over the front of others.
+fn put(to: &mut [u8], from: &[u8])
+    requires { length from.now ≤ length to.old }
+    ensures { to.new ≡ from.now ++ drop (length from.now) to.old }
+{
+    to[..from.len()].copy_from_slice(from);
 }
 
 // Memory for so many bytes of each of `count` records.
-fn spare_for(alloc: Global, count: usize, most: usize) -> Result<Vec<Vec<u8>>, AllocError>
+fn spare_for(alloc: Global, count: usize, most: usize) -> Result<Vec<Memory>, AllocError>
     ensures room { IfOk result (λ spare. HaveRoom most spare.items) }
     ensures many { IfOk result (λ spare. (length spare.items ≡ count)
         × (count ≤ vec_capacity spare)) }
 {
     let mut spare = Vec::with_capacity(alloc, count)?;
     for _ in 0..count {
-        spare.push_reserved(Vec::with_capacity(alloc, most)?);
+        let bytes = vec![in alloc; 0u8; most]?;
+        spare.push_reserved(Memory { bytes, length: 0 });
     }
     Ok(spare)
 }
