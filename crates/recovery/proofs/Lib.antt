@@ -5,3 +5,4 @@ pub mod WholeRecovery
 pub mod SurveyedRecords
 pub mod Looks
 pub mod StartCopy
+pub mod FreshLooks

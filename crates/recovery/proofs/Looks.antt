@@ -4,7 +4,7 @@ use Rattle.std.proofs.Common.{◌≡◌, ◌≢◌, ◌∙◌, sym, ⊎_elim, �
 use Rattle.std.proofs.Common.{◌⊎◌, ◌-◌, OnOk, Option, MatchOption, IfSome}
 use Rattle.medium.specs.Performed.{Performed, fault_of, IsWithin, ReadsBefore}
 use Rattle.medium.specs.declared.medium_call.Call.TheVariants.{Read, Flush}
-use Rattle.medium.specs.{Medium.State, Medium.IsSound, Moments.IsQuiet, Machine.Tallied, Machine.TellsCall, Machine.IsLeft, Tally.of_all}
+use Rattle.medium.specs.{Medium.State, Medium.IsSound, Moments.IsQuiet, Machine.Tallied, Machine.IsLeft, Tally.of_all}
 use Rattle.medium.specs.{Tally.Tally, Tally.one_more, Tally.none, declared.medium_call.Call.Call, declared.fault.MediumFault.MediumFault}
 use Rattle.medium.proofs.{Moments.quiet_start, Moments.quiet_call, Moments.quiet_joined, SectorsRead.no_looks, SectorsRead.looks_joined}
 use Rattle.medium.proofs.{Driving.not_driven, Driving.driven_call, Driving.driven_refused, Tallies.calls_most, Tallies.none_made}
@@ -13,12 +13,12 @@ use Rattle.journal.specs.{declared.super_sector.Super.Super, Places.Shape, Place
 use Rattle.journal.specs.{Naming.IsReading, Naming.IsReader, Naming.names_left, Reading.record_reads_of, declared.record.Record.Record}
 use Rattle.journal.specs.{declared.reader.RecordReader.RecordReader, declared.naming_stage.NamingStage.NamingStage}
 use Rattle.journal.proofs.SectorNumbers.{IsSuper-one}
-use Rattle.recovery.specs.Causes.{SurveysAtMost, IsRefusalBy, IsSuperCause, AreCounts, AreTries, IsLookCause, WritesNothing, start_fault_of}
+use Rattle.recovery.specs.Causes.{SurveysAtMost, IsRefusalBy, IsSuperCause, AreCounts, AreTries, IsLookCause, WritesNothing}
 use Rattle.recovery.specs.Causes.{HasFewSlots}
 use Rattle.recovery.specs.Starting.{IsReadFirst, FindsSuper, FindsHead, IsNewSurvey, CanStart, CanLook, IsStarting, EndsStart, IsStartStep}
 use Rattle.recovery.specs.Starting.{start_left, start_kind, both, home_calls, IsFoundOn, IsSurveyedOn}
 use Rattle.recovery.specs.HoldsStart.{HoldsLook, HasLooked, HasReadFirst, HasFound, HasBegun, IsSurveyedSoFar, TellsSurvey, HoldsStart}
-use Rattle.recovery.specs.HoldsStart.{IsMidstart, IsFlushedFirst, StartView}
+use Rattle.recovery.specs.HoldsStart.{IsMidstart, IsFlushedFirst, TellsStart}
 use Rattle.recovery.specs.{Calls.HoldsLog, Calls.most_reads_of, Surveying.HoldsSurveyed, Surveying.IsSurveyStep, Surveying.surveys_left}
 use Rattle.recovery.specs.{declared.surveying.Surveying.Surveying, declared.start_fault.StartFault.StartFault, Surveying.CanSurvey}
 use Rattle.recovery.specs.{Copying.CanCopy, Copying.copies_left, declared.found.Found.Found}
@@ -30,7 +30,6 @@ use Rattle.medium.specs.declared.fault.MediumFault.TheVariants as medium
 use Rattle.recovery.specs.declared.start_fault.StartFault.TheVariants as fault
 use Rattle.recovery.specs.Stages as stage
 use Rattle.journal.specs.declared.naming_stage.NamingStage.TheVariants as naming
-use Rattle.recovery.specs.declared.start_point.StartPoint.TheVariants as point
 
 read_none : (m : State) → HasReadFirst 0 m m
 read_none m = grind (arith, quiet_start m, λ (near : ℕ) (holds : HoldsLog near m.size m.content). no_looks (λ s. s < near) m m refl)
@@ -66,7 +65,7 @@ module _ {M : Type 0} (state : M → State) {first : Surveying} {had now_had : L
     {result : Result (Unit {0}) MediumFault} (so_far : IsSurveyedSoFar state first had began result now now_had n)
     (sizes : Super) (head : ℕ) (new : IsNewSurvey sizes head first) where
   -- it began with none tried
-  survey_held : HoldsSurveyed state now.reader now.left now.place now.waiting.items
+  pub survey_held : HoldsSurveyed state now.reader now.left now.place now.waiting.items
       (record { start = began; sizes = sizes; head = head }) n
   survey_held = (so_far.runs (record { start = began; sizes = sizes; head = head })
       (not_tried first.reader first.left first.place first.waiting.items _ (sym new.sizes_are) new.stamp_is new.left_is new.place_is
@@ -271,12 +270,7 @@ module _ {M : Type 0} {state : M → State} (machine : Starting) {here : StartPo
       → (rest : Tally) → start_left (at_point machine here) ≡ one_more rest (fault_of call)
       → ((got : List ℕ) (next : StartStage) → IsStartStep machine.sectors machine.least (at_point machine here) got next
       → IsLeft ⊥ (start_left next) rest)
-      → TellsCall {M = M} {S = Starting} {V = StartView M} state (λ s size. s.sectors ≡ size)
-      (λ s had m view. (s.least ≡ view.least) × HoldsStart state view.least (stage_of s) had view.start m)
-      (λ s. s.sectors) (λ s. s.sectors) (λ s. start_left (stage_of s)) ⊥ (λ s. IsStarting (stage_of s))
-      (λ s got t. (t.sectors ≡ s.sectors) × (t.least ≡ s.least) × IsStartStep s.sectors s.least (stage_of s) got (stage_of t))
-      (λ s t. (t.sectors ≡ s.sectors) × (t.least ≡ s.least) × (t.stage ≡ point.Refused (start_fault_of (start_kind (stage_of s)))))
-      machine had call bytes
+      → TellsStart state machine had call bytes
   told is live within looks kind made leaves rest pays rests = record {
     due = rw is live;
     within = within;

@@ -1,14 +1,14 @@
 -- The second half of a start, call by call: the copies, what is home at their end, and the new head.
 use Rattle.std.proofs.Common.{◌≡◌, ◌∙◌, sym, refl, ⊎_elim, ℕ, ◌+◌, ◌*◌, ◌<◌, ◌≤◌, List, [], length, get_or, arith, Result, Ok, Err}
-use Rattle.std.proofs.Common.{◌^◌, ◌⊎◌, inl, rules}
+use Rattle.std.proofs.Common.{◌^◌, inl, rules}
 use Rattle.medium.specs.declared.medium_call.Call.TheVariants.{Write, Flush}
-use Rattle.medium.specs.{Medium.State, Medium.CutLeaves, Medium.IsSound, Medium.Image, Moments.LeavesOnly, Moments.EachCut}
+use Rattle.medium.specs.{Medium.State, Medium.CutLeaves, Medium.IsSound, Moments.LeavesOnly, Moments.EachCut}
 use Rattle.medium.specs.{Performed.Performed, declared.medium_call.Call.Call, declared.fault.MediumFault.MediumFault, Tally.of_all}
 use Rattle.medium.proofs.{Driving.not_driven, Driving.driven_call, Driving.driven_refused, Tallies.calls_most, Tallies.sends_most}
 use Rattle.medium.proofs.{Moments.at_exit, Moments.after_write, Moments.one_call}
 use Rattle.journal.specs.Formats.{shape_of, IsWhole, HasWhole}
 use Rattle.journal.specs.{Places.sectors_of, Places.first_home, Places.limit_of, Record.Entry, Sectors.IsHead, Standing.IsOurs}
-use Rattle.recovery.specs.Calls.{Copies, IsHomeInRecords, freed_at, most_calls_of, HasNewHead, Writes}
+use Rattle.recovery.specs.Calls.{Copies, IsHomeInRecords, freed_at, most_calls_of, Writes}
 use Rattle.recovery.specs.Copying.{Copying, again, copies_left, HoldsCopied, IsCopyStep, TellsCopy}
 use Rattle.recovery.specs.Starting.{IsNewCopying, IsCopiedOn, IsSurveyedOn, found_by, answer_of}
 use Rattle.recovery.specs.HoldsStart.{IsCopiedSoFar, IsCopying, HasSurveyed, HasCopied, HoldsLook, IsFlushedFirst, HasBegun, IsMovingHead}
@@ -31,7 +31,7 @@ module _ {M : Type 0} {state : M → State} (sound : (m : M) → IsSound (state 
     module _ {first now : Copying} {had now_had : List ℕ} {n : M} {result : Result (Unit {0}) MediumFault} (new : IsNewCopying found first)
         (so_far : IsCopiedSoFar state first had seen result now now_had n) where
       -- it began with none copied
-      ran : (records : List (List Entry)) → found.count ≡ length records
+      pub ran : (records : List (List Entry)) → found.count ≡ length records
           → ((k : ℕ) → k < length records → IsWhole (shape_of found.sizes) (state seen).content (found.head + k) (get_or records k []))
           → LeavesOnly (CutLeaves (freed_at (IsHomeInRecords (shape_of found.sizes) (state seen).content found.head (length records))
           (state seen).may_leave)) (state seen) (state n)

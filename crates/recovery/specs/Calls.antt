@@ -4,10 +4,11 @@ use Rattle.std.specs.Prelude.{slice_index, replicate, Result, Ok, OnOk, IfErr, �
 use Rattle.std.specs.Prelude.{Bool, if◌then◌else◌}
 use Rattle.std.specs.List.{range_with_len}
 use Rattle.medium.specs.declared.medium_call.Call.TheVariants.{Write, Flush}
+use Rattle.medium.specs.declared.medium_call.Call.TheVariants as medium_call
 use Rattle.medium.specs.Medium.{State, Image, Sets, CutLeaves, LooksOnly, Holds}
 use Rattle.medium.specs.Moments.{LeavesOnly, SparesFrom, IsFlushed}
-use Rattle.medium.specs.{Performed.Performed, declared.medium_call.Call.Call, Sent.SendsUpTo}
-use Rattle.medium.specs.{declared.fault.MediumFault.MediumFault}
+use Rattle.medium.specs.{Performed.Performed, Performed.IsWithin, Sent.SendsUpTo}
+use Rattle.medium.specs.{declared.medium_call.Call.Call, declared.fault.MediumFault.MediumFault}
 use Rattle.medium.specs.{declared.fault.MediumFault.TheVariants.Read}
 use Rattle.journal.specs.declared.log_format.LogFormat.{LogFormat}
 use Rattle.journal.specs.declared.log_format.LogFormat.TheVariants.{One, Two}
@@ -15,6 +16,7 @@ use Rattle.journal.specs.Record.{Entry, numbers_of, with_records, home_of}
 use Rattle.journal.specs.{Places.limit_of, Places.slot_sectors_of, Places.IsFirstHome}
 use Rattle.journal.specs.{Standing.HasShape, Standing.IsOurs, Sectors.IsHead, Sectors.IsSuper}
 use Rattle.journal.specs.{Format2.descriptors_of, Formats.IsWhole, Reading.IsRefusedCall}
+use Rattle.journal.specs.{Formats.CarriesBelow, Naming.IsToldAt}
 use Rattle.spec.specs.Blocks.{Array}
 use Rattle.recovery.specs.declared.format_fault.FormatFault.{FormatFault}
 use Rattle.recovery.specs.declared.format_fault.FormatFault.TheVariants.{BadSize, Medium}
@@ -40,6 +42,41 @@ pub record HoldsLog (near size : ℕ) (image : Image) : Type 0 where
 abbrev pub LooksAtLog : State → State → Type 0
 LooksAtLog old new =
     (near : ℕ) → HoldsLog near old.size old.content → LooksOnly (λ s. s < near) old new
+
+-- no record waits: the image has this array at home and its head at this stamp, and no sector of
+-- its log carries this stamp or a later one
+pub record IsFresh (shape : Shape) (array : Array) (next : ℕ) (image : Image) : Type 0 where
+  pub super : IsSuper shape (image 0)
+  pub head : IsHead next (image 1)
+  pub home : (b : ℕ) → b < shape.blocks → image (first_home shape + b) ≡ array b
+  pub carries : CarriesBelow shape image next
+
+-- what is read of an image in which no record waits: the super, the head, and the first of the slot
+-- of the next record
+abbrev pub IsReadOfFresh : Shape → ℕ → ℕ → Type 0
+IsReadOfFresh shape next s = (s ≡ 0) ⊎ (s ≡ 1) ⊎ IsToldAt shape.format shape next s
+
+-- where no record waits, each read names one of these
+abbrev pub LooksAtFresh : State → State → Type 0
+LooksAtFresh old new = (shape : Shape) (array : Array) (next : ℕ)
+    → IsFresh shape array next old.content → LooksOnly (IsReadOfFresh shape next) old new
+
+-- the sector that a call reads
+abbrev pub IsReadBy : Call → ℕ → Type 0
+IsReadBy (medium_call.Read place) s = s ≡ place
+IsReadBy (Write place) s = ⊥
+IsReadBy Flush s = ⊥
+
+-- the medium has the sector that the call names
+abbrev pub HasSectorOf : Call → State → Type 0
+HasSectorOf call m = IsWithin m.size call
+
+-- The call is made with these bytes in the lent sector, or refused; and what it reads is told.
+pub record MakesCall {M : Type 0} (state : M → State) (Follows : M → M → Type 0) (call : Call)
+    (bytes after : List ℕ) (result : Result (Unit {0}) MediumFault) (old new : M) : Type 0 where
+  pub performed : Performed call bytes after result (state old) (state new)
+  pub looks : LooksOnly (IsReadBy call) (state old) (state new)
+  pub follows : Follows old new
 
 -- The medium comes after what it was, by calls alone that read nothing, of which at most `sends`
 -- are writes and flushes.

@@ -7,10 +7,11 @@ use Rattle.spec.specs.Blocks.{Array}
 use Rattle.journal.specs.declared.log_format.LogFormat.TheVariants.{Two, One}
 use Rattle.journal.specs.Places.{Shape, first_home, sectors_of, slot_sectors_of, migrated, limit_of}
 use Rattle.journal.specs.{declared.log_format.LogFormat.LogFormat, Formats.shape_of}
-use Rattle.journal.specs.{Formats.CarriesBelow, Formats.HasWhole, Sectors.IsSuper, Sectors.IsHead}
+use Rattle.journal.specs.{Formats.HasWhole, Sectors.IsSuper, Sectors.IsHead}
 use Rattle.journal.specs.{Standing.StandsFor, Standing.IsOurs, Standing.HasShape}
 use Rattle.recovery.specs.Calls.{copy_calls, most_start_of, most_start_sends, LooksAtLog, AreMade}
-use Rattle.recovery.specs.Calls.{zeros_and_head}
+use Rattle.recovery.specs.Calls.{zeros_and_head, LooksAtFresh}
+pub use Rattle.recovery.specs.Calls.{IsFresh}
 use Rattle.recovery.specs.Causes.{HasFewSlots, IsCause, IsDeviceFault, WritesNothing, IsRefusalBy}
 use Rattle.recovery.specs.Causes.{AreTries}
 use Rattle.recovery.specs.declared.recovered.Recovered.{Recovered}
@@ -34,14 +35,6 @@ pub record IsRecoveredFrom (old new : State) (answer : Recovered) : Type 0 where
   pub calls : AreTries (shape_of answer.sizes) old.content stood.head
       (min (length stood.records + 1) answer.sizes.slots)
       (old.calls + 6 + copy_calls answer.sizes.format stood.records) new.calls
-
--- no record waits: the image has this array at home and its head at this stamp, and no sector of
--- its log carries this stamp or a later one
-pub record IsFresh (shape : Shape) (array : Array) (next : ℕ) (image : Image) : Type 0 where
-  pub super : IsSuper shape (image 0)
-  pub head : IsHead next (image 1)
-  pub home : (b : ℕ) → b < shape.blocks → image (first_home shape + b) ≡ array b
-  pub carries : CarriesBelow shape image next
 
 -- the image is ours
 abbrev pub IsOursForSome : ℕ → Image → Type 0
@@ -133,6 +126,13 @@ LeavesAtLeast least old new =
 -- so one that takes any log
 abbrev pub RecoveryLeaves : State → State → Type 0
 RecoveryLeaves old new = LeavesAtLeast 0 old new
+
+-- What a recovery leaves and reads, good or refused: where no record waits, it reads the super, the
+-- head, and of the slot of the next record what tells that it is not there.
+pub record RecoveryMoments (old new : State) : Type 0 where
+  pub any : RecoveryLeaves old new
+  pub open any use *
+  pub fresh_looks : LooksAtFresh old new
 
 -- Why a recovery is refused. Contents that stand for something with a stamp left are refused by the
 -- device alone.

@@ -6,12 +6,13 @@ ghost use Rattle.spec.specs.Blocks.{Array};
 ghost use Rattle.journal.specs.Places.{Shape};
 ghost use Rattle.journal.specs.Standing.{IsOurs};
 ghost use Rattle.recovery.specs.Recovered.{IsRecoveredFrom, IsRecoveryRefusal, IsFresh};
-ghost use Rattle.recovery.specs.Recovered.{RecoveryLeaves, LeavesAtLeast};
-ghost use Rattle.recovery.specs.Causes.{HasFewSlots, IsRefusalBy, WritesNothing};
+ghost use Rattle.recovery.specs.Recovered.{RecoveryMoments};
+ghost use Rattle.recovery.specs.Calls.{LooksAtFresh, MakesCall, HasSectorOf};
+ghost use Rattle.recovery.specs.Starting.{EndsStart};
 
 use crate::starting::Starting;
 use crate::{Recovered, StartFault};
-use medium::{Medium, drive};
+use medium::{Call, Machine, Medium, MediumFault};
 
 /// Copies the blocks of the whole records from the head on home, in order of their stamps, and
 /// moves the head past the first record that is not whole. It takes no memory.
@@ -31,8 +32,9 @@ pub fn recover<M: Medium>(m: &mut M) -> Result<Recovered, StartFault>
         → OnOk result (EachCut (IsFresh shape array next) (M.state m.new)) }
     // Contents that stand for something with a stamp left are refused by the device alone.
     ensures err { IfErr result (IsRecoveryRefusal (M.state m.old) (M.state m.new)) }
-    // What a cut at any moment leaves, good or refused, and how many calls there are at most.
-    ensures leaves { RecoveryLeaves (M.state m.old) (M.state m.new) }
+    // What a cut at any moment leaves, good or refused, how many calls there are at most, and what
+    // is read where no record waits.
+    ensures leaves { RecoveryMoments (M.state m.old) (M.state m.new) }
     ensures follows { M.follows m.old m.new }
 {
     recover_at_least(m, 0)
@@ -40,17 +42,30 @@ pub fn recover<M: Medium>(m: &mut M) -> Result<Recovered, StartFault>
 
 /// Recovers an image whose log, where it is of format 1, has at least `least` slots.
 pub(crate) fn recover_at_least<M: Medium>(m: &mut M, least: u64) -> Result<Recovered, StartFault>
-    // It found at least these slots in a log of format 1.
-    ensures ok { IfOk result (λ answer. IsRecoveredFrom (M.state m.old) (M.state m.new) answer
-        × (¬ HasFewSlots least (M.state m.old).size (M.state m.old).content)) }
-    ensures fresh { (shape : Shape) (array : Array) (next : ℕ)
-        → IsOurs (M.state m.old).size shape (M.state m.old).content array next
-        → OnOk result (EachCut (IsFresh shape array next) (M.state m.new)) }
-    ensures err { IfErr result (IsRefusalBy least WritesNothing (M.state m.old) (M.state m.new)) }
-    ensures leaves { LeavesAtLeast least (M.state m.old) (M.state m.new) }
+    // All that a recovery promises, and where it is good, that it found so many.
+    ensures ends { EndsStart least (M.state m.old) (M.state m.new) result }
+    ensures looks { LooksAtFresh (M.state m.old) (M.state m.new) }
     ensures follows { M.follows m.old m.new }
 {
     let mut starting = Starting::begin_at_least::<M>(m.sectors(), least);
-    let _ = drive(m, &mut starting, &mut [0; 512]);
+    let mut sector = [0; 512];
+    while let Some(call) = starting.call::<M>(&mut sector) {
+        match make(m, call, &mut sector) {
+            Ok(()) => Machine::<M>::made(&mut starting, &sector),
+            Err(_) => Machine::<M>::refused(&mut starting),
+        }
+    }
     starting.end::<M>()
+}
+
+// Makes the call with this sector, as `perform` does, and tells which sector it reads.
+fn make<M: Medium>(m: &mut M, call: Call, sector: &mut [u8; 512]) -> Result<(), MediumFault>
+    requires { HasSectorOf call (M.state m.old) }
+    ensures { MakesCall M.state M.follows call sector.old sector.new result m.old m.new }
+{
+    match call {
+        Call::Read(place) => m.read(place, sector),
+        Call::Write(place) => m.write(place, sector),
+        Call::Flush => m.flush(),
+    }
 }

@@ -1,5 +1,7 @@
 //! The survey of the records that are whole, call by call.
 ghost use Rattle.std.specs.Prelude.{◌≡◌, ◌<◌, ◌≤◌, ◌+◌, ◌^◌, List, ℕ, length};
+ghost use Rattle.std.specs.Prelude.{MatchOption, IfSome};
+ghost use Rattle.medium.specs.Tally.{none};
 ghost use Rattle.medium.specs.Medium.{CutLeaves};
 ghost use Rattle.journal.specs.Formats.{shape_of};
 ghost use Rattle.journal.specs.Places.{first_home, sectors_of};
@@ -29,6 +31,7 @@ pub(crate) struct Surveying {
 
 impl Surveying {
     ghost use Rattle.recovery.specs.Starting.{IsNewSurvey};
+    ghost use Rattle.recovery.specs.HoldsStart.{IsSurveyCall, TellsSurvey};
 
     /// One of which nothing is left.
     pub(crate) fn over() -> Surveying
@@ -51,6 +54,25 @@ impl Surveying {
         self.left = sizes.slots;
         self.place = 0;
         self.waiting.clear();
+    }
+
+    /// The next read, and which sector it names.
+    pub(crate) fn call<M: Medium>(&self, sector: &mut [u8; 512]) -> Option<Call>
+        ensures told { MatchOption result
+            ((surveys_left self.now.reader self.now.left self.now.place ≡ none)
+            × (sector.new ≡ sector.old))
+            (λ call. TellsSurvey M.state self.now sector.old call sector.new) }
+        ensures named { IfSome result (IsSurveyCall self.now.reader) }
+    {
+        if self.left == 0 {
+            return None;
+        }
+        if let Some(place) = self.reader.next() {
+            return Some(Call::Read(place));
+        }
+        let sizes = &self.reader.sizes;
+        let slot = slot_of(self.reader.stamp, sizes.slots);
+        Some(Call::Read(copy_place(sizes.format, slot, self.place)))
     }
 
     // A sector was read that names blocks.
@@ -125,15 +147,7 @@ impl<M: Medium> Machine<M> for Surveying {
     ghost gone = { λ s t. t ≡ s };
 
     fn next(&self, sector: &mut [u8; 512]) -> Option<Call> {
-        if self.left == 0 {
-            return None;
-        }
-        if let Some(place) = self.reader.next() {
-            return Some(Call::Read(place));
-        }
-        let sizes = &self.reader.sizes;
-        let slot = slot_of(self.reader.stamp, sizes.slots);
-        Some(Call::Read(copy_place(sizes.format, slot, self.place)))
+        self.call::<M>(sector)
     }
 
     fn made(&mut self, sector: &[u8; 512]) {

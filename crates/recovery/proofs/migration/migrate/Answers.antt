@@ -105,21 +105,21 @@ call_refuses old new kind h = grind arith
 
 -- format 2 is made, good or refused
 makes : (g : _) (c : After-make_two g) → MigrationLeaves (g.M.Medium.state c.args.m.now) (g.M.Medium.state c.make_two.new.m)
-makes g c = migration_leaves c.in_ok-found.ensures.ok (c.migrates.ensures.0 c.if-migrates.true)
+makes g c = migration_leaves c.in_ok-found.ensures.ends.ok (c.migrates.ensures.0 c.if-migrates.true)
     c.make_two.ensures.writes (g.met.M.Medium.sound c.args.m.now) (g.met.M.Medium.sound c.recover_at_least.new.m)
-    c.in_ok-found.ensures.fresh c.recover_at_least.ensures.leaves
+    c.in_ok-found.ensures.ends.fresh c.recover_at_least.ensures.ends.leaves
 
 pub make_two-requires : goal.make_two-requires
 make_two-requires g c =
-    let can = can_migrate c.in_ok-found.ensures.ok (c.migrates.ensures.0 c.if-migrates.true) in
+    let can = can_migrate c.in_ok-found.ensures.ends.ok (c.migrates.ensures.0 c.if-migrates.true) in
     let fits : sectors_of (shape_of c.in_ok-found.found.sizes) ≤ (g.M.Medium.state c.recover_at_least.new.m).size =
-    omega (arith, c.in_ok-found.ensures.ok.0.stood.fits, c.recover_at_least.ensures.leaves.moments.size_stays) in
-    search (rules, can, fits, c.in_ok-found.ensures.ok)
+    omega (arith, c.in_ok-found.ensures.ends.ok.0.stood.fits, c.recover_at_least.ensures.ends.leaves.moments.size_stays) in
+    search (rules, can, fits, c.in_ok-found.ensures.ends.ok)
 
 pub returns-in_err-found-clause-err : goal.returns-in_err-found-clause-err
 returns-in_err-found-clause-err g c =
     let p = err_from_is_err_and c.from_residual.result c.from_residual.ensures.1 in
-    rw (p.1, p.2) (search (rules, c.in_err-found.ensures.err, served_slots))
+    rw (p.1, p.2) (search (rules, c.in_err-found.ensures.ends.err, served_slots))
 
 pub returns-in_err-make_two-clause-err : goal.returns-in_err-make_two-clause-err
 returns-in_err-make_two-clause-err g c =
@@ -127,7 +127,7 @@ returns-in_err-make_two-clause-err g c =
     let p = err_from_is_err_and back.result back.ensures.1 in
     let kind = c.in_err-make_two.field-0.0 in
     rw (p.1, p.2) (call_refuses _ _ kind
-    (search (rules, c.recover_at_least.ensures.leaves.moments.refused_stay kind, c.in_err-make_two.ensures.writes.cause)))
+    (search (rules, c.recover_at_least.ensures.ends.leaves.moments.refused_stay kind, c.in_err-make_two.ensures.writes.cause)))
 
 pub returns-in_err-make_two-clause-leaves : goal.returns-in_err-make_two-clause-leaves
 returns-in_err-make_two-clause-leaves g c = makes g (goal.at.returns-in_err-make_two-clause-leaves g c).After-make_two
@@ -135,15 +135,15 @@ returns-in_err-make_two-clause-leaves g c = makes g (goal.at.returns-in_err-make
 pub returns-in_ok-make_two : goal.returns-in_ok-make_two
 returns-in_ok-make_two g c =
     let done = c.in_ok-make_two.ensures in
-    let from = migrated_from c.in_ok-found.ensures.ok (c.migrates.ensures.0 c.if-migrates.true)
+    let from = migrated_from c.in_ok-found.ensures.ends.ok (c.migrates.ensures.0 c.if-migrates.true)
     c.make_two.ensures.writes c.in_ok-make_two.field-0 (done.ok.0, done.ok.1, done.ok.2) done.writes.exact in
     let order : IsInOrder g.M.Medium.state true c.args.m.now c.make_two.new.m =
-    (c.recover_at_least.new.m, c.in_ok-found.found, c.in_ok-found.ensures.ok.0, done.ok.3) in
+    (c.recover_at_least.new.m, c.in_ok-found.found, c.in_ok-found.ensures.ends.ok.0, done.ok.3) in
     search (rules, from, order, makes g (goal.at.returns-in_ok-make_two g c).After-make_two, g.met.M.Medium.follows_through)
 
 pub returns-else-migrates-clause-ends : goal.returns-else-migrates-clause-ends
 returns-else-migrates-clause-ends g c =
-    let found = c.in_ok-found.ensures in
+    let found = c.in_ok-found.ensures.ends in
     record {
       order = tt;
       fresh = λ shape array next ours.

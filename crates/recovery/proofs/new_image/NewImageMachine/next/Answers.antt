@@ -6,9 +6,8 @@ use Rattle.recovery.proofs.new_image.NewImageMachine.next.Goals as goal
 pub returns-in-Wipe : goal.returns-in-Wipe
 returns-in-Wipe g c =
     let s = c.args.self.now in
-    let long : 2 ≤ s.plan.end = omega (arith, s.plan.sizes.home_is.0, s.plan.long) in
-    tells_write g.met.M.Medium.sound s stage.Wipe stage.FlushWipe c.in-Wipe.is tt (λ t is. is) (omega arith) 0 (omega (arith, long))
-    (λ e. cc e) (grind arith) refl (λ view now has. (
+    tells_write g.met.M.Medium.sound s stage.Wipe stage.FlushWipe c.in-Wipe.is tt (λ t is. is) (omega arith) 0
+    (omega (arith, s.plan.sizes.home_is.0, s.plan.long)) (λ e. cc e) (grind arith) refl (λ view now has. (
       λ image holds. grind (arith, has.1.here, has.1.elsewhere, holds.elsewhere),
       λ image cut. inl cut,
       λ before image cut holds. inr (before, cut, rw has.1.here holds),
@@ -17,10 +16,9 @@ returns-in-Wipe g c =
 pub returns-in-FlushWipe : goal.returns-in-FlushWipe
 returns-in-FlushWipe g c =
     let s = c.args.self.now in
-    let long : 2 ≤ s.plan.end = omega (arith, s.plan.sizes.home_is.0, s.plan.long) in
     tells_flush g.met.M.Medium.sound s stage.FlushWipe (stage.Zeros 1 false) c.in-FlushWipe.is tt (λ t is. is) (omega arith)
     (grind arith) refl (λ view now has cut. (
-      grind (arith, long, has.1, view.under.some),
+      grind (arith, s.plan.sizes.home_is.0, s.plan.long, has.1, view.under.some),
       record { each = λ x. inl (has.1 x) },
     )) tt
 
@@ -52,10 +50,9 @@ returns-in-Zeros-3 g c =
     let at = c.in-Zeros.at in
     let is : s.stage ≡ stage.Zeros at false = cc (c.in-Zeros.is, c.in-Zeros-2.is, c.if-flush.false) in
     let full = c.if-at-self.false in
-    let long : 2 ≤ s.plan.end = omega (arith, s.plan.sizes.home_is.0, s.plan.long) in
     let none : s.plan.end - at ≡ 0 = omega (arith, full) in
     tells_write g.met.M.Medium.sound s (stage.Zeros at false) stage.FlushHead is tt (λ t is. is.1 full) (omega arith) 1
-    (omega (arith, long)) (λ e. cc e) (rw none refl) (rw none refl) (λ view now has. (
+    (omega (arith, s.plan.sizes.home_is.0, s.plan.long)) (λ e. cc e) (rw none refl) (rw none refl) (λ view now has. (
       λ image holds. grind (arith, full, c.encode.ensures, view.under.most, view.under.some, has.zeros, has.elsewhere, holds.elsewhere),
       λ image is. is,
       λ before image is holds. grind (arith, is.each, holds, c.encode.ensures),

@@ -5,7 +5,7 @@ use Rattle.journal.specs.{Format2.format2, Formats.shape_of, declared.reader.Rec
 use Rattle.recovery.specs.Surveying.{HoldsSurveyed, SurveyView, surveys_left}
 use Rattle.recovery.proofs.SurveyedRecords.{untried, named_taken, place_taken, data_place}
 use Rattle.recovery.proofs.Looks.{less_read, names_few}
-use Rattle.recovery.proofs.surveying.SurveyingMachine.next.Goals as goal
+use Rattle.recovery.proofs.surveying.Surveying.call.Goals as goal
 
 -- each sector of the log has its bytes
 all_sized : {M : Type 0} {state : M → State} {reader : RecordReader} {left place : ℕ} {waiting : _} {view : SurveyView M} {m : M}
@@ -16,20 +16,19 @@ all_sized {state = state} {view = view} {m = m} held sound fits x below =
     let less : x < (state m).size = omega (arith, fits, rw held.sizes_are at inside) in
     rw (held.quiet.content_stays x) at (sound.sized x ((state m).content x) less (sound.holds_content x))
 
-pub returns-in-Some : goal.returns-in-Some
-returns-in-Some g c =
+pub returns-in-Some-clause-told : goal.returns-in-Some-clause-told
+returns-in-Some-clause-told g c =
     let s = c.args.self.now in
     let asked = c.in-Some.ensures in
     let due : 0 < s.left = omega (arith, c.if-self-eq0.false) in
-    let first = s.goes.unnamed due (λ is. rw is at asked.0) in
     let names = names_few _ s.reader.stage s.reader.read s.reader.reads asked.0 in
     record {
       due = due;
       within = omega (arith, asked.1);
       looks = asked.1;
       made = λ m n got view next fits held performed after.
-          named_taken held due (all_sized held (g.met.M.Medium.sound m) fits) performed asked.2 first after.sizes_stay
-          (after.reading asked.0);
+          named_taken held due (all_sized held (g.met.M.Medium.sound m) fits) performed asked.2
+          (s.goes.unnamed due (λ is. rw is at asked.0)) after.sizes_stay (after.reading asked.0);
       refused = λ m n got view next e fits held performed gone. rw gone (untried held due performed);
       rest = less_read (surveys_left s.reader s.left s.place);
       pays = grind (arith, due, names);
@@ -38,8 +37,8 @@ returns-in-Some g c =
           grind (arith, due, names, next.goes.two, few, after.sizes_stay, after.reading asked.0);
     }
 
-pub returns : goal.returns
-returns g c =
+pub returns-clause-told : goal.returns-clause-told
+returns-clause-told g c =
     let s = c.args.self.now in
     let r = s.reader in
     let due : 0 < s.left = omega (arith, c.if-self-eq0.false) in
