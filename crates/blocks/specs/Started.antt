@@ -1,5 +1,6 @@
 -- How a store starts.
 use Rattle.std.specs.Prelude.{◌≡◌, ◌⊎◌, ℕ, ◌+◌, ◌*◌, ◌^◌, ◌<◌, ◌≤◌, Bool, true, false, [], min, max}
+use Rattle.std.specs.Prelude.{◌&&◌}
 use Rattle.medium.specs.Medium.{State, Image}
 use Rattle.medium.specs.Moments.{EachCut, LeavesOnly, IsFlushed}
 use Rattle.spec.specs.{Blocks.Array, Book.Book, Book.opened}
@@ -115,6 +116,8 @@ pub record LeavesMedium {M : Type 0} (state : M → State) (Follows : M → M �
   pub follows : Follows old new
   -- each read names a sector of the log
   pub looks : recovery.LooksAtLog (state old) (state new)
+  -- where no record waits, the super, the head, or what tells that the next record is not there
+  pub fresh_looks : recovery.LooksAtFresh (state old) (state new)
 
 -- The medium was recovered, and what a store on it keeps in memory was made.
 pub record MakesParts (keeping : Keeping) (before after : State) (sizes : Super) (cached : Cached)
@@ -122,11 +125,15 @@ pub record MakesParts (keeping : Keeping) (before after : State) (sizes : Super)
   pub started : IsStartedBy keeping before after cached
   pub kept : Invariant after.size sizes cached false false
 
--- A store that was started so, and that does not go ahead.
-pub record StartsPlain {M : Type 0} (keeping : Keeping) (state : M → State)
+-- A store that was started so, and that goes ahead where that was asked for and its log allows it.
+pub record StartsBy {M : Type 0} (keeping : Keeping) (ahead : Bool) (state : M → State)
     (Follows : M → M → Type 0) (medium : M) (store : StoreValue M) : Type 0 where
   pub started : IsStartedBy keeping (state medium) (state store.medium) store.cached
-  pub policy : store.goes_ahead ≡ false
+  pub policy : store.goes_ahead ≡ (ahead
+      && may_go_by (layout_of store.cached).format store.cached.log.ring)
+  pub filling : store.goes_ahead ≡ true → IsFilling store.cached.log
+  pub reaches : store.goes_ahead ≡ true → ReachesSteady store.cached.log
+  pub headroom : store.goes_ahead ≡ true → HasHeadroom store.cached.log
   pub leaves : LeavesMedium state Follows medium store.medium
 
 -- A store that was started as any, and that goes ahead where its log allows it. The ring that

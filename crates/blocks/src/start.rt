@@ -1,5 +1,5 @@
 //! How a store starts.
-ghost use Rattle.std.specs.Prelude.{◌≡◌, ◌⊎◌, ◌<◌, ◌≤◌, ◌^◌, ℕ, [], false, IfOk, IfErr};
+ghost use Rattle.std.specs.Prelude.{◌≡◌, ◌⊎◌, ◌<◌, ◌≤◌, ◌^◌, ◌&&◌, ℕ, [], false, IfOk, IfErr};
 ghost use Rattle.std.specs.Prelude.{MatchResult};
 ghost use Rattle.spec.specs.Blocks.{Array};
 ghost use Rattle.journal.specs.Places.{Shape, limit_of};
@@ -9,7 +9,7 @@ ghost use Rattle.recovery.specs.Causes.{IsDeviceFault};
 ghost use Rattle.blocks.specs.Ahead.{may_go_by};
 ghost use Rattle.blocks.specs.Started.{IsStarted, IsStartCause, LeavesMedium};
 ghost use Rattle.blocks.specs.Started.{StartsAhead, StartsKeeping, RefusesStart, MakesParts};
-ghost use Rattle.blocks.specs.Started.{started_log, StartsPlain};
+ghost use Rattle.blocks.specs.Started.{started_log, ring_by, StartsBy};
 
 use crate::{StartError, Store};
 use cache::{Batch, Frozen};
@@ -119,27 +119,35 @@ impl<M: Medium> Store<M> {
             (λ store. LeavesMedium M.state M.follows medium store.medium)
             (λ error. LeavesMedium M.state M.follows medium error.medium) }
     {
-        Store::started(alloc, medium, Keeping::ReadBack)
+        Store::started(alloc, medium, Keeping::ReadBack, false)
     }
 
-    // Starts a store that does not go ahead.
-    fn started(alloc: Global, medium: M, keeping: Keeping) -> Result<Store<M>, StartError<M>>
+    // Starts a store that goes ahead where that is asked for and its log allows it.
+    fn started(
+        alloc: Global,
+        medium: M,
+        keeping: Keeping,
+        ahead: bool,
+    ) -> Result<Store<M>, StartError<M>>
         ensures ok { IfOk result (λ store.
-            StartsPlain keeping M.state M.follows medium store) }
+            StartsBy keeping ahead M.state M.follows medium store) }
         ensures refused { IfErr result (λ error.
             RefusesStart M.state M.follows medium error.medium error.fault) }
     {
         let mut medium = medium;
         match Parts::recovered(alloc, &mut medium, keeping) {
-            Ok(parts) => Ok(Store {
-                medium,
-                sizes: parts.sizes,
-                log: parts.log,
-                active: parts.active,
-                frozen: parts.frozen,
-                writing: false,
-                goes_ahead: false,
-            }),
+            Ok(parts) => {
+                let goes_ahead = goes_ahead_by(&parts.sizes, keeping, ahead);
+                Ok(Store {
+                    medium,
+                    sizes: parts.sizes,
+                    log: parts.log,
+                    active: parts.active,
+                    frozen: parts.frozen,
+                    writing: false,
+                    goes_ahead,
+                })
+            }
             Err(fault) => Err(StartError { fault, medium }),
         }
     }
@@ -157,12 +165,7 @@ impl<M: Medium> Store<M> {
             (λ store. StartsAhead M.state M.follows medium store)
             (λ error. RefusesStart M.state M.follows medium error.medium error.fault) }
     {
-        let mut store = match Store::start(alloc, medium) {
-            Ok(store) => store,
-            Err(error) => return Err(error),
-        };
-        store.goes_ahead = may_go_by(&store.sizes, store.sizes.slots);
-        Ok(store)
+        Store::started(alloc, medium, Keeping::ReadBack, true)
     }
 
     /// Starts a store as `start_ahead` does, but one that keeps the bytes of the blocks of its
@@ -178,19 +181,24 @@ impl<M: Medium> Store<M> {
             (λ store. StartsKeeping M.state M.follows kept medium store)
             (λ error. RefusesStart M.state M.follows medium error.medium error.fault) }
     {
-        let mut store = match Store::started(alloc, medium, Keeping::Kept(kept)) {
-            Ok(store) => store,
-            Err(error) => return Err(error),
-        };
-        let ring = (kept as u64).max(1).min(store.sizes.slots);
-        store.goes_ahead = may_go_by(&store.sizes, ring);
-        Ok(store)
+        Store::started(alloc, medium, Keeping::Kept(kept), true)
     }
 }
 
-// Whether a store of a log with these sizes, in which so many records may stand, may go ahead.
-fn may_go_by(sizes: &Super, ring: u64) -> bool
-    ensures { result ≡ may_go_by sizes.now.format ring }
+// Whether a store goes ahead that is asked to, on a log with these sizes, whose records are kept
+// so.
+fn goes_ahead_by(sizes: &Super, keeping: Keeping, ahead: bool) -> bool
+    ensures { result ≡ (ahead && may_go_by sizes.now.format (ring_by keeping sizes.now.slots)) }
 {
-    sizes.format.flushes() == 1 && 3 <= ring
+    ahead && sizes.format.flushes() == 1 && 3 <= ring_by(keeping, sizes.slots)
+}
+
+// How many records may stand at once in a log of so many slots.
+fn ring_by(keeping: Keeping, slots: u64) -> u64
+    ensures { result ≡ ring_by keeping slots }
+{
+    match keeping {
+        Keeping::ReadBack => slots,
+        Keeping::Kept(count) => (count as u64).max(1).min(slots),
+    }
 }
