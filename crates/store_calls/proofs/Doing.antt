@@ -55,12 +55,13 @@ module _ {Room : Type 0} (old new : Machine) (free : IsCaughtUp old)
   waits before is = absurd (not_starting old.store.medium.outbox old.asked free.at_none free.none_waits
       (before (sym (ap (λ (s : Machine). s.starting) others) ∙ is)))
 
-  pub done_free : layout_of new.store.cached ≡ layout_of old.store.cached → IsDoneFree old new
-  done_free layout = record {
+  pub done_free : layout_of new.store.cached ≡ layout_of old.store.cached
+      → new.store.cached.log.keeps ≡ old.store.cached.log.keeps → IsDoneFree old new
+  done_free layout keeps = record {
     free = free;
     others = others;
     since = since;
-    goes_on = keeps_going old new layout appends.follows.room_stays appends.follows.near_stays waits;
+    goes_on = keeps_going old new layout keeps appends.follows.room_stays appends.follows.near_stays waits;
   }
 
   pub turn_serves : IsTurn (window.state_of old.store.medium) (window.state_of new.store.medium) old.store.cached new.store.cached
@@ -99,7 +100,8 @@ module _ (write : Write) (old new : Machine) (others : new ≡ record old { stor
         written = written;
         leaves = no_more;
         since = λ first since image left. rw same (since image (no_more image left));
-        goes_on = keeps_going old new turn.goes_on.layout_stays (ap (λ (w : Window). w.room) same) (ap (λ (w : Window). w.near) same)
+        goes_on = keeps_going old new turn.goes_on.layout_stays turn.goes_on.keeps_stays (ap (λ (w : Window). w.room) same)
+            (ap (λ (w : Window). w.near) same)
             (λ before is. (λ i. is_behind (asked_stays i) (same i).outbox) ∙ before (sym (ap (λ (s : Machine). s.starting) others) ∙ is));
         serves = λ book serves. record {
           fits = turn.fits book serves.fits;
@@ -144,6 +146,7 @@ read_safe old new address count others all =
       );
       fits = all.turn.fits;
       layout = ap (λ (s : Cached). layout_of s) all.keeps.stays;
+      keeps = ap (λ (s : Cached). s.log.keeps) all.keeps.stays;
       waits = λ before is. (λ i. is_behind (same i) (outbox i)) ∙ before (sym (ap (λ (s : Machine). s.starting) others) ∙ is);
     })
 
@@ -162,7 +165,7 @@ promises s free live none sees rest =
     → FitsBook (window.state_of s.store.medium) s.store.cached (promised book) = λ book fits. settles
     (none_of s.store.cached.frozen.numbers (omega (arith, none)))
     (none_of s.store.cached.active.numbers (omega (arith, none))) fits in record {
-      done = done_free s _ free refl (appends_none s.store s.store sees refl) refl;
+      done = done_free s _ free refl (appends_none s.store s.store sees refl) refl refl;
       live = live;
       written = none;
       same = refl;
@@ -182,7 +185,7 @@ puts_off aim old new free noted left writes =
     let short : IsShort old.store = omega (arith, ap (λ (l : List DeviceCall). length l) free.none_waits) in record {
       left = left;
       noted = note;
-      done = done_free old new free others writes.appends turn.goes_on.layout_stays;
+      done = done_free old new free others writes.appends turn.goes_on.layout_stays turn.goes_on.keeps_stays;
       writes = writes;
       some = some_made aim old.store new.store writes (record { left = left; short = short });
       serves = turn_serves old new free others writes.appends turn;

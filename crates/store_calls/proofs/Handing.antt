@@ -79,6 +79,7 @@ handed_stands old new count hands le = record {
   );
   fits = hands.untouched.turn.fits;
   layout = ap (λ (s : Cached). layout_of s) hands.untouched.cached;
+  keeps = ap (λ (s : Cached). s.log.keeps) hands.untouched.cached;
   waits = λ waits is. ap (λ (s : Machine). is_behind s.asked s.store.medium.outbox) hands.others;
 }
 

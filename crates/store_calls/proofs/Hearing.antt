@@ -42,6 +42,7 @@ given_up_stands old new count was given_up =
       );
       fits = given_up.refused.fits;
       layout = ap (λ (s : Store). layout_of s.cached) given_up.refused.others;
+      keeps = ap (λ (s : Store). s.cached.log.keeps) given_up.refused.others;
       waits = λ waits is. absurd (false≢true (sym (ap (λ (s : Machine). s.starting) given_up.others) ∙ is));
     }
 
@@ -96,6 +97,7 @@ shown_safe old new home bytes was shown held =
       reaches = as_far old new home was now sent.1;
       fits = (shown.sees.untouched held).turn.fits;
       layout = ap (λ (s : Cached). layout_of s) shown.sees.cached;
+      keeps = ap (λ (s : Cached). s.log.keeps) shown.sees.cached;
       waits = no_call old new home was now (ap (λ (s : Machine). s.starting) shown.others) sent.2;
     })
 

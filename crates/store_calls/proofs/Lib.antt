@@ -1,3 +1,4 @@
+pub mod Sighted
 pub mod Served
 pub mod Stepping
 pub mod WrittenBack

@@ -1,11 +1,11 @@
 -- The room of a store is enough, and what is read is in sight.
-use Rattle.std.proofs.Common.{◌≡◌, ◌<◌, ◌≤◌, ◌+◌, ℕ, true, length, inl, inr, refl, sym, ◌∙◌, false, arith}
+use Rattle.std.proofs.Common.{◌≡◌, ◌<◌, ◌≤◌, ◌+◌, ℕ, true, length, inl, inr, refl, sym, ◌∙◌, ap, false, arith}
 use Rattle.std.proofs.lemmas.Bool.{false≢true}
-use Rattle.journal.specs.Places.{first_home}
+use Rattle.journal.specs.Places.{Shape, first_home}
 use Rattle.journal.specs.declared.log_format.LogFormat.TheVariants.{Two}
 use Rattle.medium.specs.Medium.{LooksOnly}
 use Rattle.medium.specs.Sent.{sent, SendsUpTo}
-use Rattle.recovery.specs.Calls.{most_start_sends}
+use Rattle.recovery.specs.Calls.{most_start_sends, IsReadOfFresh}
 use Rattle.recovery.specs.Recovered.{RecoverySends}
 use Rattle.window.specs.Window.{Window, state_of, is_in_sight, ComesAfter, IsServed}
 use Rattle.window.specs.WindowLaws.{comes_after_itself}
@@ -19,11 +19,22 @@ use Rattle.blocks.specs.declared.fault.StoreFault.TheVariants.{ReadFault, Dead}
 use Rattle.store_calls.specs.Stores.{Store}
 use Rattle.store_calls.specs.Rooms.{RefusesNothing, Foresees, TakesCalls, HoldsLog, Appends}
 use Rattle.window.specs.Sight.{AreInSight}
-use Rattle.store_calls.specs.Rooms.{HasRoomToStart, StartRefusesNothing}
+use Rattle.store_calls.specs.Rooms.{HasRoomToStart, SeesStart, StartRefusesNothing}
 use Rattle.blocks.proofs.SectorsRead.{none}
 
 fits_in : (waits before after told room : ℕ) → after ≤ before + told → waits + told ≤ room → waits + after ≤ before + room
 fits_in waits before after told room calls fits = omega (arith, calls, fits)
+
+-- what a log may read back is in sight, where it holds its log
+pub log_in_sight : (s : Store) → HoldsLog s → (sector : ℕ) → IsReadBack s.cached.log sector → is_in_sight s.medium sector ≡ true
+log_in_sight s (inl keeps) sector back = absurd (false≢true (sym back.0 ∙ keeps))
+log_in_sight s (inr low) sector back = near_in_sight s.medium sector (omega (arith, back.1, low))
+
+-- it holds it as long as the layout and the first sectors stay, and whether the log keeps its blocks
+pub holds_on : (old new : Store) → new.cached.log.keeps ≡ old.cached.log.keeps → layout_of new.cached ≡ layout_of old.cached
+    → new.medium.near ≡ old.medium.near → HoldsLog old → HoldsLog new
+holds_on old new keeps layout near (inl kept) = inl (keeps ∙ kept)
+holds_on old new keeps layout near (inr low) = inr (omega (arith, low, near, ap (λ (s : Shape). first_home s) layout))
 
 -- what leaves no write, no flush and no read refused, where each named a sector that was in sight
 refuses_nothing : (P : ℕ → Type 0) (Room Sight : Type 0) (old new : Window) → ComesAfter old new → IsServed old new
@@ -56,7 +67,7 @@ pub appends_log : (most : ℕ) (old new : Store) → Foresees old.medium → Com
     → LooksAtLog (state_of old.medium) (state_of new.medium) old.cached → Appends (TakesCalls most old) old new
 appends_log most old new sees follows sends named =
     appends (IsReadBack old.cached.log) most old new sees follows sends named
-    (λ log s low. near_in_sight old.medium s (omega (arith, low.1, log)))
+    (log_in_sight old)
 
 -- one that makes no call of the medium
 pub appends_none : (old new : Store) → Foresees old.medium → new.medium ≡ old.medium → Appends (TakesCalls 0 old) old new
@@ -66,7 +77,7 @@ appends_none old new sees same = appends_log 0 old new sees
 -- a sector of the log, or the home of one of these blocks, is in sight
 log_or_home : (old : Store) (address count : ℕ) → AreInSight old.medium (first_home (layout_of old.cached) + address) count
     → HoldsLog old → (s : ℕ) → IsReadFor old.cached address count s → is_in_sight old.medium s ≡ true
-log_or_home old address count seen log s (inl low) = near_in_sight old.medium s (omega (arith, low.1, log))
+log_or_home old address count seen log s (inl back) = log_in_sight old log s back
 log_or_home old address count seen log s (inr at) = seen s at.0 at.1
 
 -- one that reads these blocks
@@ -97,15 +108,32 @@ fits_start first after empty sends (inr all) =
     fits_in (length first.outbox) (sent (state_of first)) (sent (state_of after)) (most_start_sends Two 64) first.room sends.any
     (omega (arith, empty, all))
 
+-- a start that sees whatever it reads has no read refused
+pub start_sees : (first after : Window) → LeavesMedium state_of ComesAfter first after → SeesStart first
+    → after.seen.told.refused.reads ≡ first.seen.told.refused.reads
+start_sees first after leaves (inl log) =
+    none_missed (λ s. s < first.near) first after leaves.follows (near_in_sight first) (leaves.looks first.near log)
+start_sees first after leaves (inr fresh) =
+    none_missed (IsReadOfFresh fresh.shape fresh.next) first after leaves.follows fresh.sees
+    (leaves.fresh_looks fresh.shape fresh.array fresh.next fresh.fresh)
+
+-- and no call, where they have room
+start_served : (first after : Window) → LeavesMedium state_of ComesAfter first after → IsServed first after
+    → length first.outbox + sent (state_of after) ≤ sent (state_of first) + first.room → SeesStart first
+    → (state_of after).failures ≡ (state_of first).failures
+start_served first after leaves served few (inl log) =
+    none_refused (λ s. s < first.near) first after served (near_in_sight first) (leaves.looks first.near log) few
+start_served first after leaves served few (inr fresh) =
+    none_refused (IsReadOfFresh fresh.shape fresh.next) first after served fresh.sees
+    (leaves.fresh_looks fresh.shape fresh.array fresh.next fresh.fresh) few
+
 module _ (first after : Window) (empty : length first.outbox ≡ 0) (leaves : LeavesMedium state_of ComesAfter first after) where
   fits : HasRoomToStart first → length first.outbox + sent (state_of after) ≤ sent (state_of first) + first.room
   fits = fits_start first after empty leaves.moments.sends
 
   pub start_refuses : IsServed first after → StartRefusesNothing first after
-  start_refuses served =
-      let near = first.near in record {
-        kept = λ room. none_kept_out first after leaves.follows (fits room);
-        seen = λ log. none_missed (λ s. s < near) first after leaves.follows (near_in_sight first) (leaves.looks near log);
-        none = λ room log. none_refused (λ s. s < near) first after served (near_in_sight first) (leaves.looks near log)
-            (fits room);
-      }
+  start_refuses served = record {
+    kept = λ room. none_kept_out first after leaves.follows (fits room);
+    seen = start_sees first after leaves;
+    none = λ room. start_served first after leaves served (fits room);
+  }

@@ -8,7 +8,7 @@ use Rattle.window.specs.Story.{Told}
 use Rattle.window.specs.declared.call.DeviceCall.{DeviceCall}
 use Rattle.window.specs.Window as window
 use Rattle.window.specs.Window.{Window, mirror_of}
-use Rattle.journal.specs.Places.{Shape, first_home}
+use Rattle.journal.specs.Places.{Shape}
 use Rattle.spec.specs.Book.{Book}
 use Rattle.blocks.specs.StoreValue.{FitsBook, layout_of}
 use Rattle.store_calls.specs.Rooms.{room_for}
@@ -16,6 +16,7 @@ use Rattle.store_calls.specs.Serving.{StaysSafe, KeepsGoing, WaitsForDevice, Lea
 use Rattle.store_calls.specs.StoreMachine.{Machine, carried, is_behind, under_way}
 use Rattle.store_calls.specs.Stores.{Store}
 use Rattle.window.specs.declared.asked.Asked.{Asked}
+use Rattle.store_calls.proofs.Served.{holds_on}
 
 -- what was sent stays, however much of it has left the outbox
 pub record IsSentStill (old new : Window) : Type 0 where
@@ -45,16 +46,17 @@ pub record Stands (old new : Machine) : Type 0 where
   pub fits : (book : Book) → FitsBook (window.state_of old.store.medium) old.store.cached book
       → FitsBook (window.state_of new.store.medium) new.store.cached book
   pub layout : layout_of new.store.cached ≡ layout_of old.store.cached
+  pub keeps : new.store.cached.log.keeps ≡ old.store.cached.log.keeps
   pub waits : WaitsForDevice old → WaitsForDevice new
 
 -- the outbox has room as before, and the log lies in memory as before
 pub keeps_going : (old new : Machine) → layout_of new.store.cached ≡ layout_of old.store.cached
-    → new.store.medium.room ≡ old.store.medium.room → new.store.medium.near ≡ old.store.medium.near
-    → (WaitsForDevice old → WaitsForDevice new) → KeepsGoing old new
-keeps_going old new layout room near waits = record {
+    → new.store.cached.log.keeps ≡ old.store.cached.log.keeps → new.store.medium.room ≡ old.store.medium.room
+    → new.store.medium.near ≡ old.store.medium.near → (WaitsForDevice old → WaitsForDevice new) → KeepsGoing old new
+keeps_going old new layout keeps room near waits = record {
   waits = waits;
   roomy = λ fits. omega (arith, fits, room, ap (λ (s : Shape). room_for s) layout);
-  log = λ holds. omega (arith, holds, near, ap (λ (s : Shape). first_home s) layout);
+  log = holds_on old.store new.store keeps layout near;
 }
 
 module _ (old new : Machine) (stands : Stands old new) where
@@ -83,7 +85,7 @@ module _ (old new : Machine) (stands : Stands old new) where
     serves = serves_still;
     leaves = leaves_no_more;
     since = since_still;
-    goes_on = keeps_going old new stands.layout stands.sent.room stands.sent.near stands.waits;
+    goes_on = keeps_going old new stands.layout stands.keeps stands.sent.room stands.sent.near stands.waits;
   }
 
 -- the store stays, and the device told no fewer done
@@ -94,6 +96,7 @@ store_stays old new same reaches waits = record {
   reaches = reaches;
   fits = λ book fits. rw same fits;
   layout = ap (λ (s : Store). layout_of s.cached) same;
+  keeps = ap (λ (s : Store). s.cached.log.keeps) same;
   waits = waits;
 }
 

@@ -1,21 +1,19 @@
 -- A start of a store, good or refused.
-use Rattle.std.proofs.Common.{◌≡◌, ◌≢◌, ◌⊎◌, inl, inr, ◌<◌, ◌+◌, length, subst, arith}
+use Rattle.std.proofs.Common.{◌≡◌, ◌≢◌, ◌⊎◌, inl, inr, ℕ, ◌<◌, ◌+◌, length, subst, arith}
 use Rattle.medium.specs.Sent.{sent}
 use Rattle.medium.specs.declared.fault.MediumFault.TheVariants as kind
 use Rattle.medium.specs.declared.fault.MediumFault.{MediumFault}
 use Rattle.window.specs.Window.{Window, state_of, kept_out, ComesAfter, CoversDevice, IsServed}
 use Rattle.window.specs.WindowLaws.{is_sound}
-use Rattle.window.specs.Looks.{near_in_sight, none_missed}
 use Rattle.recovery.specs.Causes.{start_fault_of}
 use Rattle.recovery.specs.declared.start_fault.StartFault.{StartFault}
 use Rattle.recovery.specs.declared.start_fault.StartFault.TheVariants as fault
-use Rattle.blocks.specs.Started.{IsStarted, IsStartCause, StartLeaves, LeavesMedium, StartsAhead}
-use Rattle.blocks.specs.StoreValue.{layout_of}
+use Rattle.blocks.specs.Started.{IsStartCause, StartLeaves, LeavesMedium, StartsKeeping}
 use Rattle.blocks.proofs.KnownImages.{each_ours, finds, is_cause_for}
 use Rattle.store_calls.specs.Stores.{Store}
-use Rattle.store_calls.specs.Rooms.{CoversParts, HoldsImageLog, HoldsLog, IsRoomy}
+use Rattle.store_calls.specs.Rooms.{CoversParts, SeesStart, IsRoomy}
 use Rattle.store_calls.specs.Starts.{Begins, EndsIn}
-use Rattle.store_calls.proofs.Served.{start_refuses}
+use Rattle.store_calls.proofs.Served.{start_refuses, start_sees}
 
 -- in the words of books
 start_leaves : (first after : Window) → LeavesMedium state_of ComesAfter first after → StartLeaves (state_of first) (state_of after)
@@ -27,17 +25,9 @@ start_leaves first after medium = record {
   bounded = medium.moments;
 }
 
--- the first sectors that held the log hold it still
-holds_log : (first : Window) (new : Store) → IsStarted (state_of first) (state_of new.medium) new.cached
-    → ComesAfter first new.medium → HoldsImageLog first → HoldsLog new
-holds_log first new started follows holds =
-    let stood = started.stood in
-    let below = holds.log (layout_of new.cached) (record { super = stood.keeps.super; fits = stood.fits }) in
-    omega (arith, below, follows.near_stays)
-
-pub began : (first : Window) (new : Store) → length first.outbox ≡ 0 → StartsAhead state_of ComesAfter first new
-    → CoversDevice first new.medium → CoversParts first new.medium → IsServed first new.medium → IsRoomy new → Begins first new
-began first new empty starts covers parts served roomy = record {
+pub began : (first : Window) (kept : ℕ) (new : Store) → length first.outbox ≡ 0 → StartsKeeping state_of ComesAfter kept first new
+    → CoversDevice first new.medium → CoversParts first new.medium → IsServed first new.medium → IsRoomy new → Begins first kept new
+began first kept new empty starts covers parts served roomy = record {
   started = starts.started;
   leaves = start_leaves first new.medium starts.leaves;
   medium = starts.leaves;
@@ -45,7 +35,9 @@ began first new empty starts covers parts served roomy = record {
   parts = parts;
   served = served;
   refuses = start_refuses first new.medium empty starts.leaves served;
-  holds = holds_log first new starts.started starts.leaves.follows;
+  keeps = starts.keeps;
+  ring = starts.ring;
+  holds = inl starts.keeps;
   roomy = roomy;
   policy = starts.policy;
   headroom = starts.headroom;
@@ -78,12 +70,12 @@ module _ (first after : Window) (empty : length first.outbox ≡ 0) (medium : Le
     medium.moments.moments.refused_stay kind.Write,
   ))
 
-  -- each sector that was read lies in memory
-  sighted : (why : StartFault) → IsStartCause (state_of first) (state_of after) why → HoldsImageLog first → why ≢ fault.Read
-  sighted why cause log is = absurd (omega (
+  -- each sector that was read is in sight
+  sighted : (why : StartFault) → IsStartCause (state_of first) (state_of after) why → SeesStart first → why ≢ fault.Read
+  sighted why cause sees is = absurd (omega (
     arith,
     grew kind.Read (subst (IsStartCause (state_of first) (state_of after)) is cause),
-    none_missed (λ s. s < first.near) first after medium.follows (near_in_sight first) (medium.looks first.near log),
+    start_sees first after medium sees,
   ))
 
   pub ends_in : (why : StartFault) → IsStartCause (state_of first) (state_of after) why → IsServed first after → EndsIn first after why

@@ -1,5 +1,5 @@
 -- Steps of a store in the background, one after the other.
-use Rattle.std.proofs.Common.{◌≡◌, ◌*◌, ◌+◌, ℕ, suc, Bool, true, false, refl, sym, ◌∙◌, ap, subst, arith}
+use Rattle.std.proofs.Common.{◌≡◌, ◌*◌, ◌+◌, ℕ, suc, Bool, true, false, refl, sym, ◌∙◌, subst, arith}
 use Rattle.std.proofs.lemmas.Bool.{false≢true}
 use Rattle.blocks.specs.Passing.{PassesOn}
 use Rattle.blocks.specs.StoreValue.{is_dead}
@@ -7,13 +7,13 @@ use Rattle.blocks.specs.Turns.{IsTurn}
 use Rattle.blocks.proofs.SectorsRead.{none, looks_on}
 use Rattle.blocks.proofs.TurnsJoined.{stays, turns}
 use Rattle.blocks.specs.declared.work.Work.{Work}
-use Rattle.journal.specs.Places.{Shape, first_home}
 use Rattle.window.specs.Window.{state_of, ComesAfter}
 use Rattle.window.specs.WindowLaws.{is_sound, comes_after_itself, comes_after_through}
 use Rattle.store_calls.specs.Calls.{IsStep}
 use Rattle.store_calls.specs.Idling.{AreSteps, IsShort}
 use Rattle.store_calls.specs.Rooms.{Appends, Foresees, IsRoomy, HasRoom, HoldsLog}
 use Rattle.store_calls.specs.Stores.{Store}
+use Rattle.store_calls.proofs.Served.{holds_on}
 
 -- no step
 pub none_made : (May : Store → Type 0) (work : Work) (s : Store) → AreSteps May work 0 s s
@@ -60,12 +60,9 @@ module _ (May : Store → Type 0) (work : Work) (count : ℕ) (old mid new : Sto
   room roomy = omega (arith, roomy, short, made.passes.follows.room_stays)
 
   log : HoldsLog old → HoldsLog mid
-  log holds = omega (
-    arith,
-    holds,
-    made.passes.follows.near_stays,
-    ap (λ (s : Shape). first_home s) made.passes.turn.goes_on.layout_stays,
-  )
+  log =
+      let on = made.passes.turn.goes_on in
+      holds_on old mid on.keeps_stays on.layout_stays made.passes.follows.near_stays
 
   pub one_more : AreSteps May work (count + 1) old new
   one_more =

@@ -58,7 +58,7 @@ pub record IsRead (address count : ℕ) (old : Store) (filled : List ℕ) (new :
       → filled ≡ blocks_at (array_of book) address count
   pub all : KeepsAll address count old new
 
--- a sector of the log is not in memory
+-- a sector of the log is read back, and not in memory
 pub record IsUnread (address count : ℕ) (old new : Store) : Type 0 where
   pub unseen : ¬ HoldsLog old
   pub all : KeepsAll address count old new

@@ -1,6 +1,7 @@
 pub mod StoreRow
 pub mod Stores
 pub mod Supers
+pub mod Sights
 pub mod Rooms
 pub mod Outbox
 pub mod Starts

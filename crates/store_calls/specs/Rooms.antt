@@ -1,17 +1,18 @@
 -- Nothing that a store asks of its medium is refused: no write and no flush for want of room, and
 -- no read of a sector that is not in sight.
-use Rattle.std.specs.Prelude.{◌≡◌, ◌⊎◌, ℕ, ◌+◌, ◌≤◌, length}
+use Rattle.std.specs.Prelude.{◌≡◌, ◌⊎◌, ℕ, ◌+◌, ◌≤◌, length, true}
 use Rattle.journal.specs.Places.{Shape, first_home, sectors_of}
 use Rattle.journal.specs.Sectors.{IsSuper}
 use Rattle.journal.specs.declared.log_format.LogFormat.{LogFormat}
 use Rattle.journal.specs.declared.log_format.LogFormat.TheVariants.{Two}
 use Rattle.medium.specs.Medium.{State}
+use Rattle.spec.specs.Blocks.{Array}
 use Rattle.window.specs.Parts as mirror
-use Rattle.recovery.specs.Calls.{most_start_sends}
+use Rattle.recovery.specs.Calls.{most_start_sends, IsFresh, IsReadOfFresh}
 use Rattle.recovery.specs.Calls as recovery
 use Rattle.recovery.specs.Recovered.{HasNoneWaiting}
 use Rattle.window.specs.Window.{Window, state_of, mirror_of, kept_out, ComesAfter}
-use Rattle.window.specs.Window.{CoversDevice, IsServed}
+use Rattle.window.specs.Window.{CoversDevice, IsServed, is_in_sight}
 -- handed on to the layers above
 pub use Rattle.blocks.specs.Sent.{most_sent}
 use Rattle.blocks.specs.StoreValue.{layout_of}
@@ -70,9 +71,11 @@ HasRoom s = TakesCalls step_sends s
 abbrev pub IsRoomy : Store → Type 0
 IsRoomy s = room_for (layout_of s.cached) ≤ s.medium.room
 
--- all sectors before the first home sector lie in memory
+-- the log keeps its blocks and is never read back, or all sectors before the first home sector lie
+-- in memory
 abbrev pub HoldsLog : Store → Type 0
-HoldsLog s = first_home (layout_of s.cached) ≤ s.medium.near
+HoldsLog s =
+    (s.cached.log.keeps ≡ true) ⊎ (first_home (layout_of s.cached) ≤ s.medium.near)
 
 -- All that a call gave to the device is appended to the outbox. Wherever in it the device is, and
 -- whichever of the writes behind its last flush it has carried out, a cut of it leaves what a cut
@@ -105,7 +108,20 @@ HasRoomToStart first =
 abbrev pub HoldsImageLog : Window → Type 0
 HoldsImageLog first = recovery.HoldsLog first.near (state_of first).size (state_of first).content
 
+-- No record waits in the image, and the sectors are in sight that a start reads of it then: the
+-- super, the head, and those of the slot of the next record that tell that this is not there.
+pub record SeesFresh (first : Window) : Type 0 where
+  pub shape : Shape
+  pub array : Array
+  pub next : ℕ
+  pub fresh : IsFresh shape array next (state_of first).content
+  pub sees : (s : ℕ) → IsReadOfFresh shape next s → is_in_sight first s ≡ true
+
+-- a start sees whatever it reads
+abbrev pub SeesStart : Window → Type 0
+SeesStart first = HoldsImageLog first ⊎ SeesFresh first
+
 -- no start misses: none has a call refused, good or refused itself
 abbrev pub StartRefusesNothing : Window → Window → Type 0
 StartRefusesNothing first after =
-    RefusesNothing (HasRoomToStart first) (HoldsImageLog first) first after
+    RefusesNothing (HasRoomToStart first) (SeesStart first) first after

@@ -51,8 +51,8 @@ pub record BeginsOver (store : Store) (new : Machine) : Type 0 where
   pub rests : Rests new
   pub waits : WaitsForDevice new
 
--- the outbox has room for what steps leave there, and the sectors before the first home sector lie
--- in memory: so a start leaves it
+-- the outbox has room for what steps leave there, and the log or the sectors before the first home
+-- sector lie in memory: so a start leaves it
 pub record KeepsGoing (old new : Machine) : Type 0 where
   pub waits : WaitsForDevice old → WaitsForDevice new
   pub roomy : IsRoomy old.store → IsRoomy new.store

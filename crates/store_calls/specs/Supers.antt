@@ -1,8 +1,8 @@
 -- The super with which the first sectors of a device begin, and what is reserved by it.
-use Rattle.std.specs.Prelude.{◌≡◌, ℕ, ◌≤◌, List, length, Option, Some, None}
+use Rattle.std.specs.Prelude.{◌≡◌, ℕ, ◌≤◌, List, length, Option, Some, None, min}
 use Rattle.medium.specs.Writes.{sector_of}
 use Rattle.journal.specs.Formats.{shape_of}
-use Rattle.journal.specs.Places.{Shape, limit_of}
+use Rattle.journal.specs.Places.{Shape, slot_sectors_of}
 use Rattle.journal.specs.Sectors.{IsSuper}
 use Rattle.journal.specs.declared.log_format.LogFormat.{LogFormat}
 use Rattle.journal.specs.declared.super_sector.Super.{Super}
@@ -24,10 +24,15 @@ abbrev pub FindsSuper : List ℕ → Option Super → Type 0
 FindsSuper near (Some sizes) = IsTheSuper near (shape_of sizes)
 FindsSuper near None = ¬ HasSuper near
 
--- By it, as many sectors are shown at a time as one read has at most, and the outbox has the room
--- that its format wants; where there is none, nothing is shown, and there is this room.
+-- how many sectors are shown at a time at most: those of a slot, which a start is shown, as far as
+-- one call of the device reads them, and so those of a read
+abbrev pub span_of : LogFormat → ℕ
+span_of format = min (slot_sectors_of format) 240
+
+-- By it, as many sectors are shown at a time as its format wants, and the outbox has the room
+-- that it wants; where there is none, nothing is shown, and there is this room.
 pub record Reserves (room_of : LogFormat → ℕ) (least : ℕ) (near : List ℕ) (span room : ℕ)
     : Type 0 where
   pub image : (shape : Shape) → IsSuperOf near shape
-      → (span ≡ limit_of shape.format) × (room ≡ room_of shape.format)
+      → (span ≡ span_of shape.format) × (room ≡ room_of shape.format)
   pub none : ¬ HasSuper near → (span ≡ 0) × (room ≡ least)

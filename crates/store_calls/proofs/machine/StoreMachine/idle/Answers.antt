@@ -12,7 +12,7 @@ returns c =
     let new : Machine = record c.args.self.now { store = c.make_steps.new.store } in inr (
       rests,
       refl,
-      done_free c.args.self.now new rests.caught_up refl makes.appends turn.goes_on.layout_stays,
+      done_free c.args.self.now new rests.caught_up refl makes.appends turn.goes_on.layout_stays turn.goes_on.keeps_stays,
       c.make_steps.ensures,
       turn_serves c.args.self.now new rests.caught_up refl makes.appends turn,
     )

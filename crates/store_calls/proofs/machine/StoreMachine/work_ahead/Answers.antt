@@ -11,7 +11,7 @@ returns-then-is_idle c =
     let new : Machine = record c.args.self.now { store = c.work_at_rest.new.store } in inr (
       rests,
       refl,
-      done_free c.args.self.now new rests.caught_up refl works.appends works.turn.goes_on.layout_stays,
+      done_free c.args.self.now new rests.caught_up refl works.appends works.turn.goes_on.layout_stays works.turn.goes_on.keeps_stays,
       works,
       turn_serves c.args.self.now new rests.caught_up refl works.appends works.turn,
     )
