@@ -3,6 +3,8 @@ pub mod Carrying
 pub mod Handing
 pub mod Stepped
 pub mod Until
+pub mod ReadBeside
+pub mod FreshRead
 pub mod Kept
 pub mod Recoveries
 pub mod Laid

@@ -6,6 +6,7 @@
 
 mod asked;
 mod asking;
+mod beside;
 mod carried;
 mod device;
 mod going;

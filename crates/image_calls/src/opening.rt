@@ -1,33 +1,44 @@
-//! The first sectors of a device are read.
+//! The first sectors of a device are read, and others beside them.
 ghost use Rattle.std.specs.Prelude.{◌≡◌, ◌≢◌, ◌<◌, ◌≤◌, ◌*◌, ◌/◌, ◌++◌, ◌+◌, ◌↔◌, length};
-ghost use Rattle.std.specs.Prelude.{IsTrue, take};
+ghost use Rattle.std.specs.Prelude.{IsTrue, take, IfSome, IfNone};
 ghost use Rattle.image_calls.specs.Reading.{unread, IsSound, IsWhole, AsksToRead, HasRead};
-ghost use Rattle.image_calls.specs.Reading.{IsUntil, TakesRead, left};
+ghost use Rattle.image_calls.specs.Reading.{IsUntil, TakesRead, TakesFirstRead, AreNextFirst};
+ghost use Rattle.image_calls.specs.Reading.{left, first_of, IsNext};
 ghost use Rattle.image_calls.specs.Room.{MakesRoom};
 
+use crate::beside::beside_of;
 use crate::near::near_in;
 use crate::reach::Reach;
 use crate::read_end::ReadEnd;
 use std::alloc::Global;
 use std::marker::Model;
+use store_calls::Sight;
 use window::{DeviceAsk, DeviceRead, DoneFault, SECTOR};
 
 // How many sectors are read at a time at most.
-const MOST: u64 = 240;
+const MOST: u32 = 240;
 
-/// The first sectors of a device, which are read a run at a time, from sector 0 on.
+/// The first sectors of a device, which are read a run at a time, from sector 0 on; and then those
+/// beside them that these tell, where a start reads no further.
 #[derive(Drop)]
 pub struct Opening {
     alloc: Global,
-    // Room for all that is read, once sector 0 is: what was read lies at its front.
+    // Room for all that is read from sector 0 on, once that is: what was read lies at its front.
     bytes: Vec<u8>,
     // How many sectors were read.
     read: u64,
+    // Room for all that is read beside, once it is known: what was read lies at its front.
+    beside: Vec<u8>,
+    // How many of these were read.
+    taken: u64,
     // How many sectors the device has.
     sectors: u64,
     reach: Reach,
-    // How many sectors are read in all, as far as it is known.
+    // How many sectors are read from sector 0 on, as far as it is known.
     until: u64,
+    // From which sector on others are read, and how many.
+    at: u64,
+    more: u64,
     // How many the device is reading.
     asked: u32,
 }
@@ -53,9 +64,13 @@ impl Opening {
             alloc,
             bytes: Vec::new(alloc),
             read: 0,
+            beside: Vec::new(alloc),
+            taken: 0,
             sectors,
             reach,
-            until: sectors.min(1),
+            until: first_of(reach).min(sectors),
+            at: 0,
+            more: 0,
             asked: 0,
         }
     }
@@ -81,14 +96,14 @@ impl Opening {
         requires { 0 < room }
         ensures { AsksToRead self.old room result self.new }
     {
-        let left = self.left();
-        if self.asked != 0 || left == 0 {
+        let next = self.to_read();
+        if self.asked != 0 || next.count == 0 {
             return DeviceAsk::Nothing;
         }
-        let count = room.min(left.min(MOST)) as u32;
+        let count = room.min(u64::from(next.count.min(MOST))) as u32;
         self.asked = count;
         DeviceAsk::Read(DeviceRead {
-            first: self.read,
+            first: next.first,
             count,
         })
     }
@@ -118,7 +133,25 @@ impl Opening {
         ensures is { result ≡ left self.now }
         ensures sound { IsSound self.now }
     {
-        self.until - self.read
+        self.until - self.read + (self.more - self.taken)
+    }
+
+    // All that is left to read in one row: of the first sectors, and of the others where none of
+    // these is left.
+    fn to_read(&self) -> DeviceRead
+        ensures { IsNext self.now result.first result.count }
+    {
+        if self.read < self.until {
+            DeviceRead {
+                first: self.read,
+                count: (self.until - self.read) as u32,
+            }
+        } else {
+            DeviceRead {
+                first: self.at + self.taken,
+                count: (self.more - self.taken) as u32,
+            }
+        }
     }
 
     // A good read of these bytes has ended.
@@ -129,21 +162,44 @@ impl Opening {
         if bytes.len() != SECTOR * self.asked as usize {
             return Err(DoneFault::BadLength);
         }
-        let until = self.until_with(bytes);
-        if !make_room(self.alloc, &mut self.bytes, self.read, until) {
-            return Ok(ReadEnd::NoMemory);
+        if self.read < self.until {
+            return Ok(self.take_first(bytes));
         }
-        put(&mut self.bytes, self.read as usize * SECTOR, bytes);
-        self.until = until;
-        self.read += u64::from(self.asked);
+        put(&mut self.beside, self.taken as usize * SECTOR, bytes);
+        self.taken += u64::from(self.asked);
         self.asked = 0;
         Ok(ReadEnd::Taken)
     }
 
-    // How many sectors are read in all, where these bytes are those that are read next.
+    // These bytes are the next of the first sectors. Where there is no memory for what they tell,
+    // they are not read.
+    fn take_first(&mut self, bytes: &[u8]) -> ReadEnd
+        requires { AreNextFirst self.old bytes.now }
+        ensures { TakesFirstRead self.old bytes.now result self.new }
+    {
+        let until = self.until_with(bytes);
+        if !make_room(self.alloc, &mut self.bytes, self.read, until) {
+            return ReadEnd::NoMemory;
+        }
+        put(&mut self.bytes, self.read as usize * SECTOR, bytes);
+        let read = self.read + u64::from(self.asked);
+        let near = &self.bytes[..read as usize * SECTOR];
+        let others = beside_of(self.reach, self.sectors, near);
+        let Some(room) = room_for(self.alloc, others.count) else {
+            return ReadEnd::NoMemory;
+        };
+        self.beside = room;
+        self.at = others.first;
+        self.more = u64::from(others.count);
+        self.until = until;
+        self.read = read;
+        self.asked = 0;
+        ReadEnd::Taken
+    }
+
+    // How many sectors are read from sector 0 on, where these bytes are those that are read next.
     fn until_with(&self, bytes: &[u8]) -> u64
-        requires asked { self.now.asked ≢ 0 }
-        requires sized { length bytes.now ≡ 512 * self.now.asked }
+        requires { AreNextFirst self.now bytes.now }
         ensures is { IsUntil self.now.reach self.now.sectors (self.now.near ++ bytes.now) result }
         ensures few { result ≤ 16384 }
         ensures within { length (self.now.near ++ bytes.now) / 512 ≤ result }
@@ -153,18 +209,38 @@ impl Opening {
             return self.until;
         }
         match self.reach {
-            Reach::First => self.until,
+            Reach::First | Reach::Start => self.until,
             Reach::Near => near_in(bytes).min(self.sectors),
         }
     }
 
-    /// What was read.
+    /// What was read of the first sectors.
     pub fn into_near(self) -> Vec<u8>
         ensures { result.items ≡ self.near }
     {
-        let mut bytes = self.bytes;
-        bytes.truncate(self.read as usize * SECTOR);
-        bytes
+        front_of(self.bytes, self.read)
+    }
+
+    /// What was read.
+    pub fn into_sight(self) -> Sight
+        ensures { (result.near.items ≡ self.near) × (result.at ≡ self.at)
+            × (result.beside.items ≡ self.beside) }
+    {
+        Sight {
+            near: front_of(self.bytes, self.read),
+            at: self.at,
+            beside: front_of(self.beside, self.taken),
+        }
+    }
+}
+
+// How many sectors are read from sector 0 on before that tells more.
+fn first_of(reach: Reach) -> u64
+    ensures { result ≡ first_of reach }
+{
+    match reach {
+        Reach::First | Reach::Near => 1,
+        Reach::Start => 2,
     }
 }
 
@@ -183,10 +259,32 @@ fn make_room(alloc: Global, bytes: &mut Vec<u8>, read: u64, until: u64) -> bool
     true
 }
 
+// Room for so many sectors, if there is memory. None takes none.
+fn room_for(alloc: Global, count: u32) -> Option<Vec<u8>>
+    requires { count ≤ 16384 }
+    ensures some { IfSome result (λ room. length room.items ≡ 512 * count) }
+    ensures none { IfNone result (count ≢ 0) }
+{
+    if count == 0 {
+        return Some(Vec::new(alloc));
+    }
+    vec![in alloc; 0u8; count as usize * SECTOR].ok()
+}
+
 // Copies these bytes behind the first ones.
 fn put(bytes: &mut [u8], at: usize, more: &[u8])
     requires { at + length more.now ≤ length bytes.old }
     ensures { take (at + length more.now) bytes.new ≡ take at bytes.old ++ more.now }
 {
     bytes[at..at + more.len()].copy_from_slice(more);
+}
+
+// The first of these sectors.
+fn front_of(bytes: Vec<u8>, read: u64) -> Vec<u8>
+    requires { read ≤ 16384 }
+    ensures { result.items ≡ take (512 * read) bytes.items }
+{
+    let mut front = bytes;
+    front.truncate(read as usize * SECTOR);
+    front
 }
