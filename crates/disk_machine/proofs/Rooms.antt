@@ -3,12 +3,12 @@ use Rattle.std.proofs.Common.{◌≡◌, ◌⊎◌, ◌<◌, ◌≤◌, ◌+◌,
 use Rattle.std.proofs.Common.{false, length-append}
 use Rattle.std.specs.Prelude.{Option}
 use Rattle.std.specs.List.{list_all}
-use Rattle.std.proofs.lemmas.Bool.{cases_Bool}
+use Rattle.std.proofs.lemmas.Bool.{cases_Bool, false≢true}
 use Rattle.std.proofs.lemmas.List.{append-nil, nil_from_length}
 use Rattle.journal.specs.{Places.Shape, Sectors.IsSuper}
 use Rattle.medium.specs.{Sent.sent, Writes.sector_of}
 use Rattle.medium.specs.declared.fault.MediumFault.TheVariants as kind
-use Rattle.window.specs.{Story.given, declared.call.DeviceCall.DeviceCall, Window.{Window, fresh, state_of, is_in_sight, ComesAfter}}
+use Rattle.window.specs.{Story.given, declared.call.DeviceCall.DeviceCall, Window.{Window, state_of, is_in_sight, ComesAfter}}
 use Rattle.window.specs.{Window.IsServed, WindowLaws.{is_sound, comes_after_itself}, Looks.{near_in_sight, none_refused, none_missed}}
 use Rattle.window.specs.{Looks.none_kept_out}
 use Rattle.scsi_unit.specs.{Background.Work, Calls.SendsOneBatch, Reading.ReadsBack, Starting.blocks_of, StartFaults.StartFault}
@@ -18,10 +18,10 @@ use Rattle.bot_machine.specs.{Device.Device, Disk.IsStepBy, Opening.{IsOpened, I
 use Rattle.recovery.specs.declared.start_fault.StartFault.TheVariants as fault
 use Rattle.spec.specs.declared.event.Event.TheVariants as event
 use Rattle.disk_machine.specs.{Plays.{Disk, medium_of, layout_on, Foresees, Plays, PlaysBy, EndsIn}, Refusals.{HasRoomFor, HasRoomOnce}}
-use Rattle.disk_machine.specs.{Refusals.{IsQuietPacket, MakesOneBatch, IsRoomy, HoldsLog, SeesHome, HoldsImageLog}, Room.room_for}
+use Rattle.disk_machine.specs.{Refusals.{IsQuietPacket, MakesOneBatch, IsRoomy, HoldsLog, KeepsBlocks, SeesHome, HoldsImageLog}}
+use Rattle.disk_machine.specs.{Room.room_for}
 use Rattle.store_calls.proofs.Served.{start_refuses}
 use Rattle.store_calls.proofs.StartedStore as started
-use Rattle.window.proofs.Kept.{opened_front}
 
 -- a book of the disk's size
 abbrev pub some_book : Disk → Book
@@ -69,7 +69,8 @@ fits_event old event answer new step held (inr (inr once)) = fits_once old event
 -- a sector that an event names is in sight
 named_in_sight : (old : Disk) (event : Event) → HoldsLog old → SeesHome old event → (s : ℕ)
     → ReadsBack old.unit s ⊎ ReadsAt old event s → is_in_sight (medium_of old) s ≡ true
-named_in_sight old event log home s (inl low) = near_in_sight (medium_of old) s (omega (arith, low.1, log))
+named_in_sight old event (inl keeps) home s (inl back) = absurd (false≢true (sym back.0 ∙ keeps))
+named_in_sight old event (inr log) home s (inl back) = near_in_sight (medium_of old) s (omega (arith, back.1, log))
 named_in_sight old (event.Out packet) log home s (inr at) = home at.0 at.1 s at.2.0 at.2.1
 named_in_sight old _ log home s (inr at) = absurd at
 
@@ -126,11 +127,11 @@ module _ (first after : Window) (empty : length first.outbox ≡ 0) (leaves : St
     (medium : LeavesMedium state_of ComesAfter first after) where
   -- a start that was refused: its own calls say why
   pub ends_in : (why : StartFault) → IsNotOpened (state_of first) (state_of after) why → IsServed first after → EndsIn first after why
-  ends_in why not served = record {
+  ends_in why not served = let refuses = start_refuses first after empty medium served in record {
     not = not;
     leaves = leaves;
     follows = medium.follows;
-    refuses = start_refuses first after empty medium served;
+    refuses = refuses;
     full = λ which. elim not.cause [
       | inl cause ↦ (started.ends_in first after empty medium why cause served).full which
       | inr none ↦ grind (arith, which, none.0)
@@ -139,38 +140,28 @@ module _ (first after : Window) (empty : length first.outbox ≡ 0) (leaves : St
       | inl all ↦ absurd (omega (arith, grew first after (rw is at not), medium.follows.in_sight all))
       | inr some ↦ some
     ];
-    -- each sector that was read lies in memory
-    sighted = λ log is. absurd (omega (
-      arith,
-      grew first after (rw is at not),
-      none_missed (λ s. s < first.near) first after medium.follows (near_in_sight first) (medium.looks first.near log),
-    ));
+    sighted = λ sees is. absurd (omega (arith, grew first after (rw is at not), refuses.seen sees));
   }
 
--- the first sectors that held the log hold it still
-pub holds_log : (first : Window) (new : Disk) (device : Device) → IsOpened (state_of first) (state_of (medium_of new)) device new
-    → ComesAfter first (medium_of new) → HoldsImageLog first → HoldsLog new
-holds_log first new device opened follows holds =
-    let stood = opened.store.stood in
-    let below = holds.log (layout_on new) (record { super = stood.keeps.super; fits = stood.fits }) in
-    omega (arith, below, follows.near_stays)
+-- ---- a disk that was started
 
--- ---- the room that an image wants
-
--- whatever super the first sectors begin with, its image wants no more than this
+-- whatever super the first sectors begin with, its image wants no more room than this
 abbrev pub IsEnough : List ℕ → ℕ → Type 0
 IsEnough near room = (shape : Shape) → IsSuper shape (sector_of near 0) → room_for shape ≤ room
 
--- a disk that was started where the room is enough has it
-pub roomy : (near holds : List ℕ) (sectors span room : ℕ) (m : Window) (new : Disk) (device : Device)
-    → m ≡ fresh sectors near holds span room → 512 ≤ length near → IsEnough near room
-    → IsOpened (state_of m) (state_of (medium_of new)) device new → ComesAfter m (medium_of new) → IsRoomy new
-roomy near holds sectors span room m new device on some enough opened follows =
-    let first : Window = fresh sectors near holds span room in
-    let stood = opened.store.stood in
-    let super : IsSuper (layout_on new) ((state_of first).content 0) =
-    subst (λ (w : Window). IsSuper (layout_on new) ((state_of w).content 0)) on stood.keeps.super in
-    let front : IsSuper (layout_on new) (sector_of near 0) =
-    subst (λ (b : List ℕ). IsSuper (layout_on new) b) (sym (opened_front sectors near holds 0 (omega (arith, some)))) super in
-    let stays : (medium_of new).room ≡ room = follows.room_stays ∙ ap (λ (w : Window). w.room) on in
-    omega (arith, stays, enough (layout_on new) front)
+module _ (first : Window) (new : Disk) (device : Device) (opened : IsOpened (state_of first) (state_of (medium_of new)) device new)
+    (follows : ComesAfter first (medium_of new)) where
+  -- a log that keeps its blocks is held, and the first sectors that held any hold it still
+  pub holds_log : KeepsBlocks device ⊎ HoldsImageLog first → HoldsLog new
+  holds_log (inl keeps) = inl (rw keeps.1 at opened.retires.keeps)
+  holds_log (inr holds) =
+      let stood = opened.store.stood in
+      let below = holds.log (layout_on new) (record { super = stood.keeps.super; fits = stood.fits }) in
+      inr (omega (arith, below, follows.near_stays))
+
+  -- it has the room that is enough for the image which the medium begins with
+  pub roomy : (near : List ℕ) (room : ℕ) → sector_of near 0 ≡ (state_of first).content 0 → first.room ≡ room → IsEnough near room
+      → IsRoomy new
+  roomy near room front reserved enough =
+      let super = subst (λ (b : List ℕ). IsSuper (layout_on new) b) (sym front) opened.store.stood.keeps.super in
+      omega (arith, reserved, follows.room_stays, enough (layout_on new) super)

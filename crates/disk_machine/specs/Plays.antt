@@ -13,9 +13,9 @@ use Rattle.bot_machine.specs.{Device.Device, Disk.{FitsDisk, IsStepBy, IsRearmed
 use Rattle.bot_machine.specs.{Opening.{IsNotOpened, StartLeaves}}
 use Rattle.spec.specs.declared.event.Event.TheVariants as event
 use Rattle.spec.specs.declared.event.Answer.TheVariants as answer
-use Rattle.disk_machine.specs.{Codes.{code_of, bytes_of}, Parts.CoversParts, Refusals.HoldsLog}
+use Rattle.disk_machine.specs.{Codes.{code_of, bytes_of}, Parts.CoversParts}
 use Rattle.disk_machine.specs.{Refusals.{EventRefusesNothing, HoldsImageLog, StartRefusesNothing}}
-use Rattle.disk_machine.specs.{Refusals.IsRoomy}
+use Rattle.disk_machine.specs.{Refusals.{HoldsLog, KeepsBlocks, IsRoomy, SeesStart}}
 pub use Rattle.disk_machine.specs.Seen.{Disk, medium_of, layout_on}
 
 -- what a medium says of all calls of it that may come, and that what waits has room
@@ -39,8 +39,8 @@ pub record PlaysBy (work : Work) (old : Disk) (event : Event) (answer : Answer) 
   -- none of its calls is refused where the sectors that it read were in sight, and the outbox had
   -- room for all of its writes and flushes,
   pub served : IsServed (medium_of old) (medium_of new)
-  -- as they were, and as it had, where the log is in memory, what is read at home is in sight, and
-  -- the room of the image is left
+  -- as they were, and as it had, where the log is held, what is read at home is in sight, and the
+  -- room of the image is left
   pub refuses : EventRefusesNothing old event new
   -- a faulted disk asks its device for nothing, and stays faulted
   pub faulted : is_dead old.unit.store.cached ≡ true
@@ -100,13 +100,14 @@ pub record Begins (first : Window) (device : Device) (new : Disk) : Type 0 where
   pub parts : CoversParts first (medium_of new)
   pub served : IsServed first (medium_of new)
   pub refuses : StartRefusesNothing first (medium_of new)
-  -- where the first sectors were all before the first home sector, they are for each event
-  pub holds : HoldsImageLog first → HoldsLog new
+  -- a log that keeps its blocks is held, whatever was read; so is any where the first sectors were
+  -- all before the first home sector: they are for each event
+  pub holds : KeepsBlocks device ⊎ HoldsImageLog first → HoldsLog new
   pub roomy : IsRoomy new
 
 -- A start on this medium was refused, and left that one. Where a write or a flush was refused, the
 -- writes and flushes of this very start had no room together; where a read was, one of its reads
--- named a sector that is not in memory, which is none of the log.
+-- named a sector that is not in sight: none does where the start sees whatever it reads.
 pub record EndsIn (first after : Window) (why : StartFault) : Type 0 where
   pub not : IsNotOpened (state_of first) (state_of after) why
   pub leaves : StartLeaves (state_of first) (state_of after)
@@ -115,7 +116,7 @@ pub record EndsIn (first after : Window) (why : StartFault) : Type 0 where
   pub full : (why ≡ fault.Write) ⊎ (why ≡ fault.Flush)
       → sent (state_of first) + first.room < sent (state_of after)
   pub unseen : why ≡ fault.Read → list_all (is_in_sight first) follows.looks ≡ false
-  pub sighted : HoldsImageLog first → why ≢ fault.Read
+  pub sighted : SeesStart first → why ≢ fault.Read
 
 -- so many steps that work towards this, each made while this holds of the disk
 abbrev pub StepsWhile : (Disk → Type 0) → Work → ℕ → Disk → Disk → Type 0

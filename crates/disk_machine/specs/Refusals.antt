@@ -1,15 +1,16 @@
 -- Nothing that a disk asks of its medium is refused: no write and no flush for want of room, and no
 -- read of a sector that is not in sight.
-use Rattle.std.specs.Prelude.{⊤, ◌⊎◌, ℕ, ◌+◌, ◌≤◌, List, length}
+use Rattle.std.specs.Prelude.{⊤, ◌≡◌, ◌⊎◌, ℕ, ◌+◌, ◌≤◌, List, length, true}
 use Rattle.journal.specs.Places.{first_home}
 use Rattle.spec.specs.{Book.Book, declared.event.Event.Event}
 use Rattle.spec.specs.declared.event.Event.TheVariants as event
 use Rattle.scsi_unit.specs.{Background.{IsWritten, IsPrepared}, Calls.most_sends_of}
 use Rattle.scsi_unit.specs.{UnitValue.IsOfSize}
 use Rattle.bot_machine.specs.{Disk.over, Promising.{PromisesNone, QuietIn}}
--- handed on: that no call was refused from one moment to another, and in a start
-pub use Rattle.store_calls.specs.Rooms.{RefusesNothing, HasRoomToStart, HoldsImageLog}
-pub use Rattle.store_calls.specs.Rooms.{StartRefusesNothing}
+use Rattle.bot_machine.specs.Device.{Device, Kept}
+-- handed on: that no call was refused from one moment to another, and in a start, and what it sees
+pub use Rattle.store_calls.specs.Rooms.{RefusesNothing, HasRoomToStart, HoldsImageLog, SeesFresh}
+pub use Rattle.store_calls.specs.Rooms.{SeesStart, StartRefusesNothing}
 use Rattle.disk_machine.specs.{Room.{most_sent, room_for}, Seen.{Disk, medium_of, layout_on}}
 use Rattle.disk_machine.specs.{Wanted.WantsNone}
 
@@ -46,9 +47,15 @@ HasRoom disk = length (medium_of disk).outbox + room_for (layout_on disk) ≤ (m
 abbrev pub IsRoomy : Disk → Type 0
 IsRoomy disk = room_for (layout_on disk) ≤ (medium_of disk).room
 
--- all sectors before the first home sector lie in memory
+-- the log keeps the blocks of its records, and none is read back; or all sectors before the first
+-- home sector lie in memory
 abbrev pub HoldsLog : Disk → Type 0
-HoldsLog disk = first_home (layout_on disk) ≤ (medium_of disk).near
+HoldsLog disk = (disk.unit.store.cached.log.keeps ≡ true)
+    ⊎ (first_home (layout_on disk) ≤ (medium_of disk).near)
+
+-- a start asks for a log that keeps the blocks of its records
+abbrev pub KeepsBlocks : Device → Type 0
+KeepsBlocks device = (count : ℕ) × (device.retiring ≡ Kept count)
 
 -- whatever blocks an event has read, their home sectors are in sight: a packet to Bulk-Out alone
 -- has any read
@@ -71,8 +78,9 @@ HasRoomFor disk event = (length (medium_of disk).outbox + most_sends_of (layout_
     ⊎ (((length (medium_of disk).outbox + most_sent (layout_on disk).format ≤ (medium_of disk).room)
     × MakesOneBatch disk event) ⊎ HasRoomOnce disk event)
 
--- No event misses. With the room, the log in memory, and before a packet to Bulk-Out the home
--- sectors in sight that `Disk::home_sectors` tells for it, an event has no call refused.
+-- No event misses. With the room, the log or the blocks of its records in memory, and before a
+-- packet to Bulk-Out the home sectors in sight that `Disk::home_sectors` tells for it, an event has
+-- no call refused.
 abbrev pub EventRefusesNothing : Disk → Event → Disk → Type 0
 EventRefusesNothing old event new = RefusesNothing (HasRoomFor old event)
     (HoldsLog old × SeesHome old event) (medium_of old) (medium_of new)

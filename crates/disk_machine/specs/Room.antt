@@ -35,13 +35,15 @@ pub record Tells (of : LogFormat → ℕ) (format slots told : ℕ) : Type 0 whe
 abbrev pub TellsNone : ℕ → ℕ → ℕ → Type 0
 TellsNone format slots told = AreNone format slots → told ≡ 0
 
--- How many bytes each slot takes, by measure: the numbers of a record, in format 2 the first bytes
--- of its blocks too, and for each of these an entry of the index.
-abbrev pub slot_memory : LogFormat → ℕ
-slot_memory format = 1928 * version_of format + 8 * limit_of format
+-- How many bytes each record takes that may stand in the log, by measure: its numbers, its blocks
+-- and where they lie, for each block an entry of the index, and in format 2 the first bytes of them
+-- once more.
+abbrev pub record_memory : LogFormat → ℕ
+record_memory format = 1928 * version_of format + 520 * limit_of format + 64
 
--- How many bytes of memory a start takes, by measure: the first sectors, the window, the outbox,
--- two batches and a buffer of a transfer each, what each slot takes, and the disk.
+-- How many bytes of memory a start takes, by measure, of a disk that keeps the blocks of `ring`
+-- records: the first sectors, the window, the outbox, two batches and a buffer of a transfer each,
+-- what each record takes, and the disk.
 abbrev pub memory_of : ℕ → ℕ → ℕ → ℕ → LogFormat → ℕ
-memory_of size slots span room format =
-    size + 512 * span + 528 * room + 1584 * limit_of format + slot_memory format * slots + 808
+memory_of size ring span room format =
+    size + 512 * span + 528 * room + 1584 * limit_of format + record_memory format * ring + 808
