@@ -1,3 +1,4 @@
 pub mod Values
+pub mod Shown
 pub mod Begun
 pub mod Holding

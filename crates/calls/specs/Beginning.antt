@@ -3,11 +3,10 @@ use Rattle.std.specs.Prelude.{◌≡◌, ℕ, List, Result, Ok, Err, MatchResult
 use Rattle.recovery.specs.declared.start_fault.StartFault.{StartFault}
 use Rattle.recovery.specs.declared.start_fault.StartFault.TheVariants as start
 use Rattle.store_calls.specs.MachineStart as stores
-use Rattle.store_calls.specs.Rooms.{HoldsImageLog, HoldsLog}
-use Rattle.store_calls.specs.Starts.{IsNoLength}
 use Rattle.store_calls.specs.StoreMachine as store
 use Rattle.store_calls.specs.declared.call_fault.CallFault.{CallFault}
 use Rattle.store_calls.specs.declared.call_fault.CallFault.TheVariants as call
+use Rattle.store_calls.specs.declared.sight.Sight.{Sight}
 use Rattle.image_calls.specs.Formats as formats
 use Rattle.image_calls.specs.Images.{IsLaidOn, IsWhole}
 use Rattle.image_calls.specs.Machines as images
@@ -17,9 +16,9 @@ use Rattle.image_calls.specs.declared.image_fault.ImageFault.{ImageFault}
 use Rattle.image_calls.specs.declared.image_fault.ImageFault.TheVariants as fault
 use Rattle.image_calls.specs.declared.image_plan.ImagePlan.{ImagePlan}
 use Rattle.journal.specs.Places.{Shape}
-use Rattle.window.specs.Window.{Window, fresh}
+use Rattle.window.specs.Window.{Window}
 use Rattle.image_calls.specs.Reading.{Reading}
-use Rattle.image_calls.specs.declared.reach.Reach.TheVariants as reach
+use Rattle.calls.specs.Sights.{IsSightOf, WasSeen}
 use Rattle.calls.specs.declared.held.Stage.{Stage}
 use Rattle.calls.specs.declared.held.Stage.TheVariants as stage
 
@@ -37,27 +36,20 @@ abbrev pub IsStore : Result store.Machine CallFault → Stage → Type 0
 IsStore (Ok s) new = new ≡ stage.Store s
 IsStore (Err why) new = new ≡ stage.Failed (fault_of_call why)
 
--- Where all before the first home sector was read, any window over what was read holds the log: no
--- read of a start is refused for want of sight of it.
-abbrev pub HoldsRead : List ℕ → Reading → Type 0
-HoldsRead content o = o.reach ≡ reach.Near → ¬ IsNoLength o.near o.sectors
-    → (span room : ℕ) → HoldsImageLog (fresh o.sectors o.near content span room)
-
--- A store begins on what was read. Where all before the first home sector was read, it is all that
--- calls read of the log: none is refused a read for want of sight of it.
-pub record StoreStartsOn (content : List ℕ) (o : Reading) (s : store.Machine) : Type 0 where
-  pub starts : stores.StartsOn o.near o.sectors content s
-  pub holds : o.reach ≡ reach.Near → HoldsLog s.store
+-- A store begins on what was read, which keeps so many records.
+abbrev pub StoreStartsOn : List ℕ → ℕ → Reading → store.Machine → Type 0
+StoreStartsOn content kept o s = (sight : Sight) × IsSightOf o sight
+    × stores.StartsOn sight o.sectors content kept s
 
 -- none begins
 abbrev pub StoreIsNotStarted : List ℕ → Reading → CallFault → Type 0
-StoreIsNotStarted content o why =
-    stores.IsNotStarted o.near o.sectors content why × HoldsRead content o
+StoreIsNotStarted content o why = ((sight : Sight) × IsSightOf o sight
+    × stores.IsNotStarted sight o.sectors content why) × WasSeen content o
 
 -- a store begins, or there is none
-abbrev pub BeginsStore : List ℕ → Reading → Stage → Type 0
-BeginsStore content o new = (result : Result store.Machine CallFault) × IsStore result new
-    × MatchResult result (StoreStartsOn content o) (StoreIsNotStarted content o)
+abbrev pub BeginsStore : List ℕ → ℕ → Reading → Stage → Type 0
+BeginsStore content kept o new = (result : Result store.Machine CallFault) × IsStore result new
+    × MatchResult result (StoreStartsOn content kept o) (StoreIsNotStarted content o)
 
 -- ---- the work on an image
 

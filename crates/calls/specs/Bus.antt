@@ -33,8 +33,8 @@ IsOther Stays code = (code ≡ OTHER_KIND) × Stays
 
 -- bytes to Bulk-Out of a disk that is not there yet: NAK, and none is taken
 abbrev pub WaitsOut : ℕ → Purpose → ℕ → ℕ → Type 0
-WaitsOut was (purpose.Disk identity size) taken code = (code ≡ 1) × (taken ≡ 0)
-WaitsOut was purpose.Store taken code = IsOther (taken ≡ was) code
+WaitsOut was (purpose.Disk plan) taken code = (code ≡ 1) × (taken ≡ 0)
+WaitsOut was (purpose.Store kept) taken code = IsOther (taken ≡ was) code
 WaitsOut was (purpose.Format plan) taken code = IsOther (taken ≡ was) code
 WaitsOut was (purpose.LayLog plan) taken code = IsOther (taken ≡ was) code
 WaitsOut was purpose.Migration taken code = IsOther (taken ≡ was) code
@@ -46,10 +46,10 @@ TakesOut bytes was taken old new code = ToDisk
 
 -- tokens to Bulk-In of a disk that is not there yet: NAK, where the room has place for a packet
 abbrev pub WaitsIn : List ℕ → ℕ → Purpose → ℕ → ℕ → Type 0
-WaitsIn room was (purpose.Disk identity size) given code =
-    ((length room < bytes_of size) × (code ≡ BAD_LENGTH) × (given ≡ was))
-    ⊎ ((bytes_of size ≤ length room) × (code ≡ 1) × (given ≡ 0))
-WaitsIn room was purpose.Store given code = IsOther (given ≡ was) code
+WaitsIn room was (purpose.Disk plan) given code =
+    ((length room < bytes_of plan.size) × (code ≡ BAD_LENGTH) × (given ≡ was))
+    ⊎ ((bytes_of plan.size ≤ length room) × (code ≡ 1) × (given ≡ 0))
+WaitsIn room was (purpose.Store kept) given code = IsOther (given ≡ was) code
 WaitsIn room was (purpose.Format plan) given code = IsOther (given ≡ was) code
 WaitsIn room was (purpose.LayLog plan) given code = IsOther (given ≡ was) code
 WaitsIn room was purpose.Migration given code = IsOther (given ≡ was) code
@@ -62,8 +62,8 @@ SendsIn room was filled given old new code = ToDisk
 
 -- a request to a disk that is not there yet: STALL
 abbrev pub IsStalled : ℕ → Purpose → ℕ → ℕ → Type 0
-IsStalled was (purpose.Disk identity size) told code = (code ≡ 2) × (told ≡ 0)
-IsStalled was purpose.Store told code = IsOther (told ≡ was) code
+IsStalled was (purpose.Disk plan) told code = (code ≡ 2) × (told ≡ 0)
+IsStalled was (purpose.Store kept) told code = IsOther (told ≡ was) code
 IsStalled was (purpose.Format plan) told code = IsOther (told ≡ was) code
 IsStalled was (purpose.LayLog plan) told code = IsOther (told ≡ was) code
 IsStalled was purpose.Migration told code = IsOther (told ≡ was) code

@@ -19,8 +19,8 @@ code_of_bool true = 1
 
 -- steps are left of a disk or a store that is not there yet
 abbrev pub Rests : Purpose → ℕ → Type 0
-Rests (purpose.Disk identity size) code = code ≡ 1
-Rests purpose.Store code = code ≡ 1
+Rests (purpose.Disk plan) code = code ≡ 1
+Rests (purpose.Store kept) code = code ≡ 1
 Rests (purpose.Format plan) code = code ≡ OTHER_KIND
 Rests (purpose.LayLog plan) code = code ≡ OTHER_KIND
 Rests purpose.Migration code = code ≡ OTHER_KIND
@@ -42,8 +42,8 @@ MakesSteps old new code = MakesAt old.stage old new code
 
 -- nothing is read ahead of a disk that is not there yet
 abbrev pub ReadsNone : Purpose → ℕ → Type 0
-ReadsNone (purpose.Disk identity size) code = code ≡ 0
-ReadsNone purpose.Store code = code ≡ OTHER_KIND
+ReadsNone (purpose.Disk plan) code = code ≡ 0
+ReadsNone (purpose.Store kept) code = code ≡ OTHER_KIND
 ReadsNone (purpose.Format plan) code = code ≡ OTHER_KIND
 ReadsNone (purpose.LayLog plan) code = code ≡ OTHER_KIND
 ReadsNone purpose.Migration code = code ≡ OTHER_KIND

@@ -5,6 +5,8 @@ pub mod Codes
 pub mod Asks
 pub mod Handles
 pub mod Reserve
+pub mod Kept
+pub mod Sights
 pub mod Beginning
 pub mod Recovers
 pub mod Starting

@@ -27,7 +27,7 @@ IsFirst sectors new = ((sectors ≡ 0) × (new ≡ stage.Failed start.BadSuper))
 
 -- what comes behind one that ended so: the first sectors are to be read, or there is nothing
 abbrev pub behind : Result Recovered StartFault → ℕ → Stage
-behind (Ok answer) sectors = stage.Opening (unread sectors reach.Near)
+behind (Ok answer) sectors = stage.Opening (unread sectors reach.Start)
 behind (Err why) sectors = stage.Failed why
 
 -- It goes on, or it is at its end, good or refused.

@@ -1,13 +1,14 @@
 -- How what was started begins, and why it does not.
 use Rattle.std.specs.Prelude.{◌-◌, ◌≡◌, ◌≢◌, ◌⊎◌, ℕ, ◌==◌, List, Option, Some, None, if◌then◌else◌}
-use Rattle.window.specs.Window.{Window, fresh}
+use Rattle.window.specs.Window.{Window}
 use Rattle.recovery.specs.declared.start_fault.StartFault.{StartFault}
 use Rattle.recovery.specs.declared.start_fault.StartFault.TheVariants as start
-use Rattle.store_calls.specs.Starts.{IsNoLength}
+use Rattle.store_calls.specs.Sights.{shown_on, IsNoMedium}
+use Rattle.store_calls.specs.declared.sight.Sight.{Sight}
 use Rattle.spec.specs.Identification.{IsLegible}
 use Rattle.spec.specs.declared.packet_size.PacketSize.{PacketSize}
 use Rattle.spec.specs.Packets.{bytes_of}
-use Rattle.bot_machine.specs.Device.{Device, device_by, Ahead}
+use Rattle.bot_machine.specs.Device.{Device, device_by, Kept}
 use Rattle.disk_machine.specs.Codes.{EMPTY, STARTED, BAD_IDENTITY, BAD_PACKET_SIZE}
 use Rattle.disk_machine.specs.Plays.{Disk, Begins, EndsIn}
 use Rattle.disk_machine.specs.Refusals.{HoldsLog}
@@ -17,10 +18,13 @@ use Rattle.disk_machine.specs.Moves.{begun, ServesAtRest, LeavesOfStart, HasRoom
 use Rattle.image_calls.specs.Reading.{Reading, unread, IsWhole}
 use Rattle.image_calls.specs.declared.reach.Reach.{Reach}
 use Rattle.image_calls.specs.declared.reach.Reach.TheVariants as reach
-use Rattle.calls.specs.Beginning.{HoldsRead, BeginsStore, BeginsFormat, BeginsLog, BeginsMigration}
+use Rattle.calls.specs.Beginning.{BeginsStore, BeginsFormat, BeginsLog, BeginsMigration}
 use Rattle.calls.specs.Handles.{Held}
 use Rattle.calls.specs.Recovers.{IsFirst}
+use Rattle.calls.specs.Kept.{kept_by}
 use Rattle.calls.specs.Reserve.{IsReserve}
+use Rattle.calls.specs.Sights.{IsSightOf, WasSeen}
+use Rattle.calls.specs.declared.held.DiskPlan.{DiskPlan}
 use Rattle.calls.specs.declared.held.Purpose.{Purpose}
 use Rattle.calls.specs.declared.held.Purpose.TheVariants as purpose
 use Rattle.calls.specs.declared.held.Stage.{Stage}
@@ -29,22 +33,23 @@ use Rattle.calls.specs.declared.options.UsbDiskOptions.{UsbDiskOptions}
 
 -- ---- what begins
 
--- the medium of a device of so many sectors, of which these are the first, and which holds this
--- content behind them
-abbrev pub medium_on : List ℕ → ℕ → List ℕ → ℕ → ℕ → Window
-medium_on near sectors content span room = fresh sectors near content span room
+-- one that keeps the records of its log
+abbrev pub device_of : DiskPlan → Device
+device_of plan = device_by plan.identity plan.size (Kept plan.kept)
 
--- with the room that an image wants
-abbrev pub IsMediumOn : List ℕ → ℕ → List ℕ → Window → Type 0
-IsMediumOn near sectors content m = (span : ℕ) × (room : ℕ) × IsReserve near span room
-    × (m ≡ medium_on near sectors content span room)
+-- The medium of a device of so many sectors, of which these were read, and which holds this content
+-- in the others, with the room that an image wants.
+abbrev pub IsMediumOn : Sight → ℕ → List ℕ → ℕ → Window → Type 0
+IsMediumOn sight sectors content span m = (room : ℕ) × IsReserve sight.near.items span room
+    × (m ≡ shown_on sight sectors content span room)
 
 -- a disk was started on it
-pub record StartsOn (near : List ℕ) (sectors : ℕ) (content : List ℕ) (device : Device)
+pub record StartsOn (sight : Sight) (sectors : ℕ) (content : List ℕ) (device : Device)
     (new : Machine) : Type 0 where
   pub first : Window
-  pub on : IsMediumOn near sectors content first
-  pub length_is : ¬ IsNoLength near sectors
+  pub span : ℕ
+  pub on : IsMediumOn sight sectors content span first
+  pub sized : ¬ IsNoMedium sight sectors span
   pub disk : Disk
   pub begins : Begins first device disk
   -- steps are made as long as the two calls of one have room
@@ -56,31 +61,30 @@ pub record StartsOn (near : List ℕ) (sectors : ℕ) (content : List ℕ) (devi
   -- no packet is refused a call for want of room
   pub beside : HasRoomBeside new
 
--- None was: for want of memory; of first sectors that are none; or as the recovery was refused.
-abbrev pub IsRefusedOn : List ℕ → ℕ → List ℕ → Device → StartFault → Type 0
-IsRefusedOn near sectors content device why = (why ≡ start.NoMemory)
-    ⊎ ((why ≡ start.BadSuper) × IsNoLength near sectors)
-    ⊎ ((¬ IsNoLength near sectors) × (first : Window) × IsMediumOn near sectors content first
-    × ((after : Window) × EndsIn first after why))
+-- None was: for want of memory; of sectors that are none; or as the recovery was refused.
+abbrev pub IsRefusedOn : Sight → ℕ → List ℕ → Device → StartFault → Type 0
+IsRefusedOn sight sectors content device why = (why ≡ start.NoMemory)
+    ⊎ ((span : ℕ) × (room : ℕ) × IsReserve sight.near.items span room
+    × (why ≡ start.BadSuper) × IsNoMedium sight sectors span)
+    ⊎ ((span : ℕ) × (¬ IsNoMedium sight sectors span) × (first : Window)
+    × IsMediumOn sight sectors content span first × ((after : Window) × EndsIn first after why))
 
--- A disk begins on what was read, or there is none. Where all before the first home sector was
--- read, it is all that events read of the log: none is refused a READ for want of sight of it. So
--- it is all that a refused start read.
+-- A disk begins on what was read, or there is none. It holds its log: no event is refused a READ
+-- for want of sight of it. A start is refused a read only where a record waits.
 abbrev pub BeginsDisk : List ℕ → Reading → Device → Stage → Type 0
 BeginsDisk content o device (stage.Recovering b sectors) = ⊥
 BeginsDisk content o device (stage.Opening o') = ⊥
-BeginsDisk content o device (stage.Disk s) = StartsOn o.near o.sectors content device s
-    × (o.reach ≡ reach.Near → HoldsLog s.disk)
+BeginsDisk content o device (stage.Disk s) = (sight : Sight) × IsSightOf o sight
+    × StartsOn sight o.sectors content device s × HoldsLog s.disk
 BeginsDisk content o device (stage.Store s) = ⊥
 BeginsDisk content o device (stage.Image s) = ⊥
-BeginsDisk content o device (stage.Failed why) =
-    IsRefusedOn o.near o.sectors content device why × HoldsRead content o
+BeginsDisk content o device (stage.Failed why) = ((sight : Sight) × IsSightOf o sight
+    × IsRefusedOn sight o.sectors content device why) × WasSeen content o
 
 -- what was started begins
 abbrev pub BeginsAs : List ℕ → Purpose → Reading → Stage → Type 0
-BeginsAs content (purpose.Disk identity size) o new =
-    BeginsDisk content o (device_by identity size Ahead) new
-BeginsAs content purpose.Store o new = BeginsStore content o new
+BeginsAs content (purpose.Disk plan) o new = BeginsDisk content o (device_of plan) new
+BeginsAs content (purpose.Store kept) o new = BeginsStore content kept o new
 BeginsAs content (purpose.Format plan) o new = BeginsFormat content plan o new
 BeginsAs content (purpose.LayLog plan) o new = BeginsLog content plan o new
 BeginsAs content purpose.Migration o new = BeginsMigration content o new
@@ -111,6 +115,14 @@ Recovers what sectors old new code = ((code ≡ 0) × ((first : Stage) × IsFirs
     × (new ≡ Some (record { purpose = what; stage = first }))))
     ⊎ ((code ≡ 1) × (new ≡ old))
 
+-- what the options say that a disk is to be
+abbrev pub plan_of : UsbDiskOptions → PacketSize → DiskPlan
+plan_of options size = record {
+  identity = identity_of options.identity;
+  size = size;
+  kept = kept_by options.kept;
+}
+
 -- What is there stays. What is wrong with the options is told before anything is done. Else the
 -- image is to be recovered.
 abbrev pub StartsDisk : UsbDiskOptions → Option Held → Option Held → ℕ → Type 0
@@ -120,13 +132,13 @@ StartsDisk options None new code =
     ⊎ ((size : PacketSize) × (options.packet ≡ bytes_of size)
     × (((¬ IsLegible (identity_of options.identity)) × (code ≡ BAD_IDENTITY) × (new ≡ None))
     ⊎ (IsLegible (identity_of options.identity)
-    × Recovers (purpose.Disk (identity_of options.identity) size) options.sectors None new code)))
+    × Recovers (purpose.Disk (plan_of options size)) options.sectors None new code)))
 
--- a store, of which the options tell the sectors alone
+-- a store, of which the options tell the sectors and how many records are kept
 abbrev pub StartsStore : UsbDiskOptions → Option Held → Option Held → ℕ → Type 0
 StartsStore options (Some old) new code = (code ≡ STARTED) × (new ≡ Some old)
 StartsStore options None new code =
-    Recovers purpose.Store options.sectors None new code
+    Recovers (purpose.Store (kept_by options.kept)) options.sectors None new code
 
 -- what the handle holds goes
 abbrev pub Stops : Option Held → Option Held → ℕ → Type 0

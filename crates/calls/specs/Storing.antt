@@ -26,8 +26,8 @@ code_of_done (Err why) = code_of_fault why
 
 -- of a store that is not there this number; of another kind OTHER_KIND
 abbrev pub code_before : ℕ → Purpose → ℕ
-code_before code (purpose.Disk identity size) = OTHER_KIND
-code_before code purpose.Store = code
+code_before code (purpose.Disk plan) = OTHER_KIND
+code_before code (purpose.Store kept) = code
 code_before code (purpose.Format plan) = OTHER_KIND
 code_before code (purpose.LayLog plan) = OTHER_KIND
 code_before code purpose.Migration = OTHER_KIND

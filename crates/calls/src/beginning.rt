@@ -1,18 +1,16 @@
 //! What was started begins, where the first sectors of its device are read.
 ghost use Rattle.std.specs.Prelude.{ℕ, List, MatchResult};
-ghost use Rattle.bot_machine.specs.Device.{device_by, Ahead};
 ghost use Rattle.image_calls.specs.Reading.{IsWhole, IsSound};
-ghost use Rattle.calls.specs.Starting.{GoesOn, BeginsDisk, StartsOn, IsRefusedOn};
+ghost use Rattle.calls.specs.Starting.{GoesOn, BeginsDisk, StartsOn, IsRefusedOn, device_of};
 
-use crate::device::device_holding;
-use crate::held::{Purpose, Stage};
+use crate::held::{DiskPlan, Purpose, Stage};
 use crate::reserve::reserve_for;
 use crate::work::{begin_format, begin_log, begin_migration, begin_store, fault_of_call};
-use bot_machine::{Disk, Identity, PacketSize, Retiring, StartFault};
+use bot_machine::{Disk, Retiring, StartFault};
 use disk_machine::DiskMachine;
 use image_calls::Opening;
 use std::alloc::Global;
-use store_calls::medium_on;
+use store_calls::{Sight, device_holding, medium_on};
 use window::device_laws;
 
 // How many calls a step in the background makes at most.
@@ -22,61 +20,61 @@ impl Purpose {
     /// What was started begins, where all is read. It stands apart, so that an event does not take
     /// the stack of a start.
     #[inline(never)]
-    pub(crate) fn begin(&self, alloc: Global, opening: Opening) -> Stage
+    pub(crate) fn begin(&self, alloc: Global, opening: Opening, stage: &mut Stage)
         ghost content: { List ℕ }
-        ensures { GoesOn content self.now opening result }
+        ensures { GoesOn content self.now opening stage.new }
     {
         if !opening.is_whole() {
-            return Stage::Opening(opening);
+            *stage = Stage::Opening(opening);
+            return;
         }
-        match self {
-            Purpose::Disk(identity, size) => begin_disk(alloc, opening, *identity, *size),
-            Purpose::Store => begin_store(alloc, opening),
+        *stage = match self {
+            Purpose::Disk(plan) => begin_disk(alloc, opening, plan),
+            Purpose::Store(kept) => begin_store(alloc, opening, *kept),
             Purpose::Format(plan) => begin_format(alloc, opening, plan),
             Purpose::LayLog(plan) => begin_log(alloc, opening, plan),
             Purpose::Migration => begin_migration(alloc, opening),
-        }
+        };
     }
 }
 
 // A disk begins, or does not.
-fn begin_disk(alloc: Global, opening: Opening, identity: Identity, size: PacketSize) -> Stage
+fn begin_disk(alloc: Global, opening: Opening, plan: &DiskPlan) -> Stage
     ghost content: { List ℕ }
     requires whole { IsWhole opening }
     requires sound { IsSound opening }
-    ensures { BeginsDisk content opening (device_by identity size Ahead) result }
+    ensures { BeginsDisk content opening (device_of plan.now) result }
 {
     let sectors = opening.sectors();
-    match disk_on(alloc, opening.into_near(), sectors, identity, size) {
+    match disk_on(alloc, opening.into_sight(), sectors, plan) {
         Ok(disk) => Stage::Disk(disk),
         Err(why) => Stage::Failed(why),
     }
 }
 
-// A disk on a device of `sectors` sectors, of which these are the first. It retires ahead where its
-// log allows it.
+// A disk on a device of `sectors` sectors, of which these were read. It keeps the records of its
+// log, and retires ahead where the log allows it.
 fn disk_on(
     alloc: Global,
-    near: Vec<u8>,
+    sight: Sight,
     sectors: u64,
-    identity: Identity,
-    size: PacketSize,
+    plan: &DiskPlan,
 ) -> Result<DiskMachine, StartFault>
     ghost content: { List ℕ }
-    ensures { let device = device_by identity size Ahead in
-        MatchResult result (StartsOn near.items sectors content device)
-        (IsRefusedOn near.items sectors content device) }
+    ensures { MatchResult result (StartsOn sight sectors content (device_of plan.now))
+        (IsRefusedOn sight sectors content (device_of plan.now)) }
 {
-    let reserve = reserve_for(&near);
+    let reserve = reserve_for(&sight.near);
     let device = device_holding();
-    let medium = match medium_on(alloc, near, sectors, &device, reserve) {
+    let medium = match medium_on(alloc, sight, sectors, &device, reserve) {
         Ok(medium) => medium,
         Err(why) => return Err(fault_of_call(why)),
     };
     // The law of the medium, from the first call on.
     let _waiting = medium.waiting();
     device_laws();
-    match Disk::start_by(alloc, medium, identity, size, Retiring::Ahead) {
+    let retiring = Retiring::Kept(plan.kept);
+    match Disk::start_by(alloc, medium, plan.identity, plan.size, retiring) {
         Ok(disk) => Ok(DiskMachine::new(disk, reserve.room - STEP)),
         Err(error) => Err(error.fault),
     }

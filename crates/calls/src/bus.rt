@@ -90,7 +90,7 @@ impl Purpose {
         ensures { WaitsOut taken.old self.now taken.new result }
     {
         match self {
-            Purpose::Disk(_, _) => {
+            Purpose::Disk(_) => {
                 *taken = 0;
                 NAK
             }
@@ -103,10 +103,10 @@ impl Purpose {
     fn wait_in(&self, room: &[u8], given: &mut usize) -> u32
         ensures { WaitsIn room.now given.old self.now given.new result }
     {
-        let Purpose::Disk(_, size) = self else {
+        let Purpose::Disk(plan) = self else {
             return OTHER_KIND;
         };
-        if room.len() < size.bytes() as usize {
+        if room.len() < plan.size.bytes() as usize {
             return BAD_LENGTH;
         }
         *given = 0;
@@ -118,7 +118,7 @@ impl Purpose {
         ensures { IsStalled size.old self.now size.new result }
     {
         match self {
-            Purpose::Disk(_, _) => {
+            Purpose::Disk(_) => {
                 *size = 0;
                 STALL
             }

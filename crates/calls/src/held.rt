@@ -11,11 +11,22 @@ pub struct Held {
     pub(crate) stage: Stage,
 }
 
+/// What a disk is to be.
+#[derive(Clone, Copy)]
+pub struct DiskPlan {
+    pub(crate) identity: Identity,
+    /// How many bytes a bulk packet has at most.
+    pub(crate) size: PacketSize,
+    /// How many records of the log lie in memory at most.
+    pub(crate) kept: u8,
+}
+
 /// What was started.
 #[derive(Clone, Copy)]
 pub enum Purpose {
-    Disk(Identity, PacketSize),
-    Store,
+    Disk(DiskPlan),
+    /// A store, of whose log so many records lie in memory at most.
+    Store(u8),
     /// An image of zeros is made.
     Format(ImagePlan),
     /// An image is made around the blocks that are there.

@@ -62,7 +62,7 @@ impl Purpose {
         ensures { Rests self.now result }
     {
         match self {
-            Purpose::Disk(_, _) | Purpose::Store => 1,
+            Purpose::Disk(_) | Purpose::Store(_) => 1,
             Purpose::Format(_) | Purpose::LayLog(_) | Purpose::Migration => OTHER_KIND,
         }
     }
@@ -72,7 +72,7 @@ impl Purpose {
         ensures { ReadsNone self.now result }
     {
         match self {
-            Purpose::Disk(_, _) => 0,
+            Purpose::Disk(_) => 0,
             _ => OTHER_KIND,
         }
     }

@@ -7,7 +7,6 @@ mod asks;
 mod beginning;
 mod bus;
 mod codes;
-mod device;
 mod handle;
 mod held;
 mod idling;

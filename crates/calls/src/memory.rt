@@ -1,42 +1,48 @@
 //! How much memory a disk takes.
 ghost use Rattle.std.specs.Prelude.{◌≡◌, ◌≤◌};
 ghost use Rattle.calls.specs.Memory.{TellsMemory, memory_on};
-ghost use Rattle.disk_machine.specs.Room.{slot_memory};
+ghost use Rattle.disk_machine.specs.Room.{record_memory};
 
+use crate::options::kept_by;
 use disk_machine::room_for;
 use journal::LogFormat;
+use store_calls::span_of;
 
 // What the box behind a handle takes.
-const KEPT: u64 = 928;
+const HELD: u64 = 928;
 
-/// How many bytes of memory a disk takes on an image of this format with `slots` slots, whose
-/// blocks begin behind the log. 0 where there is no such format or number of slots.
-pub fn memory_of(version: u32, slots: u64) -> u64
-    ensures { TellsMemory version slots result }
+// What the first two sectors take.
+const NEAR: u64 = 1_024;
+
+/// How many bytes of memory a disk takes on an image of this format with `slots` slots, of whose
+/// log so many records lie in memory: four where `kept` is 0. 0 where there is no such format or
+/// number of slots.
+pub fn memory_of(version: u32, slots: u64, kept: u32) -> u64
+    ensures { TellsMemory version slots kept result }
 {
     if slots < 1 || slots > 64 {
         return 0;
     }
     match LogFormat::of_version(u64::from(version)) {
-        Some(format) => memory_on(format, slots),
+        Some(format) => memory_on(format, slots.min(u64::from(kept_by(kept)))),
         None => 0,
     }
 }
 
-// The same of a format.
-fn memory_on(format: LogFormat, slots: u64) -> u64
-    requires { slots ≤ 64 }
-    ensures { result ≡ memory_on format slots }
+// The same of a format, where so many records may stand in the log at once.
+fn memory_on(format: LogFormat, ring: u64) -> u64
+    requires { ring ≤ 64 }
+    ensures { result ≡ memory_on format ring }
 {
-    let near = 2 + format.slot_sectors() * slots;
     let limit = u64::from(format.limit());
-    let room = room_for(format);
-    512 * near + (512 + 1584) * limit + 528 * room + slot_memory(format) * slots + KEPT
+    let shown = 512 * u64::from(span_of(format));
+    let waiting = 528 * room_for(format);
+    NEAR + shown + waiting + 1_584 * limit + record_memory(format) * ring + HELD
 }
 
-// How many bytes each slot takes.
-fn slot_memory(format: LogFormat) -> u64
-    ensures { result ≡ slot_memory format }
+// How many bytes each of these records takes.
+fn record_memory(format: LogFormat) -> u64
+    ensures { result ≡ record_memory format }
 {
-    1_928 * format.version() + 8 * u64::from(format.limit())
+    1_928 * format.version() + 520 * u64::from(format.limit()) + 64
 }

@@ -57,7 +57,7 @@ fn behind(alloc: Global, ended: Result<Recovered, StartFault>, sectors: u64) -> 
     ensures { result ≡ behind ended sectors }
 {
     match ended {
-        Ok(_) => Stage::Opening(Opening::new(alloc, sectors, Reach::Near)),
+        Ok(_) => Stage::Opening(Opening::new(alloc, sectors, Reach::Start)),
         Err(why) => Stage::Failed(why),
     }
 }

@@ -3,7 +3,7 @@ ghost use Rattle.std.specs.Prelude.{◌≤◌};
 ghost use Rattle.calls.specs.Reserve.{IsReserve};
 
 use disk_machine::room_for;
-use store_calls::{Reserve, super_of};
+use store_calls::{Reserve, span_of, super_of};
 
 /// For how many calls there is room where the first sectors are none of an image: as many as a
 /// start makes that has no record to bring home.
@@ -16,7 +16,7 @@ pub(crate) fn reserve_for(near: &[u8]) -> Reserve
 {
     match super_of(near) {
         Some(sizes) => Reserve {
-            span: sizes.format.limit(),
+            span: span_of(sizes.format),
             room: room_for(sizes.format) as usize,
         },
         None => Reserve {

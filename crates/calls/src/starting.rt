@@ -8,9 +8,9 @@ ghost use Rattle.calls.specs.Starting.{StartsDisk, StartsStore, Opens, Stops, st
 ghost use Rattle.calls.specs.Starting.{Recovers};
 
 use crate::handle::UsbDisk;
-use crate::held::{Held, Purpose, Stage};
+use crate::held::{DiskPlan, Held, Purpose, Stage};
 use crate::moves::{adopt, holds_any, reclaim};
-use crate::options::UsbDiskOptions;
+use crate::options::{UsbDiskOptions, kept_by};
 use crate::recover::first_call;
 use bot_machine::{Identity, PacketSize, StartFault};
 use disk_machine::{
@@ -32,18 +32,25 @@ pub fn start_disk(alloc: Global, h: &mut UsbDisk, options: &UsbDiskOptions) -> u
     let Some(identity) = read_identity(&options.identity) else {
         return BAD_IDENTITY;
     };
-    let disk = Purpose::Disk(identity, size);
-    recover(alloc, h, disk, options.sectors)
+    let kept = kept_by(options.kept);
+    let plan = DiskPlan {
+        identity,
+        size,
+        kept,
+    };
+    recover(alloc, h, Purpose::Disk(plan), options.sectors)
 }
 
-/// A store starts behind a handle that holds nothing. Of the options it reads the sectors alone.
+/// A store starts behind a handle that holds nothing. Of the options it reads how many sectors the
+/// device has, and how many records are kept.
 pub fn start_store(alloc: Global, h: &mut UsbDisk, options: &UsbDiskOptions) -> u32
     ensures { StartsStore options.now h.old.held h.new.held result }
 {
     if holds_any(h) {
         return STARTED;
     }
-    recover(alloc, h, Purpose::Store, options.sectors)
+    let store = Purpose::Store(kept_by(options.kept));
+    recover(alloc, h, store, options.sectors)
 }
 
 /// What a handle holds goes.

@@ -110,7 +110,7 @@ impl Purpose {
         ensures { result ≡ code_before code self.now }
     {
         match self {
-            Purpose::Store => code,
+            Purpose::Store(_) => code,
             _ => OTHER_KIND,
         }
     }

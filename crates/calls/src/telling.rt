@@ -10,7 +10,7 @@ use crate::held::{Held, Stage};
 use crate::lending::held_in;
 use bot_machine::StartFault;
 use disk_machine::{ACK, BAD_LENGTH, EMPTY};
-use image_calls::ReadEnd;
+use image_calls::{Opening, Reach, ReadEnd};
 use std::alloc::Global;
 use std::mem;
 use window::DoneFault;
@@ -72,11 +72,10 @@ impl Held {
         ghost content: { List ℕ }
         ensures { BeginsAt content self.old.stage self.old self.new }
     {
-        let stage = mem::replace(&mut self.stage, Stage::Failed(StartFault::NoMemory));
-        self.stage = match stage {
-            Stage::Opening(opening) => self.purpose.begin(alloc, opening),
-            other => other,
-        };
+        if let Stage::Opening(opening) = &mut self.stage {
+            let read = mem::replace(opening, Opening::new(alloc, 0, Reach::First));
+            self.purpose.begin(alloc, read, &mut self.stage);
+        }
     }
 }
 

@@ -4,24 +4,23 @@ ghost use Rattle.image_calls.specs.Reading.{IsWhole, IsSound};
 ghost use Rattle.calls.specs.Beginning.{BeginsStore, BeginsFormat, BeginsLog, BeginsMigration};
 ghost use Rattle.calls.specs.Beginning.{IsStore, IsImage, fault_of_call, fault_of_image};
 
-use crate::device::device_holding;
 use crate::held::Stage;
 use bot_machine::StartFault;
 use image_calls::{ImageFault, ImageMachine, ImagePlan, Opening};
 use std::alloc::Global;
-use store_calls::{CallFault, StoreMachine, begin_machine};
+use store_calls::{CallFault, StoreMachine, begin_machine, device_holding};
 
 /// A store begins, or does not.
-pub(crate) fn begin_store(alloc: Global, opening: Opening) -> Stage
+pub(crate) fn begin_store(alloc: Global, opening: Opening, kept: u8) -> Stage
     ghost content: { List ℕ }
     requires whole { IsWhole opening }
     requires sound { IsSound opening }
-    ensures { BeginsStore content opening result }
+    ensures { BeginsStore content kept opening result }
 {
     let sectors = opening.sectors();
-    let near = opening.into_near();
+    let sight = opening.into_sight();
     let device = device_holding();
-    stage_of_store(begin_machine(alloc, near, sectors, &device))
+    stage_of_store(begin_machine(alloc, sight, sectors, &device, kept))
 }
 
 /// A format begins, or does not.

@@ -21,9 +21,16 @@ pub extern "C" fn usbdisk_version() -> u32
 
 #[unsafe(no_mangle)]
 pub extern "C" fn usbdisk_memory(format: u32, slots: u64) -> u64
-    ensures { TellsMemory format slots result }
+    ensures { TellsMemory format slots 0 result }
 {
-    calls::memory_of(format, slots)
+    calls::memory_of(format, slots, 0)
+}
+
+#[unsafe(no_mangle)]
+pub extern "C" fn usbdisk_memory_kept(format: u32, slots: u64, kept: u32) -> u64
+    ensures { TellsMemory format slots kept result }
+{
+    calls::memory_of(format, slots, kept)
 }
 
 #[unsafe(no_mangle)]
