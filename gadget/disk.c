@@ -180,8 +180,8 @@ static bool carry_out_start(struct disk *disk)
 bool disk_start(struct disk *disk, uint32_t packet)
 {
     disk_stop(disk);
-    disk->device =
-        (struct usbdisk_io_device){ disk, disk->sectors, read_for, write_for, flush_for };
+    disk->device = (struct usbdisk_io_device){ disk,      disk->sectors, read_for,
+                                               write_for, flush_for,     0 };
     disk->has_faulted = disk->is_held = false;
     uint32_t fault = usbdisk_io_begin(&disk->io, &disk->device, &disk->identity, packet);
     if (fault)

@@ -187,7 +187,7 @@ void place_begin(struct place *place, uint64_t sectors)
     place->done = 0;
     place->all = sectors;
     place->device =
-        (struct usbdisk_io_device){ place, place->disk.sectors, read_for, write_for, flush_for };
+        (struct usbdisk_io_device){ place, place->disk.sectors, read_for, write_for, flush_for, 0 };
 }
 
 /* The folder of a new file keeps its name only once it is flushed too. Some file systems cannot do

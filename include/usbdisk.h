@@ -50,9 +50,9 @@
 extern "C" {
 #endif
 
-/* The version, 1.8.0: two bytes hold the first number, and one byte each of the others. The library
+/* The version, 1.9.0: two bytes hold the first number, and one byte each of the others. The library
  * tells its own. Where the two differ, header and library are not of one version. */
-#define USBDISK_VERSION 0x010800u
+#define USBDISK_VERSION 0x010900u
 
 uint32_t usbdisk_version(void);
 
@@ -142,11 +142,13 @@ struct usbdisk_layout {
 uint32_t usbdisk_look(const uint8_t sector[512], struct usbdisk_layout *layout);
 
 /* How many bytes of memory a disk takes, on an image of this format (1 or 2) with `slots` log
- * slots, of every size of the device. A store takes 18,768 bytes less in format 1 and 221,616 less
- * in format 2. Neither takes more while it starts. Each sector between log and home takes 512 bytes
- * more: at most 126,976, where an image was migrated or made so. 0 where there is no such format or
- * number of slots. */
+ * slots, of every size of the device, where `kept` of its options is 0. A store takes 18,768 bytes
+ * less in format 1 and 221,616 less in format 2. Neither takes more while it starts. 0 where there
+ * is no such format or number of slots. */
 uint64_t usbdisk_memory(uint32_t format, uint64_t slots);
+
+/* The same where `kept` is that of its options. */
+uint64_t usbdisk_memory_kept(uint32_t format, uint64_t slots, uint32_t kept);
 
 /* Who the disk is, as INQUIRY tells it: printable ASCII, padded with spaces, with no final 0. */
 struct usbdisk_identity {
@@ -156,21 +158,27 @@ struct usbdisk_identity {
     char serial[12];
 };
 
-/* What is started. All is copied: nothing of it has to stay. */
+/* What is started. All is copied: nothing of it has to stay.
+ *
+ * `kept`: how many records of the log lie in memory at most, until their blocks are home; 0 for
+ * four. More than 64 counts as 64, and more than there are slots as many as there are slots. One
+ * more takes 128,720 bytes in format 2 and 26,952 in format 1. In format 2 a disk that keeps three
+ * or more makes one flush for each forced WRITE, for ever; one that keeps fewer makes three. */
 struct usbdisk_options {
     uint64_t sectors;                 /* how many sectors the device has */
     struct usbdisk_identity identity; /* of a disk alone */
     uint32_t packet;                  /* of a disk alone: 64 at full speed, 512 at high speed */
+    uint32_t kept;                    /* records of the log in memory; 0: four */
 };
 
 /* Starts a disk: on what the device holds, which it recovers from whatever a loss of power left.
  * The device is to carry out the recovery first: a FLUSH, READs of the first sectors, up to 64 at a
  * time, a FLUSH, a WRITE of the head and a FLUSH; where power was lost, blocks are read and written
- * too, as many in a row as lie in one. Then it is to read sector 0, then the others before the
- * blocks, and to carry out three flushes and a write of the head. Until it has, the disk is
- * STARTING. Where there is no disk on the device, or it refuses a call of the recovery or a READ of
- * the first sectors, it is FAILED, and nothing is left but to stop it; of a device of no sectors at
- * once, by BAD_SUPER.
+ * too, as many in a row as lie in one. Then it is to read the sectors 0 and 1, and of the slot of
+ * the next record one sector, in format 1 all 50; and to carry out three flushes and a write of the
+ * head. Until it has, the disk is STARTING. Where there is no disk on the device, or it refuses a
+ * call of the recovery or one of these READs, it is FAILED, and nothing is left but to stop it; of
+ * a device of no sectors at once, by BAD_SUPER.
  *
  * The first command behind a start, other than INQUIRY and REQUEST SENSE, ends with CHECK CONDITION
  * and 6/29/00: the power was off. REQUEST SENSE tells it too, and ends it.
@@ -231,11 +239,11 @@ uint32_t usbdisk_state(struct usbdisk *disk, uint32_t *fault);
  * packet does. They are taken packet by packet, each as many bytes as a packet has, the last maybe
  * fewer; no bytes are one empty packet. `*taken` tells how many were taken.
  *
- * Answers ACK: all of them. NAK: the disk waits for its device (it starts, it reads, the packet is a
- * READ that lacks sectors, or it asks for writes: see below), or the host has not taken the status
- * of the command before. Nothing happened to the packet behind those that were taken: hand it in
- * again, behind the next done, idle or status; where a bus reset comes first, let go of it. STALL:
- * the endpoint is halted. Errors: EMPTY, OTHER_KIND.
+ * Answers ACK: all of them. NAK: the disk waits for its device (it starts, it reads, the packet is
+ * a READ that lacks sectors, or it asks for writes: see below), or the host has not taken the
+ * status of the command before. Nothing happened to the packet behind those that were taken: hand
+ * it in again, behind the next done, idle or status; where a bus reset comes first, let go of it.
+ * STALL: the endpoint is halted. Errors: EMPTY, OTHER_KIND.
  *
  * A packet asks for writes that ends a WRITE for which memory has no room, or a command that
  * promises while writes before it are not yet in the log. usbdisk_next tells the WRITEs and FLUSHes
@@ -331,10 +339,10 @@ uint32_t usbdisk_migrate(struct usbdisk *image, const struct usbdisk_plan *plan)
  * carry out what usbdisk_next tells, until it tells NOTHING, and make the same call again. While
  * the first sectors are read each of these calls answers BUSY, whatever it is given.
  *
- * Starts a store, as usbdisk_start starts a disk; of the options it reads `sectors` alone. In
- * format 2 with 3 slots or more it brings blocks home ahead of the flush of its next record: a sync
- * flushes once for each record that it writes. Answers 0; STARTED; or NO_MEMORY, and the handle
- * stays empty. */
+ * Starts a store, as usbdisk_start starts a disk; of the options it reads `sectors` and `kept`. In
+ * format 2 with three records kept or more it brings blocks home ahead of the flush of its next
+ * record: a sync flushes once for each record that it writes. Answers 0; STARTED; or NO_MEMORY, and
+ * the handle stays empty. */
 uint32_t usbdisk_store_start(struct usbdisk *store, const struct usbdisk_options *options);
 
 /* How many blocks there are, and how many of them one read or write may have: 48 in format 1, 240
@@ -355,8 +363,9 @@ uint32_t usbdisk_store_read(struct usbdisk *store, uint64_t block, uint8_t *byte
  * memory has room for it.
  *
  * Answers 0 where it is accepted; BUSY, and it is not: the batch before has to be written first;
- * DEAD, and none of it is written: the store was dead, or died in this call; a number from 1 to 10 where the start failed. Errors: EMPTY,
- * OTHER_KIND, BAD_LENGTH and BAD_RANGE, as of usbdisk_store_read. */
+ * DEAD, and none of it is written: the store was dead, or died in this call; a number from 1 to 10
+ * where the start failed. Errors: EMPTY, OTHER_KIND, BAD_LENGTH and BAD_RANGE, as of
+ * usbdisk_store_read. */
 uint32_t usbdisk_store_write(struct usbdisk *store, uint64_t block, const uint8_t *bytes,
                              size_t size);
 

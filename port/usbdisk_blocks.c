@@ -11,7 +11,8 @@ struct usbdisk_blocks {
 /* Has the device carry out the start. Answers why there are no blocks, or 0. */
 static uint32_t begin(struct usbdisk_blocks *blocks, uint32_t most)
 {
-    struct usbdisk_options options = { .sectors = blocks->carry.device->sectors };
+    const struct usbdisk_io_device *device = blocks->carry.device;
+    struct usbdisk_options options = { .sectors = device->sectors, .kept = device->kept };
     uint32_t code = usbdisk_store_start(&blocks->carry.core, &options);
     if (!code)
         code = usbdisk_carry_begin(&blocks->carry, most);

@@ -106,7 +106,7 @@ static bool carry_all(struct usbdisk_io *io)
 uint32_t usbdisk_io_begin(struct usbdisk_io **io, const struct usbdisk_io_device *device,
                           const struct usbdisk_identity *identity, uint32_t packet)
 {
-    struct usbdisk_options options = { device->sectors, *identity, packet };
+    struct usbdisk_options options = { device->sectors, *identity, packet, device->kept };
     struct usbdisk_io *made = usbdisk_carry_alloc(sizeof *made);
     if (!made)
         return USBDISK_NO_MEMORY;

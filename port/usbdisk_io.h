@@ -1,6 +1,6 @@
 /* A USB disk over a device of yours: you write three functions, and hand over whole transfers.
  *
- *     static const struct usbdisk_io_device flash = { NULL, SECTORS, read, write, flush };
+ *     static const struct usbdisk_io_device flash = { NULL, SECTORS, read, write, flush, 0 };
  *     struct usbdisk_io *io;
  *     code = usbdisk_io_start(&io, &flash, &who, 512);       once the bus tells its speed
  *     code = usbdisk_io_out(io, bytes, size, &taken);        bytes came to Bulk-Out
@@ -41,6 +41,8 @@ enum { USBDISK_IO_MOST = 240 };
 
 /* The device: so many sectors of 512 bytes, and three functions, each of which is handed the
  * context. They answer false where the device refuses. What they must promise docs/MAKERS.md tells.
+ * Of a disk or blocks on it `kept` is that of struct usbdisk_options: how many records of the log
+ * lie in memory; 0, as where nothing is said, for four.
  *
  * read, write: `count` sectors, 1 to USBDISK_IO_MOST, from `first` on, with their bytes one behind
  * the other. `bytes` is aligned to 16. A write may be lost until the next flush.
@@ -51,6 +53,7 @@ struct usbdisk_io_device {
     bool (*read)(void *context, uint64_t first, uint8_t *bytes, size_t count);
     bool (*write)(void *context, uint64_t first, const uint8_t *bytes, size_t count);
     bool (*flush)(void *context);
+    uint32_t kept;
 };
 
 /* A disk that was started. */

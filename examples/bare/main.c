@@ -67,7 +67,7 @@ static bool is_new(void)
 
 static void start(void)
 {
-    const struct usbdisk_options options = { block_sectors(), who, PACKET };
+    const struct usbdisk_options options = { block_sectors(), who, PACKET, 0 };
     if (is_new())
         lay_image();
     uint32_t fault, code = usbdisk_start(&disk, &options);

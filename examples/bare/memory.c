@@ -5,8 +5,8 @@
 #include "board.h"
 #include "usbdisk.h"
 
-/* Enough for a start in format 2 with three slots: usbdisk_memory tells the bytes. */
-enum { HEAP = 2 << 20 };
+/* Enough for a start in format 2 with four records kept: usbdisk_memory tells the bytes. */
+enum { HEAP = 6 << 18 };
 
 static _Alignas(16) uint8_t heap[HEAP];
 static size_t taken, blocks;

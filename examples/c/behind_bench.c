@@ -7,6 +7,7 @@ bool bench_start(struct bench *bench, unsigned packet)
         .sectors = SECTORS,
         .identity = { "EXAMPLE ", "BEHIND          ", "0001", "000000000001" },
         .packet = packet,
+        .kept = 1 + random_below(6),
     };
     bench->rests = bench->is_faulted = bench->has_failed = bench->is_unread = false;
     bench->reads_ahead = false;
@@ -51,8 +52,35 @@ static bool note_rest(struct bench *bench)
     return true;
 }
 
-/* A READ: of a recovery, which reads a few sectors ahead; of the first sectors, in order; of what is
- * wished for; or of what a host lacks. */
+/* The sectors that a start reads next behind its recovery: the first two, and then those of the
+ * slot of the next record that tell whether it is there: all of them in format 1, and the last in
+ * format
+ * 2. The head has the stamp of that record. */
+static struct usbdisk_call next_of_start(const struct bench *bench)
+{
+    const uint8_t *super = bench->device.now, *head = super + 512;
+    struct usbdisk_layout layout;
+    uint64_t stamp = 0, read = bench->opened;
+    if (read < 2 || usbdisk_look(super, &layout))
+        return (struct usbdisk_call){ USBDISK_READ, read, 2 - read };
+    for (unsigned i = 8; i > 0; i--)
+        stamp = stamp << 8 | head[7 + i];
+    uint64_t slot = stamp % layout.slots, more = read - 2;
+    if (layout.format == 1)
+        return (struct usbdisk_call){ USBDISK_READ, 2 + 50 * slot + more, 50 - more };
+    return (struct usbdisk_call){ USBDISK_READ, 2 + 249 * slot + 248, 1 - more };
+}
+
+/* Whether a start is to read these: its recovery reads a few sectors ahead. */
+static bool is_next(const struct bench *bench, const struct usbdisk_call *call)
+{
+    struct usbdisk_call next = next_of_start(bench);
+    if (bench->is_mending)
+        return call->count <= MENDS;
+    return call->sector == next.sector && call->count <= next.count;
+}
+
+/* A READ: of a start; of what is wished for; or of what a host lacks. */
 static bool judge_read(struct bench *bench, size_t room)
 {
     const struct usbdisk_call *call = &bench->device.call;
@@ -62,8 +90,7 @@ static bool judge_read(struct bench *bench, size_t room)
     bench->reads_ahead = wish->kind != USBDISK_NOTHING;
     bench->wish.kind = USBDISK_NOTHING;
     bench->behind = call->sector + call->count;
-    bool is_next = bench->is_mending ? call->count <= MENDS : call->sector == bench->opened;
-    if (bench->host.is_opening && (!is_next || 512 * call->count > room))
+    if (bench->host.is_opening && (!is_next(bench, call) || 512 * call->count > room))
         return fails("a start reads other sectors than the next ones");
     if (bench->reads_ahead && (call->sector != wish->sector || call->count != wish->count))
         return fails("other sectors are read than were wished for");
@@ -93,7 +120,7 @@ static bool begin(struct bench *bench)
 }
 
 /* A call of a start has ended. The third flush is the last call of the recovery, and the first
- * sectors are read behind it. */
+ * sectors and those of a slot are read behind it. */
 static void note_opening(struct bench *bench, const struct usbdisk_call *call)
 {
     if (!bench->is_mending) {

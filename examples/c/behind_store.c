@@ -77,7 +77,7 @@ static bool note_refusal(const struct usbdisk_call *call)
 
 static bool open_store(struct usbdisk *it)
 {
-    static const struct usbdisk_options options = { .sectors = SECTORS };
+    const struct usbdisk_options options = { .sectors = SECTORS, .kept = 1 + random_below(6) };
     return !usbdisk_store_start(it, &options) || fails("a start is refused");
 }
 
@@ -335,7 +335,8 @@ static bool play_lives(uint32_t format, uint64_t lives)
     printf(
         "  %lu cuts, %lu of a start; %lu stops with no cut, %lu of them with unflushed sectors\n",
         counts.cuts, counts.starting, counts.stops, counts.unflushed);
-    printf("  %lu writes, %lu of them while the device worked; %lu reads, %lu syncs, %lu answers BUSY, "
+    printf("  %lu writes, %lu of them while the device worked; %lu reads, %lu syncs, %lu answers "
+           "BUSY, "
            "%lu refusals\n",
            counts.writes, counts.behind, counts.reads, counts.syncs, counts.busy, counts.refused);
     return true;

@@ -26,7 +26,7 @@ int main(int count, char **words)
     struct usbdisk_identity who = { "EXAMPLE ", "FILE            ", "0001", "000000000001" };
     int file = count == 2 ? open(words[1], O_RDWR) : -1;
     off_t size = lseek(file, 0, SEEK_END);
-    struct usbdisk_io_device device = { &file, size / 512, read_file, write_file, flush_file };
+    struct usbdisk_io_device device = { &file, size / 512, read_file, write_file, flush_file, 0 };
     struct usbdisk_io *io = NULL;
     struct usbdisk_io_event event;
     uint32_t code = usbdisk_io_format_blank(&device, 2, 6, 0);

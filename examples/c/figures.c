@@ -1,5 +1,5 @@
-/* How much memory a disk takes, by format and slots, against what usbdisk_memory tells, and a store
- * beside it; how much stack a start and the events take. */
+/* How much memory a disk takes, by format, slots and records kept, against what usbdisk_memory
+ * tells, and a store beside it; how much stack a start and the events take. */
 #include "gadget.h"
 #include "image.h"
 #include "stack.h"
@@ -8,6 +8,9 @@
 #include <string.h>
 
 enum { BLOCKS = 500 };
+
+/* 0 and 3 are one, and so are 64 and 65. */
+static const uint32_t some_kept[] = { 0, 1, 2, 3, 4, 6, 64, 65 };
 
 static uint8_t *medium;
 static struct usbdisk_options options = {
@@ -29,46 +32,59 @@ static void make_device(uint32_t format, uint64_t slots)
         exit(EXIT_FAILURE);
 }
 
-static bool serves(struct usbdisk *handle)
+/* Whether it serves, in so many bytes, and took no more while it started. */
+static bool serves_in(struct usbdisk *handle, uint64_t told)
 {
     uint32_t fault;
     carry_all(handle, medium);
-    return usbdisk_state(handle, &fault) == USBDISK_SERVING;
+    return usbdisk_state(handle, &fault) == USBDISK_SERVING && heap_now == told &&
+           heap_most == told;
 }
 
-/* The memory that a disk takes is what usbdisk_memory tells, to the byte, and no more while it
- * starts. */
+/* What was started, where something is wrong with it or all is to be told; it stops. */
+static bool ends(struct usbdisk *handle, const char *what, uint64_t told, bool is_good)
+{
+    if (!is_good)
+        printf("%s: %zu bytes, at most %zu, told %llu\n", what, heap_now, heap_most,
+               (unsigned long long)told);
+    usbdisk_stop(handle);
+    return is_good && heap_blocks == 0;
+}
+
+/* The memory that a disk takes is what usbdisk_memory tells, to the byte. */
 static bool is_memory_told(uint32_t format, uint64_t slots, bool tells)
 {
     struct usbdisk disk = USBDISK_NONE;
-    uint64_t told = usbdisk_memory(format, slots);
-    make_device(format, slots);
+    uint64_t told = usbdisk_memory_kept(format, slots, options.kept);
     heap_most = heap_now;
-    bool good =
-        !usbdisk_start(&disk, &options) && serves(&disk) && told == heap_now && heap_most == told;
+    bool good = !usbdisk_start(&disk, &options) && serves_in(&disk, told);
     if (!good || tells)
-        printf("format %u, %llu slots: %zu bytes, at most %zu, told %llu\n", format,
-               (unsigned long long)slots, heap_now, heap_most, (unsigned long long)told);
-    usbdisk_stop(&disk);
-    free(medium);
-    return good && heap_blocks == 0;
+        printf("format %u, %llu slots, %u kept: told %llu bytes\n", format,
+               (unsigned long long)slots, options.kept, (unsigned long long)told);
+    return ends(&disk, "a disk", told, good);
 }
 
-/* A store takes so much less than a disk, whatever the slots, and no more while it starts. */
-static bool is_store_told(uint32_t format, uint64_t slots, bool tells)
+/* A store takes so much less than a disk, whatever the slots. */
+static bool is_store_told(uint32_t format, uint64_t slots)
 {
     struct usbdisk store = USBDISK_NONE;
-    uint64_t told = usbdisk_memory(format, slots) - (format == 1 ? 18768 : 221616);
-    make_device(format, slots);
+    uint64_t told = usbdisk_memory_kept(format, slots, options.kept) - (format == 1 ? 18768 : 221616);
     heap_most = heap_now;
-    bool good = !usbdisk_store_start(&store, &options) && serves(&store) && heap_now == told &&
-                heap_most == told;
-    if (!good || tells)
-        printf("store of format %u, %llu slots: %zu bytes, told %llu\n", format,
-               (unsigned long long)slots, heap_now, (unsigned long long)told);
-    usbdisk_stop(&store);
+    bool good = !usbdisk_store_start(&store, &options) && serves_in(&store, told);
+    return ends(&store, "a store", told, good);
+}
+
+/* Both, on one device, with so many records kept and so many. */
+static bool are_told(uint32_t format, uint64_t slots, bool tells)
+{
+    bool good = true;
+    make_device(format, slots);
+    for (size_t i = 0; i < sizeof some_kept / sizeof *some_kept; i++) {
+        options.kept = some_kept[i];
+        good &= is_memory_told(format, slots, tells) && is_store_told(format, slots);
+    }
     free(medium);
-    return good && heap_blocks == 0;
+    return good;
 }
 
 int main(int count, char **words)
@@ -77,8 +93,7 @@ int main(int count, char **words)
     struct stacks most;
     for (uint32_t format = 1; format <= 2; format++)
         for (uint64_t slots = 1; slots <= 64; slots++)
-            good &= is_memory_told(format, slots, !quiet && slots % 21 == 1) &&
-                    is_store_told(format, slots, !quiet && slots == 1);
+            good &= are_told(format, slots, !quiet && (slots == 6 || slots == 64));
     good &= measure_stacks(&most);
     if (!quiet)
         printf("stack: %zu bytes in a start, %zu in an event\n", most.start, most.event);

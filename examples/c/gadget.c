@@ -89,7 +89,7 @@ int main(int count, char **words)
     uint8_t block[512] = { 0 };
     struct usbdisk_io *io;
     FILE *file = count == 2 ? fopen(words[1], "w+b") : NULL;
-    struct usbdisk_io_device device = { file, SECTORS, read_file, write_file, flush_file };
+    struct usbdisk_io_device device = { file, SECTORS, read_file, write_file, flush_file, 0 };
     if (!file || ftruncate(fileno(file), SECTORS * 512L) || usbdisk_version() != USBDISK_VERSION)
         return EXIT_FAILURE;
     printf("format: %s\n", usbdisk_text(usbdisk_io_format(&device, FORMAT, SLOTS, BLOCKS)));

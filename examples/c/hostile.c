@@ -69,7 +69,7 @@ static bool flush(void *context)
     return !rarity || below(rarity);
 }
 
-static const struct usbdisk_io_device memory = { NULL, SECTORS, read, write, flush };
+static struct usbdisk_io_device memory = { NULL, SECTORS, read, write, flush, 0 };
 
 /* ---- a disk */
 
@@ -148,6 +148,7 @@ static void any_event(struct usbdisk_io *io)
 static void live(uint32_t packet)
 {
     struct usbdisk_io *io = NULL;
+    memory.kept = below(7);
     uint32_t code = usbdisk_io_start(&io, &memory, &who, packet);
     must(!code || (rarity && code <= USBDISK_FLUSH_REFUSED), usbdisk_text(code));
     for (int i = 0; io && i < EVENTS; i++)
@@ -179,6 +180,7 @@ static void any_call(struct usbdisk_blocks *blocks)
 static void live_by_blocks(void)
 {
     struct usbdisk_blocks *blocks = NULL;
+    memory.kept = below(7);
     uint32_t code = usbdisk_blocks_start(&blocks, &memory, below(300));
     must(!code || (rarity && code <= USBDISK_FLUSH_REFUSED), usbdisk_text(code));
     for (int i = 0; blocks && i < EVENTS / 4; i++)

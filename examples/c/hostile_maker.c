@@ -84,6 +84,7 @@ static void start_any(struct held *it)
         .sectors = below(8) ? SECTORS : below(SECTORS),
         .identity = { "EXAMPLE ", "HOSTILE         ", "0001", "000000000001" },
         .packet = below(8) ? 64u << 3 * below(2) : below(1024),
+        .kept = below(8) ? below(7) : UINT32_MAX - below(2),
     };
     const struct usbdisk_plan plan = { options.sectors, 1 + below(below(8) ? 2 : 9),
                                        1 + below(SLOTS + 1), BLOCKS + below(3),

@@ -23,7 +23,7 @@ enum { BLOCKS = 40, SLOTS = 3, MOST = 4, WRITES = 400, SECTORS = 2 + 249 * SLOTS
 
 enum { PACKET = 512, BEHIND = 0xC7 };
 
-static const struct usbdisk_options options = {
+static struct usbdisk_options options = {
     .sectors = SECTORS,
     .identity = { "EXAMPLE ", "JUDGE           ", "0001", "000000000001" },
     .packet = PACKET,
@@ -168,6 +168,7 @@ static bool read_some(struct usbdisk *disk)
 static bool start(struct usbdisk *disk)
 {
     uint32_t fault = 0;
+    options.kept = random_below(SLOTS + 1);
     if (usbdisk_start(disk, &options))
         return fails("no memory");
     carry_all(disk);

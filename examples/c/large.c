@@ -82,8 +82,9 @@ static bool flush(void *context)
     return !is_cut();
 }
 
-static const struct usbdisk_io_device device = { NULL, BLOCKS + 2 + 249 * SLOTS, read_run,
-                                                 write_run, flush };
+static const struct usbdisk_io_device device = { NULL,     BLOCKS + 2 + 249 * SLOTS,
+                                                 read_run, write_run,
+                                                 flush,    0 };
 
 /* Lays a log of this format, or migrates, up to a cut. How many sectors were written and flushes
  * made. */

@@ -280,26 +280,39 @@ static void play_store(void)
     must(!usbdisk_stop(&store) && !heap_blocks, "a stop of a store");
 }
 
-/* In format 2 with three slots a sync behind a write flushes once, however often. */
-static void play_flushes(void)
+/* How many flushes a sync behind a write makes, the last of many, in format 2 with so many records
+ * kept. */
+static unsigned flushes_of(uint32_t kept)
 {
     enum { ALL = 2 + 249 * 3 + BLOCKS };
     static uint8_t large[ALL * 512];
-    const struct usbdisk_options options = { .sectors = ALL };
+    const struct usbdisk_options options = { .sectors = ALL, .kept = kept };
     struct usbdisk store = USBDISK_NONE;
     struct usbdisk_call call;
+    unsigned flushes = 0, before = 0;
     must(!format_memory(large, sizeof large, 2, BLOCKS, 3), "a format");
     must(!usbdisk_store_start(&store, &options), "a start");
     carry_all(&store, large);
     for (unsigned i = 0; i < 40; i++) {
-        unsigned flushes = 0;
+        before = flushes;
+        flushes = 0;
         must(!usbdisk_store_write(&store, i % BLOCKS, bytes, 512), "a write");
         must(usbdisk_store_sync(&store) == USBDISK_BUSY, "a sync of it");
         while (carry_one(&store, large, &call))
             flushes += call.kind == USBDISK_FLUSH;
-        must(flushes == 1 && !usbdisk_store_sync(&store), "a sync flushes more than once");
+        must(!usbdisk_store_sync(&store), "a sync that has nothing to do");
+        must(i <= kept || flushes == before, "one sync flushes more often than another");
     }
     must(!usbdisk_stop(&store) && !heap_blocks, "a stop of a large store");
+    return flushes;
+}
+
+/* It flushes once, however often, where three records are kept. */
+static void play_flushes(void)
+{
+    must(flushes_of(0) == 1 && flushes_of(3) == 1 && flushes_of(64) == 1,
+         "a sync flushes more than once");
+    must(flushes_of(1) == 3 && flushes_of(2) == 3, "a record goes home with other flushes");
 }
 
 /* The device refuses what a sync wants, and then each call says so. */
@@ -349,8 +362,16 @@ static void play_images(void)
              layout.blocks == BLOCKS && layout.home == FIRST && layout.sectors == SECTORS,
          "what image there is");
     must(!usbdisk_memory(0, 1) && !usbdisk_memory(3, 1) && !usbdisk_memory(1, 0) &&
-             !usbdisk_memory(2, 65) && usbdisk_memory(2, 64) > usbdisk_memory(2, 1),
+             !usbdisk_memory_kept(2, 65, 1) && usbdisk_memory(2, 64) > usbdisk_memory(2, 1),
          "the memory of no format");
+    must(usbdisk_memory(2, 6) == usbdisk_memory_kept(2, 6, 0) &&
+             usbdisk_memory(2, 6) == usbdisk_memory_kept(2, 6, 4) &&
+             usbdisk_memory_kept(2, 6, UINT32_MAX) == usbdisk_memory_kept(2, 6, 6) &&
+             usbdisk_memory_kept(2, 64, 65) == usbdisk_memory_kept(2, 64, 64),
+         "the memory of as many records as can be kept");
+    must(usbdisk_memory_kept(1, 6, 4) == usbdisk_memory_kept(1, 6, 3) + 26952 &&
+             usbdisk_memory_kept(2, 6, 4) == usbdisk_memory_kept(2, 6, 3) + 128720,
+         "the memory of one record more");
 }
 
 int main(void)

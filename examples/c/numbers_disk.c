@@ -5,6 +5,9 @@
 #include "image.h"
 #include <string.h>
 
+/* How many sectors a start reads behind its recovery: the two first ones, and a slot. */
+enum { READS = 2 + 50 };
+
 static uint8_t bytes[1024];
 
 static void begin(struct usbdisk *disk)
@@ -68,7 +71,17 @@ static void play_mending(struct usbdisk *disk)
     must(writes == 1, "the head is not written once");
 }
 
-/* Behind it the first sectors are read in order, as many at once as there is room for. */
+/* The sector that is read behind so many: of the two first ones, and then of the slot of the next
+ * record, whose stamp the head has. */
+static uint64_t next_sector(uint64_t read)
+{
+    uint64_t stamp = 0;
+    for (unsigned i = 8; i > 0; i--)
+        stamp = stamp << 8 | medium[512 + 7 + i];
+    return read < 2 ? read : 50 * (stamp % SLOTS) + read;
+}
+
+/* Behind it these are read in order, as many at once as there is room for. */
 static void play_opening(void)
 {
     struct usbdisk disk = USBDISK_NONE;
@@ -79,11 +92,12 @@ static void play_opening(void)
     play_before(&disk);
     play_mending(&disk);
     while (!usbdisk_next(&disk, &call, bytes, 1024) && call.kind == USBDISK_READ) {
-        must(call.sector == read && call.count >= 1 && call.count <= 2, "not the next sectors");
+        must(call.sector == next_sector(read) && call.count >= 1 && call.count <= 2,
+             "not the next sectors");
         read += call.count;
         end_read(&disk, &call);
     }
-    must(read == FIRST, "other sectors are read than those before the blocks");
+    must(read == READS, "other sectors are read than those that a start wants");
     must(usbdisk_setup(&disk, max_lun, bytes, &size) == USBDISK_ACK && size == 1 && !bytes[0],
          "a request while the start writes");
     must(!usbdisk_done(&disk, true, bytes, 7), "the bytes of a call that is no READ are looked at");
@@ -109,7 +123,7 @@ static void play_recovery(void)
     end(&disk);
 }
 
-/* What comes while a disk starts: `read` of its first sectors were read, behind the recovery. */
+/* What comes while a disk starts: `read` of its sectors were read, behind the recovery. */
 static void play_bus_between(struct usbdisk *disk, uint64_t read)
 {
     uint32_t fault;
@@ -119,7 +133,7 @@ static void play_bus_between(struct usbdisk *disk, uint64_t read)
          "a packet while a disk starts");
     must(usbdisk_in(disk, bytes, 512, &moved) == USBDISK_NAK && !moved, "nothing is to be sent");
     must(serves || !usbdisk_ahead(disk, FIRST, 1), "sectors ahead while a disk starts");
-    must(usbdisk_idle(disk) == (read < FIRST), "steps are left until the first sectors are read");
+    must(usbdisk_idle(disk) == (read < READS), "steps are left until the first sectors are read");
     moved = UNTOLD;
     must(usbdisk_in(disk, bytes, 511, &moved) == USBDISK_BAD_LENGTH && moved == UNTOLD,
          "room for no packet");

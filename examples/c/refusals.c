@@ -70,7 +70,7 @@ static bool flush(void *context)
     return true;
 }
 
-static const struct usbdisk_io_device memory = { NULL, SECTORS, read, write, flush };
+static const struct usbdisk_io_device memory = { NULL, SECTORS, read, write, flush, 0 };
 
 static void refuse(enum kind kind, unsigned number)
 {

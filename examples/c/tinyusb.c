@@ -59,7 +59,7 @@ static bool flush(void *context)
     return !is_refused() && device_flush();
 }
 
-static const struct usbdisk_io_device device = { NULL, SECTORS, read_run, write_run, flush };
+static const struct usbdisk_io_device device = { NULL, SECTORS, read_run, write_run, flush, 0 };
 
 /* ---- the callbacks */
 
@@ -267,7 +267,7 @@ static void play_worn(void)
     must(!has_blocks(0, 1) && sense == 0x031100, "a read of a worn sector");
     must(has_blocks(SPAN, 1), "a read beside a worn sector");
     usbdisk_blocks_stop(disk);
-    for (worn = 0; worn < SECTORS - BLOCKS; worn += 100)
+    for (worn = 0; worn < 2; worn++)
         must(usbdisk_blocks_start(&disk, &device, SPAN) == USBDISK_READ_REFUSED && !heap_blocks,
              "a start over a worn sector");
     worn = UINT64_MAX;

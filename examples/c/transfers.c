@@ -48,7 +48,7 @@ static bool flush(void *context)
     return context == NULL;
 }
 
-static const struct usbdisk_io_device memory = { NULL, SECTORS, read, write, flush };
+static const struct usbdisk_io_device memory = { NULL, SECTORS, read, write, flush, 0 };
 
 /* A wrapper around a command, for so many bytes. */
 static uint32_t ask(struct usbdisk_io *io, const uint8_t command[10], uint8_t flags, size_t size)
@@ -83,7 +83,7 @@ static struct usbdisk_io *start(uint32_t packet)
     struct usbdisk_io *io = NULL;
     must(!usbdisk_look(device[0], &layout), "no image");
     size_t most = layout.format == 1 ? 48 : 240;
-    size_t told = usbdisk_memory(layout.format, layout.slots) + 512 * most;
+    size_t told = usbdisk_memory_kept(layout.format, layout.slots, memory.kept) + 512 * most;
     heap_most = heap_now;
     must(!usbdisk_io_start(&io, &memory, &who, packet), "a start");
     must(heap_now > told && heap_now < told + 256 && heap_most == heap_now, "its memory");
@@ -206,7 +206,7 @@ static void play_ahead(struct usbdisk_io *io)
 /* A device is made an image of where it is blank, and else is left as it is. */
 static void play_blank(void)
 {
-    static const struct usbdisk_io_device none = { NULL, 0, read, write, flush };
+    static const struct usbdisk_io_device none = { NULL, 0, read, write, flush, 0 };
     struct usbdisk_layout layout;
     for (int blank = 0x00; blank <= 0xFF; blank += 0xFF) {
         memset(device[0], blank, 512);

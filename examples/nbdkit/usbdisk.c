@@ -88,8 +88,9 @@ static int usbdisk_get_ready(void)
         return fail(errno, strerror(errno));
     if (flock(file, LOCK_EX | LOCK_NB))
         return fail(EBUSY, "locked by another program");
-    device = (struct usbdisk_io_device){ NULL, (uint64_t)length / 512, read_file, write_file,
-                                         flush_file };
+    device = (struct usbdisk_io_device){
+        NULL, (uint64_t)length / 512, read_file, write_file, flush_file, 0,
+    };
     return answered(usbdisk_blocks_start(&blocks, &device, USBDISK_IO_MOST));
 }
 

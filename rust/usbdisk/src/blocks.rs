@@ -19,7 +19,7 @@ impl<'b, D: Device> Blocks<'b, D> {
     /// `buffer` has room for the longest read, as that of [`Io::start`](crate::Io::start).
     pub fn start(mut device: D, buffer: &'b mut [u8]) -> Result<Self, Error<D::Error>> {
         let (_, buffer) = fitted(&mut device, buffer)?;
-        let mut store = Store::start(device.sectors())?;
+        let mut store = Store::start_keeping(device.sectors(), device.kept())?;
         store.carry_out(&mut device, buffer)?;
         let (blocks, limit) = store.sizes()?;
         Ok(Blocks {

@@ -36,19 +36,35 @@ holds!(Disk);
 
 impl Disk {
     /// Starts a disk on a device of so many sectors, on what it holds. `packet` is 64 at full speed, 512
-    /// at high speed.
+    /// at high speed. It keeps four records: see [`Disk::start_keeping`].
     ///
     /// It is [`State::Starting`](crate::State) until the device has carried out what that takes: the
     /// first sectors are read, and the recovery is written.
     ///
     /// [`Misuse::BadPacketSize`], [`Misuse::BadIdentity`], or [`Fault::NoMemory`](crate::Fault).
     pub fn start(sectors: u64, identity: &Identity, packet: u32) -> Result<Self, Refusal> {
+        Disk::start_keeping(sectors, identity, packet, 0)
+    }
+
+    /// The same of a disk with at most so many records of the log in memory, until their blocks are home;
+    /// 0 for three. More than 64 counts as 64, and more than there are slots as many as there are slots.
+    /// One more takes 128,720 bytes in format 2 and 26,952 in format 1. In format 2 a disk that keeps
+    /// three or more makes one flush for each forced WRITE, for ever; one that keeps fewer makes three.
+    ///
+    /// Those of [`Disk::start`].
+    pub fn start_keeping(
+        sectors: u64,
+        identity: &Identity,
+        packet: u32,
+        kept: u32,
+    ) -> Result<Self, Refusal> {
         let mut disk = Disk(Handle::NONE);
         let identity = *identity;
         let options = sys::usbdisk_options {
             sectors,
             identity,
             packet,
+            kept,
         };
         // SAFETY: the handle holds nothing, and both are lent for the call.
         Refusal::check(unsafe { sys::usbdisk_start(disk.handle(), &options) })?;

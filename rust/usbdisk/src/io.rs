@@ -44,7 +44,8 @@ impl<'b, D: Device> Io<'b, D> {
         packet: u32,
     ) -> Result<Self, Error<D::Error>> {
         let (layout, buffer) = fitted(&mut device, buffer)?;
-        let mut disk = Disk::start(device.sectors(), identity, packet)?;
+        let (sectors, kept) = (device.sectors(), device.kept());
+        let mut disk = Disk::start_keeping(sectors, identity, packet, kept)?;
         disk.carry_out(&mut device, buffer)?;
         Ok(Io {
             disk,

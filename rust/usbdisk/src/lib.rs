@@ -35,7 +35,7 @@ pub use refusal::{Error, Fault, Misuse, Refusal};
 pub use store::Store;
 
 /// The version of `usbdisk.h` that this crate is written for.
-pub const VERSION: u32 = 0x010800;
+pub const VERSION: u32 = 0x010900;
 
 /// Bytes of a sector and of a block.
 pub const SECTOR: usize = 512;
@@ -60,6 +60,12 @@ pub trait Device {
 
     /// Makes durable all that was written before.
     fn flush(&mut self) -> Result<(), Self::Error>;
+
+    /// How many records of the log an [`Io`] or [`Blocks`] keeps in memory at most, until their blocks
+    /// are home: see [`Disk::start_keeping`]. 0 for four.
+    fn kept(&self) -> u32 {
+        0
+    }
 }
 
 impl<D: Device + ?Sized> Device for &mut D {
@@ -79,6 +85,10 @@ impl<D: Device + ?Sized> Device for &mut D {
 
     fn flush(&mut self) -> Result<(), D::Error> {
         (**self).flush()
+    }
+
+    fn kept(&self) -> u32 {
+        (**self).kept()
     }
 }
 
@@ -162,13 +172,18 @@ pub fn version() -> u32 {
     unsafe { sys::usbdisk_version() }
 }
 
-/// How many bytes of memory a disk takes, on an image of this format with so many slots. A store
-/// takes 18,768 bytes less in format 1 and 221,616 less in format 2. Neither takes more while it
-/// starts. An image that was migrated may take up to 126,976 bytes more. 0 where there is no such
-/// image.
+/// How many bytes of memory a disk takes, on an image of this format with so many slots. A store takes
+/// 18,768 bytes less in format 1 and 221,616 less in format 2. Neither takes more while it starts. 0
+/// where there is no such image.
 pub fn memory(format: u32, slots: u64) -> u64 {
     // SAFETY: the call takes numbers alone.
     unsafe { sys::usbdisk_memory(format, slots) }
+}
+
+/// The same of a disk that keeps so many records ([`Disk::start_keeping`]).
+pub fn memory_kept(format: u32, slots: u64, kept: u32) -> u64 {
+    // SAFETY: the call takes numbers alone.
+    unsafe { sys::usbdisk_memory_kept(format, slots, kept) }
 }
 
 /// What image begins with these bytes of sector 0: [`Fault::BadSuper`], [`Fault::BadVersion`] or

@@ -16,12 +16,19 @@ impl Store {
     /// Starts a store on a device of so many sectors, as [`Disk::start`](crate::Disk::start) starts a
     /// disk.
     pub fn start(sectors: u64) -> Result<Self, Refusal> {
+        Store::start_keeping(sectors, 0)
+    }
+
+    /// The same of a store with at most so many records of the log in memory, as
+    /// [`Disk::start_keeping`](crate::Disk::start_keeping) has it.
+    pub fn start_keeping(sectors: u64, kept: u32) -> Result<Self, Refusal> {
         let mut store = Store(Handle::NONE);
-        // (of the options it reads the sectors alone)
+        // (of the options it reads neither identity nor packet)
         let options = sys::usbdisk_options {
             sectors,
             identity: Identity::new("", "", "", ""),
             packet: 0,
+            kept,
         };
         // SAFETY: the handle holds nothing, and both are lent for the call.
         Refusal::check(unsafe { sys::usbdisk_store_start(store.handle(), &options) })?;

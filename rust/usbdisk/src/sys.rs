@@ -26,6 +26,7 @@ pub struct usbdisk_options {
     pub sectors: u64,
     pub identity: crate::Identity,
     pub packet: u32,
+    pub kept: u32,
 }
 
 /// `struct usbdisk_call`
@@ -41,6 +42,7 @@ extern "C" {
     pub fn usbdisk_version() -> u32;
     pub fn usbdisk_look(sector: *const u8, layout: *mut crate::Layout) -> u32;
     pub fn usbdisk_memory(format: u32, slots: u64) -> u64;
+    pub fn usbdisk_memory_kept(format: u32, slots: u64, kept: u32) -> u64;
 
     pub fn usbdisk_start(disk: *mut usbdisk, options: *const usbdisk_options) -> u32;
     pub fn usbdisk_stop(disk: *mut usbdisk) -> u32;
