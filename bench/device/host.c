@@ -109,6 +109,7 @@ void start_disk(struct host *host)
     struct usbdisk_options options = {
         .identity = { "EXAMPLE ", "MEASURE         ", "0001", "000000000001" },
         .packet = 512,
+        .kept = host->kept,
     };
     host->sectors = 2 + (host->format == 1 ? 50 : 249) * host->slots + BLOCKS;
     host->device = malloc(512 * host->sectors);

@@ -10,8 +10,8 @@ struct host {
     struct usbdisk disk;
     uint8_t *device; /* the device's bytes */
     uint64_t sectors, slots;
-    uint32_t format, limit;
-    bool is_store; /* it is a store, for a stack that has SCSI in it */
+    uint32_t format, limit, kept; /* kept: records of the log in memory; 0: four */
+    bool is_store;                /* it is a store, for a stack that has SCSI in it */
     void (*note)(struct host *host,
                  const struct usbdisk_call *call); /* of each call that is told */
 };

@@ -3,7 +3,7 @@
  * SCSI in it. Beside it the same by a plain disk that promises no order, written through, and
  * written back as fast as link and device allow.
  *
- * traffic [FORMAT [SLOTS]] */
+ * traffic [FORMAT [SLOTS [KEPT]]], with KEPT records in memory */
 #include "draw.h"
 #include "link.h"
 #include <stdio.h>
@@ -128,7 +128,8 @@ static void measure_all(const struct host *host)
 int main(int count, char **words)
 {
     struct host host = { .format = count > 1 ? (uint32_t)atoi(words[1]) : 2,
-                         .slots = count > 2 ? (uint64_t)atoi(words[2]) : 6 };
+                         .slots = count > 2 ? (uint64_t)atoi(words[2]) : 6,
+                         .kept = count > 3 ? (uint32_t)atoi(words[3]) : 0 };
     puts("| Device | Traffic | MB/s | The device works, in 100 | MB/s, a plain disk, through "
          "| MB/s, written back | READ, 99 of 100, ms |");
     puts("|---|---|---|---|---|---|---|");
