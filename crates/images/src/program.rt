@@ -47,7 +47,7 @@ usbdisk_image show IMAGE\nusbdisk_image migrate IMAGE\n\
 usbdisk_image import RAW IMAGE --slots K --format 1|2 [--replace]\n\
 usbdisk_image export IMAGE RAW [--replace]\n";
 
-const VERSION: &[u8] = b"usbdisk_image 1.8\n";
+const VERSION: &[u8] = b"usbdisk_image 1.9\n";
 
 /// Does what the words after the program's name ask for, and gives the exit status.
 ///
