@@ -1,20 +1,15 @@
 -- What is read for a start is all that it reads where no record waits.
-use Rattle.std.proofs.Common.{◌≡◌, ◌≢◌, ◌<◌, ◌≤◌, ◌*◌, ◌/◌, ◌∙◌, refl, ℕ, zero, suc, List, length, sym, ap, inl, arith}
+use Rattle.std.proofs.Common.{◌≡◌, ◌≢◌, ◌≤◌, ◌*◌, ◌/◌, ◌∙◌, refl, ℕ, zero, suc, List, length, sym, ap, inl, arith}
 use Rattle.std.proofs.Common.{Result, Ok, Err, IfOk, IfErr, MatchResult}
-use Rattle.medium.specs.Medium.{State}
-use Rattle.medium.specs.Writes.{sector_of}
 use Rattle.journal.specs.Places.{Shape, sectors_of, told_of}
 use Rattle.journal.specs.declared.log_format.LogFormat.{LogFormat}
 use Rattle.journal.specs.declared.log_format.LogFormat.TheVariants.{One, Two}
-use Rattle.journal.specs.Sectors.{IsSuper, IsHead}
-use Rattle.journal.specs.Standing.{HasShape}
 use Rattle.spec.specs.Blocks.{Array}
 use Rattle.recovery.specs.Calls.{IsFresh}
-use Rattle.window.specs.Window.{Window, state_of, is_in_sight}
-use Rattle.bot_machine.specs.Device.{Device, Kept}
+use Rattle.window.specs.Window.{Window, state_of}
 use Rattle.disk_machine.specs.Machine.{Machine}
 use Rattle.disk_machine.specs.Refusals.{HoldsLog}
-use Rattle.store_calls.specs.Rooms.{HoldsImageLog, SeesFresh}
+use Rattle.store_calls.specs.Rooms.{SeesFresh}
 use Rattle.store_calls.specs.Sights.{shown_on, IsNoSight, IsNoMedium}
 use Rattle.store_calls.specs.Supers.{span_of, Reserves}
 use Rattle.store_calls.specs.MachineStart as stores

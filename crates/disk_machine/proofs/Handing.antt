@@ -1,6 +1,6 @@
 -- A machine whose disk is as it was but for its medium: calls leave the outbox, and are under way.
-use Rattle.std.proofs.Common.{◌≡◌, ◌⊎◌, ℕ, sym, ◌∙◌, ap, subst, inl, inr, arith, ◌≤◌, ◌+◌, ◌++◌, ◌∷◌, [], zero, suc, length, List}
-use Rattle.std.proofs.Common.{refl, append_assoc, length-append}
+use Rattle.std.proofs.Common.{◌≡◌, ◌⊎◌, ℕ, sym, ◌∙◌, ap, subst, inl, inr, arith, ◌≤◌, length, List}
+use Rattle.std.proofs.Common.{refl}
 use Rattle.window.specs.{Window.{state_of, Window}, declared.call.DeviceCall.DeviceCall, declared.call.DeviceCall.TheVariants.Flush}
 use Rattle.window.specs.{declared.ask.DeviceRead.DeviceRead, declared.ask.DeviceAsk.DeviceAsk, declared.asked.Asked.Asked}
 use Rattle.spec.specs.{Book.Book, Rules.UnitState}

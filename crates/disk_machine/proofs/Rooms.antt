@@ -5,8 +5,8 @@ use Rattle.std.specs.Prelude.{Option}
 use Rattle.std.specs.List.{list_all}
 use Rattle.std.proofs.lemmas.Bool.{cases_Bool, false≢true}
 use Rattle.std.proofs.lemmas.List.{append-nil, nil_from_length}
-use Rattle.journal.specs.{Places.Shape, Sectors.IsSuper}
-use Rattle.medium.specs.{Sent.sent, Writes.sector_of}
+use Rattle.journal.specs.{Places.Shape}
+use Rattle.medium.specs.{Sent.sent}
 use Rattle.medium.specs.declared.fault.MediumFault.TheVariants as kind
 use Rattle.window.specs.{Story.given, declared.call.DeviceCall.DeviceCall, Window.{Window, state_of, is_in_sight, ComesAfter}}
 use Rattle.window.specs.{Window.IsServed, WindowLaws.{is_sound, comes_after_itself}, Looks.{near_in_sight, none_refused, none_missed}}
@@ -18,7 +18,7 @@ use Rattle.bot_machine.specs.{Device.Device, Disk.IsStepBy, Opening.{IsOpened, I
 use Rattle.recovery.specs.declared.start_fault.StartFault.TheVariants as fault
 use Rattle.spec.specs.declared.event.Event.TheVariants as event
 use Rattle.disk_machine.specs.{Plays.{Disk, medium_of, layout_on, Foresees, Plays, PlaysBy, EndsIn}, Refusals.{HasRoomFor, HasRoomOnce}}
-use Rattle.disk_machine.specs.{Refusals.{IsQuietPacket, MakesOneBatch, IsRoomy, HoldsLog, KeepsBlocks, SeesHome, HoldsImageLog}}
+use Rattle.disk_machine.specs.{Refusals.{IsQuietPacket, MakesOneBatch, HoldsLog, KeepsBlocks, SeesHome, HoldsImageLog}}
 use Rattle.disk_machine.specs.{Room.room_for}
 use Rattle.store_calls.proofs.Served.{start_refuses}
 use Rattle.store_calls.proofs.StartedStore as started
@@ -145,10 +145,6 @@ module _ (first after : Window) (empty : length first.outbox ≡ 0) (leaves : St
 
 -- ---- a disk that was started
 
--- whatever super the first sectors begin with, its image wants no more room than this
-abbrev pub IsEnough : List ℕ → ℕ → Type 0
-IsEnough near room = (shape : Shape) → IsSuper shape (sector_of near 0) → room_for shape ≤ room
-
 module _ (first : Window) (new : Disk) (device : Device) (opened : IsOpened (state_of first) (state_of (medium_of new)) device new)
     (follows : ComesAfter first (medium_of new)) where
   -- a log that keeps its blocks is held, and the first sectors that held any hold it still
@@ -158,10 +154,3 @@ module _ (first : Window) (new : Disk) (device : Device) (opened : IsOpened (sta
       let stood = opened.store.stood in
       let below = holds.log (layout_on new) (record { super = stood.keeps.super; fits = stood.fits }) in
       inr (omega (arith, below, follows.near_stays))
-
-  -- it has the room that is enough for the image which the medium begins with
-  pub roomy : (near : List ℕ) (room : ℕ) → sector_of near 0 ≡ (state_of first).content 0 → first.room ≡ room → IsEnough near room
-      → IsRoomy new
-  roomy near room front reserved enough =
-      let super = subst (λ (b : List ℕ). IsSuper (layout_on new) b) (sym front) opened.store.stood.keeps.super in
-      omega (arith, reserved, follows.room_stays, enough (layout_on new) super)
