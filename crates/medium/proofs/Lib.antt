@@ -13,6 +13,7 @@ pub mod CallsSent
 pub mod SparedSectors
 pub mod SimCalls
 pub mod ArmedCalls
+pub mod SimSizes
 pub mod Driving
 pub mod Tallies
 pub mod RememberedMoments

@@ -1,5 +1,6 @@
 -- What calls alone do to the faults that are armed in a medium in memory, however many there are.
 use Rattle.std.specs.Prelude.{◌≡◌, ◌<◌, ℕ, ◌+◌, ◌-◌, Some, None, false, if◌then◌else◌, nat_lt}
+use Rattle.std.specs.Prelude.{length}
 use Rattle.medium.specs.Power.{faults_in}
 use Rattle.medium.specs.Sim.{Sim, ComesAfter}
 use Rattle.medium.specs.Tally.{Tally, of_all}
@@ -33,3 +34,11 @@ pub record RefusesNothing (old new : Sim) : Type 0 where
 abbrev pub UnarmedRefusesNothing : Type 0
 UnarmedRefusesNothing = (old new : Sim) → ComesAfter old new → old.power.off ≡ false
     → faults_in old.power ≡ 0 → RefusesNothing old new
+
+-- How many bytes there are stays, and for how many unflushed writes there is room.
+pub record KeepsSizes (old new : Sim) : Type 0 where
+  pub bytes : length new.flushed ≡ length old.flushed
+  pub room : new.room ≡ old.room
+
+abbrev pub SizesStay : Type 0
+SizesStay = (old new : Sim) → ComesAfter old new → KeepsSizes old new

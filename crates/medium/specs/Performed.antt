@@ -36,6 +36,12 @@ ReadsBefore end (Read place) = place < end
 ReadsBefore end (Write place) = Unit {0}
 ReadsBefore end Flush = Unit {0}
 
+-- the sector that it reads
+abbrev pub IsReadBy : Call → ℕ → Type 0
+IsReadBy (Read place) s = s ≡ place
+IsReadBy (Write place) s = ⊥
+IsReadBy Flush s = ⊥
+
 -- what it may add, with these bytes in the lent sector, to what a cut leaves
 abbrev pub MayAdd : Call → List ℕ → State → State → Type 0
 MayAdd (Read place) bytes old new = Within new.may_leave old.may_leave
@@ -64,3 +70,4 @@ pub record Performed (call : Call) (bytes after : List ℕ) (result : Result (Un
   pub passes : Passes (fault_of call) result old new
   pub spares : (first : ℕ) → IsWithin first call → SparesFrom first old new
   pub looks : (end : ℕ) → ReadsBefore end call → LooksOnly (λ s. s < end) old new
+  pub names : LooksOnly (IsReadBy call) old new

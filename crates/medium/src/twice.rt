@@ -16,7 +16,6 @@ fn put<M: Medium>(m: &mut M, block: &[u8; 512]) -> Result<(), MediumFault>
         (Holds 0 block.now (M.state m.old).content (M.state m.new).content) }
     ensures only { OnOk result (Only (M.state m.new).content (M.state m.new).may_leave) }
     ensures spares { SparesFrom 1 (M.state m.old) (M.state m.new) }
-    ensures size { (M.state m.new).size ≡ (M.state m.old).size }
     ensures follows { M.follows m.old m.new }
 {
     m.write(0, block)?;
