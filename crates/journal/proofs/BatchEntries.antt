@@ -1,12 +1,9 @@
 -- The entries of a batch.
-use Rattle.std.proofs.Common.{◌≡◌, ℕ, zero, suc, ◌+◌, ◌*◌, ◌-◌, ◌<◌, List, [], ◌∷◌, length, get_or, take, drop, refl}
-use Rattle.std.proofs.Common.{sym, ◌∙◌, ap, arith, slice_range, All}
-use Rattle.std.proofs.lemmas.List.{length-take, length-drop, length-map, take-take, ext_get_or}
-use Rattle.std.proofs.Math.ListN.{get_or-map}
-use Rattle.journal.specs.Format2.{firsts_of, chunk_of}
-use Rattle.std.proofs.lemmas.Grind.{common_steps}
+use Rattle.std.proofs.Common.{◌≡◌, ℕ, zero, suc, ◌+◌, ◌*◌, ◌-◌, ◌<◌, List, [], ◌∷◌, length, get_or, take, drop, refl, sym, ◌∙◌, ap, arith}
+use Rattle.std.proofs.{Common.{slice_range, All}, lemmas.List.{length-take, length-drop, length-map, take-take, ext_get_or}}
+use Rattle.std.proofs.{Math.ListN.get_or-map, lemmas.Grind.common_steps}
+use Rattle.journal.specs.{Format2.{firsts_of, chunk_of}, Record.{Entry, numbers_of, entries_from, entries_of}}
 use Rattle.journal.proofs.SlotTwo.{part_at, numbers_of_chunk}
-use Rattle.journal.specs.Record.{Entry, numbers_of, entries_from, entries_of}
 
 numbers_from : (k : ℕ) (numbers bytes : List ℕ) → numbers_of (entries_from k numbers bytes) ≡ numbers
 numbers_from k [] bytes = refl

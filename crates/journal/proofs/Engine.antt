@@ -1,20 +1,14 @@
 -- The crash argument, for every layout: what the writing of a record leaves, and its retiring while another is written.
 use Rattle.std.proofs.Common.{◌≡◌, ◌≢◌, ◌⊎◌, inl, inr, ℕ, ◌+◌, ◌*◌, ◌-◌, ◌%◌, ◌<◌, ◌≤◌, List, length, arith, rules, [], ◌∷◌, length-append}
-use Rattle.std.proofs.Common.{get_or, drop, refl, length-drop, get_or-drop, drop-cons}
-use Rattle.std.proofs.lemmas.Bool.{cases_eq, cases_lt}
-use Rattle.std.proofs.lemmas.Nat.{mod_below}
-use Rattle.std.proofs.lemmas.List.{get_or_append_left}
-use Rattle.std.proofs.Math.Seq.{get_or-append_seam}
+use Rattle.std.proofs.{Common.{get_or, drop, refl, length-drop, get_or-drop, drop-cons}, lemmas.Bool.{cases_eq, cases_lt}}
+use Rattle.std.proofs.{lemmas.Nat.mod_below, lemmas.List.get_or_append_left, Math.Seq.get_or-append_seam}
 use Rattle.medium.specs.Medium.{Image, Holds}
-use Rattle.journal.specs.Places.{Shape}
-use Rattle.journal.specs.Record.{Entry, with_records, home_of, Agree, Hides}
+use Rattle.journal.specs.{Places.Shape, Record.{Entry, with_records, home_of, Agree, Hides}}
 use Rattle.journal.specs.Layout.{Layout, IsWholeIn, HasWholeIn, CarriesBelowIn, IsFree, slot_at, part_at, Laws, IsRecordOf}
 use Rattle.journal.specs.Staged.{View, HasParts, stamp_of, KeepsView, Found, Stored, Guarded, HasSlots, Resting, with_record, MayLeave}
-use Rattle.journal.specs.Staged.{with_less, IsHomed}
-use Rattle.journal.specs.Sectors.{IsHead}
-use Rattle.journal.proofs.Wholeness.{in_log, other_sector, other_slot, record_of, Keeps-same, IsWhole-same, slot_inside}
-use Rattle.journal.proofs.Wholeness.{all_or_first, with_blocks-same, with_records-append, with_records-same}
-use Rattle.journal.proofs.Wholeness.{with_blocks-home}
+use Rattle.journal.specs.{Staged.{with_less, IsHomed}, Sectors.IsHead}
+use Rattle.journal.proofs.Wholeness.{in_log, other_sector, other_slot, record_of, Keeps-same, IsWhole-same, slot_inside, all_or_first}
+use Rattle.journal.proofs.Wholeness.{with_blocks-same, with_records-append, with_records-same, with_blocks-home}
 
 -- where part p of the record under way stands
 abbrev pub at : Layout → View → ℕ → ℕ
@@ -57,6 +51,15 @@ module _ (L : Layout) (laws : Laws L) (shape : Shape) where
       last_free_none image end (λ t. c (end % shape.slots) (L.slot_sectors - 1) t (mod_below end shape.slots some)
       (omega (arith, laws.inside 0 0 (omega arith) (laws.some_parts 0))))
 
+  -- a part of a record of this stamp carries no other one
+  pub one_part : (stamp : ℕ) (es : List Entry) → IsRecordOf L shape.blocks stamp es → (slot o t p : ℕ) (bytes : List ℕ)
+      → o < L.slot_sectors → p < L.parts (length es)
+      → 2 + L.slot_sectors * slot + o ≡ part_at L shape stamp (length es) p → bytes ≡ L.part stamp es p
+      → L.carries o t bytes → t ≡ stamp
+  one_part stamp es is slot o t p bytes small below place there carries =
+      let apart = other_sector L.slot_sectors slot (stamp % shape.slots) o (L.offset (length es) p) in
+      grind (arith, cases_eq slot (stamp % shape.slots), apart, laws.one_stamp shape.blocks stamp t es p is below)
+
 -- an image at rest stands for its array
 pub rests_found : (L : Layout) → Laws L → (v : View) {image : Image} → length v.records ≤ v.shape.slots
     → Resting L v image → Found L v image
@@ -95,20 +98,11 @@ module _ (L : Layout) (laws : Laws L) (v : View) (slots : HasSlots L v) where
       (λ j earlier x from to. grind (arith, write.elsewhere x, apart j x, near j, slots.room))
       (λ x from to. write.elsewhere x (λ e. omega (arith, slots.behind))) k
 
-  -- a part of a record of this stamp carries no other one
-  one_part : (es : List Entry) → IsRecordOf L v.shape.blocks (stamp_of v) es → (slot o t p : ℕ) (bytes : List ℕ)
-      → o < L.slot_sectors → p < L.parts (length es)
-      → 2 + L.slot_sectors * slot + o ≡ part_at L v.shape (stamp_of v) (length es) p → bytes ≡ L.part (stamp_of v) es p
-      → L.carries o t bytes → t ≡ stamp_of v
-  one_part es is slot o t p bytes small below place there carries =
-      let apart = other_sector L.slot_sectors slot (stamp_of v % v.shape.slots) o (L.offset (length es) p) in
-      grind (arith, cases_eq slot (stamp_of v % v.shape.slots), apart, laws.one_stamp v.shape.blocks (stamp_of v) t es p is below)
-
   -- no sector of the log carries a later stamp
   pub carries_below : (image : Image) (so_far durable : ℕ) → Guarded L v so_far durable image
       → CarriesBelowIn L v.shape image (stamp_of v + 1)
   carries_below image so_far durable g slot o t low small carries =
-      let only = λ (p : ℕ). one_part v.under_way slots.under_way slot o t p (image (2 + L.slot_sectors * slot + o)) small in
+      let only = one_part L laws v.shape (stamp_of v) v.under_way slots.under_way slot o t in
       grind (arith, g.carries slot o low small, only)
 
   -- a part is there, of those that are written, or its sector does not carry the stamp
@@ -168,7 +162,7 @@ module _ (L : Layout) (laws : Laws L) (v : View) (slots : HasSlots L v) where
       let keeps = keeps_stays before image _ (L.part (stamp_of v) other k) (inside k below) write g.stored.keeps in
       let carries : CarriesBelowIn L v.shape image (stamp_of v + 1) = λ slot o t low small carries.
       let place : ℕ = 2 + L.slot_sectors * slot + o in
-      let mine = one_part other is slot o t k (image place) small in
+      let mine = one_part L laws v.shape (stamp_of v) other is slot o t k (image place) small in
       grind
       (arith, cases_eq place (at L v k), write.here, write.elsewhere, mine, carries_below before k durable g slot o t low small) in
       grind (arith, slots.room)

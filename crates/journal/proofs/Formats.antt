@@ -1,25 +1,17 @@
 -- Both formats keep the laws of a layout.
-use Rattle.std.proofs.Common.{◌≡◌, ℕ, ◌+◌, ◌-◌, ◌<◌, ◌≤◌, List, length, arith, rules, ◌*◌, ◌%◌, [], get_or, ◌∙◌, ◌∷◌, All, ◌/◌, sym}
-use Rattle.std.proofs.Common.{inr}
-use Rattle.std.proofs.lemmas.Bool.{cases_lt}
-use Rattle.std.proofs.lemmas.Bool.Decides.{nat_tests}
-use Rattle.std.proofs.lemmas.List.{length-map, ext_get_or}
-use Rattle.journal.specs.Sectors.{spelling, number_in, descriptor_mark, commit_mark, IsDescriptor, IsCommit}
-use Rattle.journal.specs.Record.{Entry, numbers_of, block_of}
-use Rattle.journal.specs.Layout.{AreEntries, IsWholeIn, IsRecordOf, Laws}
-use Rattle.journal.specs.Formats.{format1, Carries1, entry_in, record_in, layout_of}
-use Rattle.journal.proofs.SectorNumbers.{descriptor_says, commit_says, descriptor_number}
-use Rattle.std.proofs.Math.ListN.{get_or-map}
+use Rattle.std.proofs.Common.{◌≡◌, ℕ, ◌+◌, ◌-◌, ◌<◌, ◌≤◌, List, length, arith, rules, ◌*◌, ◌%◌, [], get_or, ◌∙◌, ◌∷◌, All, ◌/◌, sym, inr}
+use Rattle.std.proofs.{lemmas.Bool.cases_lt, lemmas.Bool.Decides.nat_tests, lemmas.List.{length-map, ext_get_or}, Math.ListN.get_or-map}
 use Rattle.std.proofs.lemmas.List.Elements.{All-from_get_or}
 use Rattle.std.proofs.lemmas.List.FromFn.{fill_by_all, get_or-map-range_with_len, length-map-range_with_len}
-use Rattle.medium.specs.Medium.{Image}
-use Rattle.journal.specs.Places.{Shape, limit_of, slot_sectors_of}
-use Rattle.journal.proofs.Wholeness.{record_of, parts}
-use Rattle.std.specs.Prelude.{if◌then◌else◌, nat_lt, replicate}
+use Rattle.journal.specs.Sectors.{spelling, number_in, descriptor_mark, commit_mark, IsDescriptor, IsCommit}
+use Rattle.journal.specs.{Record.{Entry, numbers_of, block_of}, Layout.{AreEntries, IsWholeIn, IsRecordOf, Laws}}
+use Rattle.journal.specs.{Formats.{format1, Carries1, entry_in, record_in, layout_of}, Places.{Shape, limit_of, slot_sectors_of}}
 use Rattle.journal.specs.Format2.{commit_mark as commit_mark_two, chunk_of, firsts_of, IsCommitTwo, format2, Carries2}
+use Rattle.journal.specs.{declared.log_format.LogFormat.LogFormat, declared.log_format.LogFormat.TheVariants.{One, Two}}
+use Rattle.journal.proofs.{SectorNumbers.{descriptor_says, commit_says, descriptor_number}, Wholeness.{record_of, parts}}
 use Rattle.journal.proofs.SlotTwo.{header_says, place_says, descriptor_two, record_read as read2}
-use Rattle.journal.specs.declared.log_format.LogFormat.{LogFormat}
-use Rattle.journal.specs.declared.log_format.LogFormat.TheVariants.{One, Two}
+use Rattle.medium.specs.Medium.{Image}
+use Rattle.std.specs.Prelude.{if◌then◌else◌, nat_lt, replicate}
 
 module _ {blocks s : ℕ} {entries : List Entry} (r : IsRecordOf format1 blocks s entries) where
   pub descriptor_of : IsDescriptor s (numbers_of entries)

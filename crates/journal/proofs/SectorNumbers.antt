@@ -1,16 +1,11 @@
 -- The numbers of a sector, written and read back, and the one value that they spell.
-use Rattle.std.proofs.Common.{◌≡◌, ℕ, zero, suc, ◌+◌, ◌*◌, ◌<◌, List, [], ◌∷◌, ◌++◌, length, get_or, take, drop, arith}
-use Rattle.std.proofs.Common.{◌-◌, ◌^◌, ◌≤◌, refl, sym, ◌∙◌, ap, All, replicate, flat_map, if◌then◌else◌, ◌==◌}
-use Rattle.std.proofs.Common.{ext_get_or}
-use Rattle.std.proofs.lemmas.Grind.{common_steps}
+use Rattle.std.proofs.Common.{◌≡◌, ℕ, zero, suc, ◌+◌, ◌*◌, ◌<◌, List, [], ◌∷◌, ◌++◌, length, get_or, take, drop, arith, ◌-◌, ◌^◌, ◌≤◌, refl}
+use Rattle.std.proofs.{Common.{sym, ◌∙◌, ap, All, replicate, flat_map, if◌then◌else◌, ◌==◌, ext_get_or}, lemmas.Grind.common_steps}
 use Rattle.std.proofs.lemmas.List.{drop_at, drop-drop, append_assoc, drop-replicate}
-use borrow.Rule.Slice.PartMut.{put_mid}
-use Rattle.byteorder.specs.Endian.{little_bytes, little_number}
-use Rattle.byteorder.specs.Numbers.{little_number-reads_back, little_from-take}
-use Rattle.journal.specs.Sectors.{padded, spelling, number_in, descriptor_mark, AreItems, version_of, IsSuper, IsHead}
-use Rattle.journal.specs.Sectors.{IsDescriptor, IsCommitOf, HasMagic, HasVersion, HasZeroRest}
-use Rattle.journal.specs.Places.{Shape}
-use Rattle.journal.specs.declared.log_format.LogFormat.{LogFormat}
+use borrow.Rule.Slice.{PartMut.put_mid}
+use Rattle.byteorder.specs.{Endian.{little_bytes, little_number}, Numbers.{little_number-reads_back, little_from-take}}
+use Rattle.journal.specs.Sectors.{padded, spelling, number_in, descriptor_mark, AreItems, version_of, IsSuper, IsHead, IsDescriptor}
+use Rattle.journal.specs.{Sectors.{IsCommitOf, HasMagic, HasVersion, HasZeroRest}, Places.Shape, declared.log_format.LogFormat.LogFormat}
 use Rattle.journal.specs.declared.log_format.LogFormat.TheVariants.{One, Two}
 
 module _ {X : Type 0} (f : X → List ℕ) (k : ℕ) where

@@ -1,30 +1,22 @@
 -- Calls that read sectors of the log, and blocks of a whole record that were read back.
 use Rattle.std.proofs.Common.{◌≡◌, ℕ, ◌+◌, ◌*◌, ◌%◌, ◌<◌, ◌≤◌, arith, List, [], ◌++◌, length, drop, get_or, refl, Option, ◌∙◌, take, sym}
-use Rattle.std.proofs.Common.{inl, inr, Some, None, MatchOption, All, below_more, ⊎_elim}
+use Rattle.std.proofs.{Common.{inl, inr, Some, None, MatchOption, All, below_more, ⊎_elim}, lemmas.Nat.mod_below, lemmas.Grind.common_steps}
+use Rattle.std.proofs.lemmas.List.{map-append, take_all}
 use Rattle.medium.specs.Medium.{Image}
-use Rattle.journal.specs.Reading.{AreStamped, IsRead, HasDescriptor, NamesBlocks}
-use Rattle.std.proofs.lemmas.Nat.{mod_below}
-use Rattle.journal.specs.declared.log_format.LogFormat.{LogFormat}
-use Rattle.journal.specs.declared.log_format.LogFormat.TheVariants.{One, Two}
-use Rattle.journal.specs.declared.super_sector.Super.{Super}
-use Rattle.journal.specs.Places.{limit_of, first_data_of, IsFirstHome, Shape}
-use Rattle.journal.specs.Formats.{layout_of, IsWhole, shape_of, record_in}
-use Rattle.medium.proofs.Moments.{quiet_call}
-use Rattle.medium.proofs.SectorsRead.{look_below}
-use Rattle.std.proofs.lemmas.Grind.{common_steps}
-use Rattle.journal.specs.declared.record.Record.{Record}
-use Rattle.journal.specs.Record.{Entry, numbers_of, block_of, begun_with, first_of}
+use Rattle.journal.specs.{Reading.{AreStamped, IsRead, HasDescriptor, NamesBlocks}, declared.log_format.LogFormat.LogFormat}
+use Rattle.journal.specs.{declared.log_format.LogFormat.TheVariants.{One, Two}, declared.super_sector.Super.Super}
+use Rattle.journal.specs.{Places.{limit_of, first_data_of, IsFirstHome, Shape}, Formats.{layout_of, IsWhole, shape_of, record_in}}
+use Rattle.journal.specs.{declared.record.Record.Record, Record.{Entry, numbers_of, block_of, begun_with, first_of}}
 use Rattle.journal.specs.Layout.{slot_at, IsWholeIn}
 use Rattle.journal.specs.Format2.{firsts_of, place_bytes, IsDescriptorTwo, IsCommitTwo, descriptors_of, entries_at, chunk_of}
+use Rattle.journal.specs.{Sectors.{IsCommit, IsDescriptor, IsRising}, declared.naming_stage.NamingStage.NamingStage}
+use Rattle.journal.specs.declared.naming_stage.NamingStage.TheVariants.{Descriptor2, Missing}
+use Rattle.journal.specs.Naming.{IsDescribed, AreNamedTo, IsFound, IsKnown}
+use Rattle.medium.proofs.{Moments.quiet_call, SectorsRead.look_below}
 use Rattle.journal.proofs.SlotTwo.{place_there, placed, commit_count, numbers_long, named, named_alone, commit_whole, described_whole}
 use Rattle.journal.proofs.SlotTwo.{record_read, whole_two, take_chunk, read_long, chunk_numbers, chunk_firsts}
 use Rattle.journal.proofs.Wholeness.{as_format, of_format}
 use Rattle.journal.proofs.Formats.{laws_of, descriptor_there, commit_there, numbers_read, whole_in, place_there as place_there_one}
-use Rattle.std.proofs.lemmas.List.{map-append, take_all}
-use Rattle.journal.specs.Sectors.{IsCommit, IsDescriptor, IsRising}
-use Rattle.journal.specs.declared.naming_stage.NamingStage.{NamingStage}
-use Rattle.journal.specs.declared.naming_stage.NamingStage.TheVariants.{Descriptor2, Missing}
-use Rattle.journal.specs.Naming.{IsDescribed, AreNamedTo, IsFound, IsKnown}
 
 -- a data place stands before home
 pub place_before : (format : LogFormat) (slots home slot i : ℕ) → IsFirstHome format slots home → slot < slots → i < limit_of format

@@ -1,28 +1,18 @@
 -- What the sectors of a slot of format 2 say, and of which record, whole or not.
-use Rattle.std.proofs.Common.{◌≡◌, ℕ, ◌+◌, ◌*◌, ◌-◌, ◌^◌, ◌<◌, ◌≤◌, List, [], ◌∷◌, ◌++◌, length, get_or, take, drop}
-use Rattle.std.proofs.Common.{refl, sym, map, arith, rules, ◌∙◌, All, min, zip, slice_range, flat_map, ◌/◌, ◌%◌, ap}
-use Rattle.std.proofs.Common.{take-add}
-use Rattle.std.proofs.lemmas.List.{take_all, take_min, length-take, length-drop, append_assoc, append-nil, take_more}
-use Rattle.std.proofs.lemmas.List.{drop-drop, drop-take, ext_get_or, take-map, drop-map, length-map, length-take-le}
-use Rattle.std.proofs.lemmas.List.{take_at, get_or-take, get_or-drop, take-append-drop}
-use Rattle.std.proofs.lemmas.List.Elements.{All-take, All-drop, All-from_get_or, All-map}
-use Rattle.std.proofs.lemmas.Slice.Zip.{length-zip, get_or-zip}
-use Rattle.std.proofs.lemmas.Grind.{common_steps, flat_map-append}
-use Rattle.byteorder.specs.Endian.{little_bytes}
-use Rattle.byteorder.specs.Numbers.{little_number-reads_back, little_from-take}
-use Rattle.journal.specs.Record.{Entry, numbers_of, block_of}
-use Rattle.journal.proofs.SectorNumbers.{commit_says, length_pieces, piece_at}
-use Rattle.journal.specs.Sectors.{padded, number_in, AreItems, IsRising}
-use Rattle.journal.specs.Format2.{entry_bytes, place_bytes, entries_here, AreEntriesTwo, IsDescriptorTwo, IsCommitTwo}
-use Rattle.journal.specs.Format2.{descriptor_bytes, firsts_of, chunk_of, format2, descriptors_of, entry_in, entries_at}
-use Rattle.journal.specs.Format2.{record_in}
-use Rattle.std.proofs.Math.ListN.{get_or-map}
-use Rattle.journal.specs.Layout.{AreEntries, IsRecordOf, IsWholeIn}
+use Rattle.std.proofs.Common.{◌≡◌, ℕ, ◌+◌, ◌*◌, ◌-◌, ◌^◌, ◌<◌, ◌≤◌, List, [], ◌∷◌, ◌++◌, length, get_or, take, drop, refl, sym, map, arith}
+use Rattle.std.proofs.Common.{rules, ◌∙◌, All, min, zip, slice_range, flat_map, ◌/◌, ◌%◌, ap, take-add}
+use Rattle.std.proofs.lemmas.List.{take_all, take_min, length-take, length-drop, append_assoc, append-nil, take_more, drop-drop, drop-take}
+use Rattle.std.proofs.lemmas.List.{ext_get_or, take-map, drop-map, length-map, length-take-le, take_at, get_or-take, get_or-drop}
+use Rattle.std.proofs.{lemmas.List.take-append-drop, lemmas.List.Elements.{All-take, All-drop, All-from_get_or, All-map}}
+use Rattle.std.proofs.{lemmas.Slice.Zip.{length-zip, get_or-zip}, lemmas.Grind.{common_steps, flat_map-append}, Math.ListN.get_or-map}
 use Rattle.std.proofs.lemmas.List.FromFn.{get_or-map-range_with_len, length-map-range_with_len, fill_by_all}
+use Rattle.byteorder.specs.{Endian.little_bytes, Numbers.{little_number-reads_back, little_from-take}}
+use Rattle.journal.specs.{Record.{Entry, numbers_of, block_of}, Sectors.{padded, number_in, AreItems, IsRising}}
+use Rattle.journal.specs.Format2.{entry_bytes, place_bytes, entries_here, AreEntriesTwo, IsDescriptorTwo, IsCommitTwo, descriptor_bytes}
+use Rattle.journal.specs.Format2.{firsts_of, chunk_of, format2, descriptors_of, entry_in, entries_at, record_in}
+use Rattle.journal.specs.{Layout.{AreEntries, IsRecordOf, IsWholeIn}, Reading.{HasDescriptor, HasDescriptors, HasPlaces}, Places.Shape}
+use Rattle.journal.proofs.{SectorNumbers.{commit_says, length_pieces, piece_at}, Wholeness.{record_of, parts}}
 use Rattle.medium.specs.Medium.{Image}
-use Rattle.journal.specs.Reading.{HasDescriptor, HasDescriptors, HasPlaces}
-use Rattle.journal.specs.Places.{Shape}
-use Rattle.journal.proofs.Wholeness.{record_of, parts}
 
 -- the stamp in a data place, which begins with it
 pub place_says : (s : ℕ) (block : List ℕ) → s < 2 ^ 64 → number_in (place_bytes s block) 0 ≡ s

@@ -1,24 +1,18 @@
 -- An image stands for one array and one next stamp, or has one fault.
-use Rattle.std.proofs.Common.{◌≡◌, ℕ, ◌+◌, ◌<◌, ◌≤◌, List, [], length, get_or, map, refl, sym, ◌∙◌, subst, arith, ◌⊎◌}
-use Rattle.std.proofs.Common.{◌-◌, ◌^◌, ◌∷◌, rules, inl, inr, All, ext_get_or}
-use Rattle.std.proofs.lemmas.List.{ext_get_or}
-use Rattle.std.proofs.lemmas.List.FromFn.{get_or-map-range_with_len, length-map-range_with_len}
+use Rattle.std.proofs.Common.{◌≡◌, ℕ, ◌+◌, ◌<◌, ◌≤◌, List, [], length, get_or, map, refl, sym, ◌∙◌, subst, arith, ◌⊎◌, ◌-◌, ◌^◌, ◌∷◌, rules}
+use Rattle.std.proofs.{Common.{inl, inr, All, ext_get_or}, lemmas.List.ext_get_or}
+use Rattle.std.proofs.{lemmas.List.FromFn.{get_or-map-range_with_len, length-map-range_with_len}, lemmas.Bool.{cases_eq, cases_lt}}
+use Rattle.std.proofs.lemmas.List.Elements.{All-from_get_or}
 use Rattle.std.specs.List.{range_with_len}
 use Rattle.medium.specs.Medium.{Image}
 use Rattle.spec.specs.Blocks.{Array}
 use Rattle.journal.specs.Places.{Shape, sectors_of}
-use Rattle.journal.specs.Sectors.{IsSuper, IsHead, spelling, number_in, super_mark, head_mark, version_of, IsRising}
-use Rattle.journal.specs.Sectors.{HasMagic, HasVersion, HasZeroRest}
-use Rattle.journal.specs.Record.{Entry, with_records, home_of, numbers_of}
-use Rattle.journal.specs.Layout.{slot_at, IsWholeIn, Layout, AreEntries, HasWholeIn, part_at, Laws}
-use Rattle.journal.specs.Formats.{layout_of, HasWhole}
-use Rattle.journal.specs.Standing.{IsCount, StandsFor, HasShape, Stands, ImageFault, BadSuper, BadVersion, BadSize}
-use Rattle.journal.specs.Standing.{BadHead, HasFault}
-use Rattle.journal.proofs.SectorNumbers.{IsSuper-one, IsHead-one, head_stamp, shape_in, shape_is, super_begins}
-use Rattle.journal.proofs.Formats.{laws_of}
+use Rattle.journal.specs.Sectors.{IsSuper, IsHead, spelling, number_in, super_mark, head_mark, version_of, IsRising, HasMagic, HasVersion}
+use Rattle.journal.specs.{Sectors.HasZeroRest, Record.{Entry, with_records, home_of, numbers_of}}
+use Rattle.journal.specs.{Layout.{slot_at, IsWholeIn, Layout, AreEntries, HasWholeIn, part_at, Laws}, Formats.{layout_of, HasWhole}}
+use Rattle.journal.specs.Standing.{IsCount, StandsFor, HasShape, Stands, ImageFault, BadSuper, BadVersion, BadSize, BadHead, HasFault}
+use Rattle.journal.proofs.{SectorNumbers.{IsSuper-one, IsHead-one, head_stamp, shape_in, shape_is, super_begins}, Formats.laws_of}
 use Rattle.journal.proofs.Wholeness.{IsWhole-one, all_or_first}
-use Rattle.std.proofs.lemmas.Bool.{cases_eq, cases_lt}
-use Rattle.std.proofs.lemmas.List.Elements.{All-from_get_or}
 
 -- with one head there are no fewer records of what an image stands for
 not_fewer : {size other : ℕ} {shape : Shape} {image : Image} {a b : Array} {t u : ℕ} (h : StandsFor size shape image a t)

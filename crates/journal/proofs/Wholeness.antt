@@ -1,17 +1,12 @@
 -- Slots of a log, arrays with records laid over them, and whole records of an image.
 use Rattle.std.proofs.Common.{◌≢◌, ℕ, ◌+◌, ◌*◌, ◌<◌, arith, ◌%◌, ◌⊎◌, zero, suc, ◌≡◌, List, [], ◌∷◌, ◌++◌, length, get_or, refl, ap, rules}
-use Rattle.std.proofs.Common.{if◌then◌else◌, ◌==◌, ◌-◌, ◌≤◌, sym, ◌∙◌, subst}
-use Rattle.std.proofs.lemmas.Nat.{rows, mod_below}
-use Rattle.std.proofs.Math.Nat.{div-add-mod}
-use Rattle.std.proofs.lemmas.Bool.{cases_eq}
-use Rattle.std.proofs.lemmas.Bool.Decides.{nat_tests}
+use Rattle.std.proofs.{Common.{if◌then◌else◌, ◌==◌, ◌-◌, ◌≤◌, sym, ◌∙◌, subst}, lemmas.Nat.{rows, mod_below}, Math.Nat.div-add-mod}
+use Rattle.std.proofs.{lemmas.Bool.cases_eq, lemmas.Bool.Decides.nat_tests}
 use Rattle.spec.specs.Blocks.{Array}
-use Rattle.journal.specs.Record.{Entry, with_blocks, with_records, Hides, home_of, Agree}
-use Rattle.medium.specs.Medium.{Image}
-use Rattle.journal.specs.declared.log_format.LogFormat.{LogFormat}
-use Rattle.journal.specs.Places.{Shape}
-use Rattle.journal.specs.Layout.{Layout, IsWholeIn, CarriesBelowIn, KeepsIn, slot_at, Laws, IsRecordOf, by_part}
+use Rattle.journal.specs.{Record.{Entry, with_blocks, with_records, Hides, home_of, Agree}, declared.log_format.LogFormat.LogFormat}
+use Rattle.journal.specs.{Places.Shape, Layout.{Layout, IsWholeIn, CarriesBelowIn, KeepsIn, slot_at, Laws, IsRecordOf, by_part}}
 use Rattle.journal.specs.Formats.{layout_of, IsWhole}
+use Rattle.medium.specs.Medium.{Image}
 
 -- a slot ends where the log ends, or before
 pub in_log : (size slot slots o : ℕ) → slot < slots → o < size → 2 + size * slot + o < 2 + size * slots

@@ -1,12 +1,11 @@
 -- What the sectors of a record of format 2 are, where they stand, and the layout that they make.
 use Rattle.std.specs.Prelude.{◌≡◌, ◌≤◌, ◌<◌, ℕ, ◌+◌, ◌*◌, ◌-◌, ◌/◌, ◌^◌, min, List, ◌++◌, length}
 use Rattle.std.specs.Prelude.{take, drop, codes, All, map, zip, flat_map, ◌%◌, [], ◌∷◌, slice_range}
+use Rattle.std.specs.List.{range_with_len}
 use Rattle.byteorder.specs.Endian.{little_bytes}
 use Rattle.journal.specs.Sectors.{mark, padded, IsRising, IsCommitOf, spelling, number_in}
-use Rattle.journal.specs.Record.{Entry, numbers_of, block_of}
-use Rattle.std.specs.List.{range_with_len}
+use Rattle.journal.specs.{Record.{Entry, numbers_of, block_of}, Layout.{Layout, by_part}}
 use Rattle.medium.specs.Medium.{Image}
-use Rattle.journal.specs.Layout.{Layout, by_part}
 
 abbrev pub descriptor_mark : ℕ
 descriptor_mark = mark (codes "RDDESCR2")

@@ -1,16 +1,12 @@
 -- Format 1 as a layout, whole records of either format in an image, and the shape of a super.
-use Rattle.std.specs.Prelude.{◌<◌, ◌≤◌, ℕ, ◌+◌, List, [], ◌∷◌, length, map}
-use Rattle.std.specs.List.{range_with_len}
+use Rattle.std.specs.{Prelude.{◌<◌, ◌≤◌, ℕ, ◌+◌, List, [], ◌∷◌, length, map}, List.range_with_len}
 use Rattle.medium.specs.Medium.{Image}
 use Rattle.journal.specs.Sectors.{spelling, number_in, descriptor_mark, commit_mark, IsDescriptor}
-use Rattle.journal.specs.Sectors.{IsCommit}
-use Rattle.journal.specs.Record.{Entry, numbers_of, block_of}
+use Rattle.journal.specs.{Sectors.IsCommit, Record.{Entry, numbers_of, block_of}}
 use Rattle.journal.specs.Layout.{Layout, by_part, IsWholeIn, CarriesBelowIn}
 use Rattle.journal.specs.declared.log_format.LogFormat.{LogFormat}
-use Rattle.journal.specs.declared.log_format.LogFormat.TheVariants.{One, Two}
-use Rattle.journal.specs.Places.{Shape}
-use Rattle.journal.specs.Format2.{format2}
-use Rattle.journal.specs.declared.super_sector.Super.{Super}
+use Rattle.journal.specs.{declared.log_format.LogFormat.TheVariants.{One, Two}, Places.Shape}
+use Rattle.journal.specs.{Format2.format2, declared.super_sector.Super.Super}
 
 -- at this offset of a slot these bytes carry this stamp: data places carry none
 pub record Carries1 (o stamp : ℕ) (bytes : List ℕ) : Type 0 where

@@ -3,8 +3,7 @@ use Rattle.std.specs.Prelude.{◌≡◌, ◌<◌, ◌≤◌, ℕ, ◌+◌, ◌*�
 use Rattle.std.specs.Prelude.{All, if◌then◌else◌, nat_lt, ◌⊎◌, replicate}
 use Rattle.medium.specs.Medium.{Image}
 use Rattle.spec.specs.Blocks.{Array}
-use Rattle.journal.specs.Places.{Shape}
-use Rattle.journal.specs.Sectors.{IsSuper, IsHead, IsRising}
+use Rattle.journal.specs.{Places.Shape, Sectors.{IsSuper, IsHead, IsRising}}
 use Rattle.journal.specs.Record.{Entry, numbers_of, with_records, home_of}
 
 -- The sectors of a record are numbered in the order in which they are written, from 0 to parts n -

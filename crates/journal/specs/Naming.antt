@@ -1,20 +1,18 @@
 -- What is known of a record while the sectors that name its blocks are read, one by one.
-use Rattle.std.specs.Prelude.{◌≡◌, ◌⊎◌, ℕ, ◌+◌, ◌*◌, ◌-◌, ◌%◌, ◌<◌, ◌≤◌, List, [], length}
-use Rattle.std.specs.Prelude.{All, take}
-use Rattle.std.specs.Prelude.{Option, Some, None, IfSome, IsSomeAnd}
+use Rattle.std.specs.Prelude.{◌≡◌, ◌⊎◌, ℕ, ◌+◌, ◌*◌, ◌-◌, ◌%◌, ◌<◌, ◌≤◌, List, [], length, All}
+use Rattle.std.specs.Prelude.{take, Option, Some, None, IfSome, IsSomeAnd}
 use Rattle.medium.specs.Medium.{Image}
 use Rattle.journal.specs.declared.log_format.LogFormat.{LogFormat}
 use Rattle.journal.specs.declared.log_format.LogFormat.TheVariants.{One, Two}
 use Rattle.journal.specs.declared.record.Record.{Record}
 use Rattle.journal.specs.declared.naming_stage.NamingStage.{NamingStage}
-use Rattle.journal.specs.declared.naming_stage.NamingStage.TheVariants as stage
-use Rattle.journal.specs.Places.{Shape, limit_of, first_home}
-use Rattle.journal.specs.Sectors.{IsRising, IsDescriptor}
+use Rattle.journal.specs.{Places.{Shape, limit_of, first_home}, Sectors.{IsRising, IsDescriptor}}
 use Rattle.journal.specs.Record.{Entry, numbers_of}
 use Rattle.journal.specs.Format2.{descriptors_of, firsts_of, entries_at, place_of, commit_place}
 use Rattle.journal.specs.Formats.{IsWhole, HasWhole}
 use Rattle.journal.specs.Reading.{IsCommitted, HasDescriptor, AreStamped, IsRead, IsReadFor}
 use Rattle.journal.specs.Reading.{record_reads_of}
+use Rattle.journal.specs.declared.naming_stage.NamingStage.TheVariants as stage
 
 -- the block numbers of a record in a log of this shape
 pub record NamesSome (shape : Shape) (numbers : List ℕ) : Type 0 where

@@ -1,19 +1,14 @@
 -- What is read of a record, and by how many reads.
-use Rattle.std.specs.Prelude.{◌≡◌, ◌≢◌, ℕ, ◌+◌, ◌<◌, ◌⊎◌, ◌*◌, List}
-use Rattle.std.specs.Prelude.{length, take, drop, All, [], ◌++◌, get_or, Option, Some, None}
-use Rattle.medium.specs.Medium.{State, Image}
-use Rattle.medium.specs.declared.fault.MediumFault.{MediumFault}
-use Rattle.medium.specs.declared.fault.MediumFault.TheVariants as medium
-use Rattle.journal.specs.declared.record.Record.{Record}
-use Rattle.journal.specs.Record.{numbers_of, Entry, block_of}
+use Rattle.std.specs.Prelude.{◌≡◌, ◌≢◌, ℕ, ◌+◌, ◌<◌, ◌⊎◌, ◌*◌, List, length, take, drop, All, []}
+use Rattle.std.specs.Prelude.{◌++◌, get_or, Option, Some, None}
+use Rattle.medium.specs.{Medium.{State, Image}, declared.fault.MediumFault.MediumFault}
+use Rattle.journal.specs.{declared.record.Record.Record, Record.{numbers_of, Entry, block_of}}
 use Rattle.journal.specs.Sectors.{IsRising}
-use Rattle.journal.specs.Format2.{descriptors_of, place_bytes, IsDescriptorTwo}
-use Rattle.journal.specs.Format2.{IsCommitTwo, format2}
-use Rattle.journal.specs.declared.log_format.LogFormat.{LogFormat}
+use Rattle.journal.specs.Format2.{descriptors_of, place_bytes, IsDescriptorTwo, IsCommitTwo}
+use Rattle.journal.specs.{Format2.format2, declared.log_format.LogFormat.LogFormat}
 use Rattle.journal.specs.declared.log_format.LogFormat.TheVariants.{One, Two}
-use Rattle.journal.specs.Places.{Shape, first_data_of}
-use Rattle.journal.specs.Layout.{slot_at}
-use Rattle.journal.specs.Formats.{layout_of}
+use Rattle.journal.specs.{Places.{Shape, first_data_of}, Layout.slot_at, Formats.layout_of}
+use Rattle.medium.specs.declared.fault.MediumFault.TheVariants as medium
 
 -- a call of this kind was refused, and counted as one and as one of its kind
 pub record IsRefusedCall (old new : State) (kind : MediumFault) : Type 0 where

@@ -4,8 +4,7 @@ use Rattle.std.specs.Prelude.{codes, flat_map, ◌≤◌, ◌^◌, [], ◌∷◌
 use Rattle.byteorder.specs.Endian.{little_bytes, little_number}
 use Rattle.journal.specs.declared.log_format.LogFormat.{LogFormat}
 use Rattle.journal.specs.declared.log_format.LogFormat.TheVariants.{One, Two}
-use Rattle.journal.specs.Places.{Shape, IsFirstHome}
-use Rattle.journal.specs.declared.super_fault.SuperFault.{SuperFault}
+use Rattle.journal.specs.{Places.{Shape, IsFirstHome}, declared.super_fault.SuperFault.SuperFault}
 use Rattle.journal.specs.declared.super_fault.SuperFault.TheVariants.{Magic, Version, Rest, Sizes}
 
 -- these bytes, and zeros behind them

@@ -3,8 +3,7 @@ use Rattle.std.specs.Prelude.{◌≡◌, ◌⊎◌, ◌<◌, ◌≤◌, ℕ, ◌
 use Rattle.std.specs.Prelude.{drop}
 use Rattle.medium.specs.Medium.{Image}
 use Rattle.spec.specs.Blocks.{Array}
-use Rattle.journal.specs.Places.{Shape}
-use Rattle.journal.specs.Record.{Entry, with_blocks}
+use Rattle.journal.specs.{Places.Shape, Record.{Entry, with_blocks}}
 use Rattle.journal.specs.Layout.{Layout, KeepsIn, LoggedIn, RestsIn, IsFree, part_at, IsRecordOf}
 
 -- what a log has

@@ -2,13 +2,11 @@
 use Rattle.std.specs.Prelude.{◌≡◌, ℕ, List, ◌≤◌, ◌<◌, ◌+◌, length, ◌⊎◌, ◌^◌}
 use Rattle.journal.specs.Places.{Shape, sectors_of}
 use Rattle.journal.specs.Sectors.{IsSuper, IsHead, IsDescriptor, IsCommit, IsSuperFault}
-use Rattle.journal.specs.Format2.{IsDescriptorTwo, IsCommitTwo}
-use Rattle.medium.specs.Medium.{Image}
-use Rattle.spec.specs.Blocks.{Array}
-use Rattle.journal.specs.Record.{Entry}
-use Rattle.journal.specs.Layout.{KeepsIn}
+use Rattle.journal.specs.{Format2.{IsDescriptorTwo, IsCommitTwo}, Record.Entry, Layout.KeepsIn}
 use Rattle.journal.specs.Formats.{layout_of, HasWhole, CarriesBelow}
 use Rattle.journal.specs.declared.super_fault.SuperFault.TheVariants.{Magic, Version, Rest, Sizes}
+use Rattle.medium.specs.Medium.{Image}
+use Rattle.spec.specs.Blocks.{Array}
 
 -- a sector is a super, a head, or a descriptor or a commit of either format of one value only
 pub record SpellsOneValue : Type 0 where

@@ -1,5 +1,4 @@
-use Rattle.std.proofs.Common.{rules, refl, ◌≡◌, ◌-◌, ◌∙◌, sym, length, take, drop, arith, length-drop, replicate}
-use Rattle.std.proofs.Common.{take_all}
+use Rattle.std.proofs.Common.{rules, refl, ◌≡◌, ◌-◌, ◌∙◌, sym, length, take, drop, arith, length-drop, replicate, take_all}
 use Rattle.journal.proofs.fields.has_zero_rest.Goals as goal
 
 pub returns-then-eq : goal.returns-then-eq

@@ -1,5 +1,4 @@
-use Rattle.std.proofs.Common.{arith}
-use Rattle.std.proofs.lemmas.Grind.{common_steps}
+use Rattle.std.proofs.{Common.arith, lemmas.Grind.common_steps}
 use Rattle.journal.specs.Sectors.{number_in}
 use Rattle.journal.proofs.SectorNumbers.{spelling_get}
 use Rattle.journal.proofs.fields.number_at.Goals as goal

@@ -1,6 +1,5 @@
 use Rattle.std.proofs.Common.{◌++◌, [], ◌∷◌, ℕ, List, refl, take, get_or, arith, flat_map, length-append}
-use Rattle.std.proofs.lemmas.List.{length-take, take_more, append_assoc}
-use Rattle.std.proofs.lemmas.Grind.{flat_map-append}
+use Rattle.std.proofs.{lemmas.List.{length-take, take_more, append_assoc}, lemmas.Grind.flat_map-append}
 use Rattle.byteorder.specs.Endian.{little_bytes}
 use Rattle.journal.specs.Sectors.{spelling}
 use Rattle.journal.proofs.SectorNumbers.{length_pieces}

@@ -1,6 +1,5 @@
 use Rattle.std.proofs.Common.{refl, sym, ◌∙◌, arith}
-use Rattle.journal.proofs.SectorNumbers.{IsSuper-one, IsHead-one, descriptor_says, descriptor_number}
-use Rattle.journal.proofs.SectorNumbers.{descriptor_numbers, commit_says}
+use Rattle.journal.proofs.SectorNumbers.{IsSuper-one, IsHead-one, descriptor_says, descriptor_number, descriptor_numbers, commit_says}
 use Rattle.journal.proofs.SlotTwo.{IsDescriptorTwo-one}
 use Rattle.journal.proofs.laws.layout_laws.Goals as goal
 

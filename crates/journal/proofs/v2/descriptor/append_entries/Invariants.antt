@@ -1,6 +1,5 @@
 use Rattle.std.proofs.Common.{◌≡◌, ◌++◌, ℕ, List, length, take, zip, flat_map}
-use Rattle.journal.specs.Sectors.{padded}
-use Rattle.journal.specs.Format2.{entry_bytes}
+use Rattle.journal.specs.{Sectors.padded, Format2.entry_bytes}
 use Rattle.journal.proofs.v2.descriptor.append_entries.Given as goal
 
 abbrev pub invariant-loop-e : goal.invariant-loop-e
