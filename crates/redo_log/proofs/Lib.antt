@@ -4,5 +4,6 @@ pub mod RetireTurns
 pub mod TurnCalls
 pub mod SortedIndex
 pub mod LeavingIndex
+pub mod DataPlaces
 pub mod HeldLog
 pub mod KeptCopies

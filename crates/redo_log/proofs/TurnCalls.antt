@@ -4,6 +4,7 @@ use Rattle.std.proofs.Common.{◌∙◌, true, false, arith, rules, Some, None, 
 use Rattle.std.proofs.{Common.MatchOption, Common.Result, Common.Ok, Common.Err, Common.OnOk, lemmas.Bool.cases_lt}
 use Rattle.std.proofs.lemmas.Bool.{cases_Bool}
 use Rattle.std.proofs.{lemmas.Result.on_ok_weaker}
+use Rattle.std.specs.Prelude.{IsErr}
 use Rattle.medium.specs.Medium.{State, Holds, Only, Stays, IsSound, Passes}
 use Rattle.medium.specs.Moments.{LeavesOnly, IsQuiet}
 use Rattle.medium.specs.{declared.fault.MediumFault.MediumFault, declared.medium_call.Call.Call, Sent.sent}
@@ -195,6 +196,7 @@ module _ {log : LogValue} (is : IsLog log) (owed : 0 < of_oldest log) where
     pub tells_first : {call : Call} {bytes : List ℕ} → IsFirst log call bytes → TellsFirst state log call bytes
     tells_first first = record {
       inside = first.inside;
+      call_is = first;
       home = λ away not. rw (first.home away not) (refl, refl);
       kept = λ away keeps. rw (first.kept away keeps).0 (refl, refl);
       flush = λ two. rw (first.flush two) (refl, refl);
@@ -209,6 +211,7 @@ module _ {log : LogValue} (is : IsLog log) (owed : 0 < of_oldest log) where
         (⊎_elim inl (λ last. absurd (cc (none.head last)))) which
     tells_second (Some call) some = record {
       inside = (second_inside some).0;
+      call_is = some;
       home = λ away. rw (is_home some away) (refl, refl);
       two = not_one some;
       head = λ last. rw (is_flush some last) (refl, refl);
@@ -275,9 +278,49 @@ module _ {M : Type 0} {state : M → State} {log : LogValue} (owed : 0 < of_olde
         sent = λ away view holds next home. on_ok_weaker result (λ half. half.kept away (kept away) next home) (begun.half view holds);
       }
 
+  -- both bring it on, where the first one is good
+  pub two_bring : {Follows : M → M → Type 0} {second : Call} {had with last : List ℕ} → TellsSecond state log had second with
+      → {m mid n : M} {two : Result (Unit {0}) MediumFault} → (Follows m mid → Follows mid n → Follows m n) → IsOn log (state m)
+      → Makes state Follows first bytes had (Ok tt) m mid → Makes state Follows second with last two mid n
+      → BringsOn state Follows (CountsStep (next_calls log) (next_sends log) (next_turn_flushes log) two (state m) (state n)) two log m n
+  two_bring {had = had} {last = last} s {m} {mid} {n} {two} through on a b =
+      let p = a.performed.passes in
+      let q = b.performed.passes in
+      let then : IsOn log (state mid) = record { live = on.live; fits = omega (arith, p.size_stays, on.fits) } in
+      let begun = f.law m mid had (Ok tt) on a.performed in
+      let ended = s.law mid n last two then b.performed in
+      record {
+        passes = record {
+          calls = two_counts s p q;
+          failures = rw p.failures_are at q.failures_are;
+          size = q.size_stays ∙ p.size_stays;
+          follows = through a.follows b.follows;
+        };
+        leaves = two_leave begun ended;
+        dead = λ view holds. ended.dead view (begun.half view holds);
+        counted = λ view holds. ended.done view (begun.half view holds);
+        sent = λ away view holds next sent. ended.sent view (begun.half view holds) away next sent;
+      }
+
   -- a refused first call is no more than they are
-  pub refused_counts : {old new : State} {e : MediumFault} → Passes (fault_of first) (Err e) old new
-      → CountsStep {X = Unit {0}} (next_calls log) (next_sends log) (next_turn_flushes log) (Err e) old new
+  refused_counts : {old new : State} {e other : MediumFault} → Passes (fault_of first) (Err e) old new
+      → CountsStep {X = Unit {0}} (next_calls log) (next_sends log) (next_turn_flushes log) (Err other) old new
   refused_counts {old} {new} a =
       let one = one_sent first old new a in
       grind (arith, owed, cases_lt 2 (of_oldest log), cases_Bool log.keeps, a.calls_are, f.home, f.kept, f.flush, f.head, one)
+
+  pub refused_brings : {Follows : M → M → Type 0} {m n : M} {after : List ℕ} {e : MediumFault} (result : Result (Unit {0}) MediumFault)
+      → IsErr result → IsOn log (state m) → Makes state Follows first bytes after (Err e) m n
+      → BringsOn state Follows (CountsStep (next_calls log) (next_sends log) (next_turn_flushes log) result (state m) (state n))
+      result log m n
+  refused_brings (Ok none) not on made = absurd (cc not)
+  refused_brings {m = m} {n = n} {after = after} {e = e} (Err other) refused on made =
+      let p = made.performed.passes in
+      let begun = f.law m n after (Err e) on made.performed in
+      record {
+        passes = record { calls = refused_counts p; failures = p.failures_are; size = p.size_stays; follows = made.follows };
+        leaves = begun.leaves;
+        dead = begun.dead;
+        counted = λ view holds. tt;
+        sent = λ away view holds next sent. tt;
+      }

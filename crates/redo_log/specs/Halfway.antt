@@ -1,6 +1,6 @@
 -- The calls of a medium that write a record and retire it, and what a log and its medium hold
 -- halfway through a turn.
-use Rattle.std.specs.Prelude.{◌≡◌, ℕ, ◌+◌, ◌<◌, List, true, false, Result, OnOk, [], length}
+use Rattle.std.specs.Prelude.{◌≡◌, ℕ, ◌+◌, ◌-◌, ◌<◌, List, true, false, Result, OnOk, [], length}
 use Rattle.std.specs.Prelude.{slice_index, get_or, Option, Some, None, ◌⊎◌, ◌≤◌}
 use Rattle.medium.specs.Medium.{State, LooksOnly, Sets, Gains}
 use Rattle.medium.specs.Moments.{LeavesOnly, SparesFrom, StaysWithin}
@@ -12,8 +12,9 @@ use Rattle.journal.specs.Layout.{slot_at, Layout, part_at}
 use Rattle.journal.specs.{Formats.layout_of, Sectors.IsHead, Record.Entry, Record.begun_with}
 use Rattle.redo_log.specs.Value.{LogValue, died, of_oldest, IsSentHome, IsAway, CanPass, first_kept}
 use Rattle.redo_log.specs.Value.{copy_kept, IsReadBack}
-use Rattle.redo_log.specs.Held.{View, HoldsView, MayLeave, turned_of}
-use Rattle.redo_log.specs.{Steps.LeavesLog, Steps.IsOn, Steps.HoldsCounted, Shown.written_at}
+use Rattle.redo_log.specs.Held.{View, HoldsView, MayLeave, made_of, turned_of}
+use Rattle.redo_log.specs.Steps.{LeavesLog, IsOn, HoldsCounted, StepCalled}
+use Rattle.redo_log.specs.{Shown.written_at}
 
 -- a flush comes next: the early parts are written, or all
 abbrev pub IsFlushDue : Layout → ℕ → ℕ → Type 0
@@ -29,6 +30,16 @@ IsNextCall L shape stamp entries made call bytes =
     → let written = written_at (L.early (length entries)) made in
     (call ≡ Write (part_at L shape stamp (length entries) written))
     × (bytes ≡ L.part stamp entries written))
+
+-- The next call of the record under way, of so many blocks, writes the i-th one's data place.
+pub record IsNextData (log : LogValue) (count place i : ℕ) : Type 0 where
+  pub inside : i < count
+  pub before : place < first_home log.shape
+  pub due : ¬ IsFlushDue (layout_of log.shape.format) count (made_of log)
+  pub written : written_at ((layout_of log.shape.format).early count) (made_of log) ≡ made_of log
+  pub part : made_of log ≡ (layout_of log.shape.format).parts count - count - 1 + i
+  pub place_is : place ≡ part_at (layout_of log.shape.format) log.shape
+      (log.head + length log.waiting) count (made_of log)
 
 -- the medium has the sector that the call names
 abbrev pub CanMake : State → Call → Type 0
@@ -49,6 +60,18 @@ gaining place bytes sets s c = sets s c ⊎ ((s ≡ place) × (c ≡ bytes))
 pub record WritesOnly (place : ℕ) (bytes : List ℕ) (old new : State) : Type 0 where
   pub moments : StaysWithin (gaining place bytes old.may_leave) old new
   pub sets : Gains place bytes old.may_leave new.may_leave
+
+-- This is the next call of the record under way, which is one of these entries, and with it go
+-- these bytes. Whoever makes it on a medium that holds the log, on which it is made or refused, has
+-- made a step.
+pub record TellsStep {M : Type 0} (state : M → State) (entries : List Entry) (log : LogValue)
+    (call : Call) (bytes : List ℕ) : Type 0 where
+  pub inside : IsWithin (sectors_of log.shape) call
+  pub call_is : IsNextCall (layout_of log.shape.format) log.shape (log.head + length log.waiting)
+      entries (made_of log) call bytes
+  pub law : (m n : M) (after : List ℕ) (result : Result (Unit {0}) MediumFault)
+      → IsOn log (state m) → Performed call bytes after result (state m) (state n)
+      → StepCalled entries result log (state m) (state n)
 
 -- ---- a turn, call by call
 
@@ -143,6 +166,7 @@ pub record TurnEnded (log : LogValue) (had : List ℕ) (result : Result (Unit {0
 pub record TellsFirst {M : Type 0} (state : M → State) (log : LogValue) (call : Call)
     (bytes : List ℕ) : Type 0 where
   pub inside : IsWithin (sectors_of log.shape) call
+  pub call_is : IsFirst log call bytes
   pub home : 2 < of_oldest log → log.keeps ≡ false → Counts call 0 0
   pub kept : 2 < of_oldest log → log.keeps ≡ true → Counts call 1 0
   pub flush : of_oldest log ≡ 2 → Counts call 1 1
@@ -156,6 +180,7 @@ pub record TellsFirst {M : Type 0} (state : M → State) (log : LogValue) (call 
 pub record TellsSecond {M : Type 0} (state : M → State) (log : LogValue) (had : List ℕ)
     (call : Call) (bytes : List ℕ) : Type 0 where
   pub inside : IsWithin (sectors_of log.shape) call
+  pub call_is : IsSecond log had (Some call) bytes
   pub home : 2 < of_oldest log → Counts call 1 0
   pub two : ¬ IsOneCall log
   pub head : of_oldest log ≡ 1 → Counts call 1 1

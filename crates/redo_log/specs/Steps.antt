@@ -1,11 +1,10 @@
 -- What a call of a log answers, and what it leaves of its medium.
 use Rattle.std.specs.Prelude.{◌≡◌, ℕ, ◌+◌, ◌-◌, ◌*◌, ◌^◌, ◌<◌, ◌≤◌, ◌↔◌, Bool, true, false, List}
 use Rattle.std.specs.Prelude.{[], IsTrue, if◌then◌else◌, Result, Ok, is_ok, IsOk, IfOk, IfErr, OnOk}
-use Rattle.std.specs.Prelude.{OnErr, MatchResult}
+use Rattle.std.specs.Prelude.{OnErr, MatchResult, length}
 use Rattle.medium.specs.{Medium.State, Medium.LooksOnly, Medium.Passes, Sent.SendsUpTo}
 use Rattle.medium.specs.{declared.fault.MediumFault.MediumFault}
 use Rattle.medium.specs.declared.fault.MediumFault.TheVariants.{Read, Flush}
-use Rattle.medium.specs.{declared.medium_call.Call.Call, Performed.IsWithin, Performed.Performed}
 use Rattle.medium.specs.Moments.{EachCut, LeavesOnly, SparesFrom, IsQuiet}
 use Rattle.journal.specs.{Places.sectors_of, Format2.firsts_of, Record.Entry}
 use Rattle.journal.specs.{Record.entries_of}
@@ -15,6 +14,7 @@ use Rattle.redo_log.specs.Value.{Owes, IsAway, IsSentHome, IsRetireStepped, Flus
 use Rattle.redo_log.specs.Held.{View, HoldsView, MayLeave, HasDurable, with_record, view_stepped}
 use Rattle.redo_log.specs.{declared.fault.LogFault.LogFault, declared.progress.Progress.Progress}
 use Rattle.redo_log.specs.{declared.progress.Progress.TheVariants.Durable, Value.next_step_flushes}
+use Rattle.redo_log.specs.Value.{next_calls, next_sends, next_turn_flushes}
 use Rattle.redo_log.specs.{Held.view_retired}
 
 -- a step that answers Ok did this, and else the medium refused a call, and the log is dead
@@ -88,6 +88,13 @@ pub record IsOn (log : LogValue) (m : State) : Type 0 where
   pub live : log.dead ≡ false
   pub fits : sectors_of log.shape ≤ m.size
 
+-- the next call of the record under way, of these blocks, can be made on this medium
+pub record CanStep (log : LogValue) (numbers bytes : List ℕ) (m : State) : Type 0 where
+  pub on : IsOn log m
+  pub under_way : 0 < log.steps_left
+  pub numbers_are : numbers ≡ log.under_way
+  pub size : length bytes ≡ 512 * length numbers
+
 -- A call makes the next turn of the log's oldest record, or where there is none nothing. A view is
 -- afterwards as this function has it.
 pub record MakesTurns {M : Type 0} (state : M → State) (Follows : M → M → Type 0)
@@ -121,6 +128,12 @@ pub record BringsOn {M : Type 0} (state : M → State) (Follows : M → M → Ty
   pub sent : IsAway log → (view : View) → HoldsView log (state m) view → (next : LogValue)
       → IsSentHome log next → OnOk result (HoldsView next (state n) view)
 
+-- The calls of the next retire step, of which so many are made, bring this log on.
+abbrev pub TurnsOn : {M : Type 0} → (M → State) → (M → M → Type 0) → Result (Unit {0}) MediumFault
+    → LogValue → M → M → Type 0
+TurnsOn state Follows result log m n = BringsOn state Follows (CountsStep (next_calls log)
+    (next_sends log) (next_turn_flushes log) result (state m) (state n)) result log m n
+
 -- The next call of the record under way, which is one of these entries, is made, or it is refused.
 -- The log itself does not count it yet.
 pub record StepCalled (entries : List Entry) (result : Result (Unit {0}) MediumFault)
@@ -139,16 +152,6 @@ pub record StepCalled (entries : List Entry) (result : Result (Unit {0}) MediumF
   pub durable : (view : View) → HoldsView log old view → view.under_way ≡ entries
       → view.ours ≡ true → (next : LogValue) → IsStepped Durable log next
       → OnOk result (EachCut (HasDurable new.size next (with_record view)) new)
-
--- This is the next call of the record under way, which is one of these entries, and with it go
--- these bytes. Whoever makes it on a medium that holds the log, on which it is made or refused, has
--- made a step.
-pub record TellsStep {M : Type 0} (state : M → State) (entries : List Entry) (log : LogValue)
-    (call : Call) (bytes : List ℕ) : Type 0 where
-  pub inside : IsWithin (sectors_of log.shape) call
-  pub law : (m n : M) (after : List ℕ) (result : Result (Unit {0}) MediumFault)
-      → IsOn log (state m) → Performed call bytes after result (state m) (state n)
-      → StepCalled entries result log (state m) (state n)
 
 -- A call makes the next step of the record under way, which is one of these entries.
 pub record MakesStep {M : Type 0} (state : M → State) (Follows : M → M → Type 0)

@@ -67,3 +67,12 @@ pub(crate) fn next_call(
     let offset = write_part(sizes.format, stamp, numbers, bytes, written, sector);
     Call::Write(slot_place(sizes.format, slot) + offset)
 }
+
+/// Whether a data place has the stamp of its record in place of the first bytes of its block: it
+/// does where no part of a record is flushed before the last.
+#[inline]
+pub(crate) fn is_stamped(format: LogFormat) -> bool
+    ensures { IsTrue result ↔ ((layout_of format).early 1 ≡ 0) }
+{
+    early(format, 1) == 0
+}

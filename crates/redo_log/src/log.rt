@@ -6,7 +6,6 @@ use crate::begun::BegunNumbers;
 use crate::copies::Copies;
 use crate::firsts::{first_kept, keep_firsts};
 use crate::index::{Copied, newest};
-use crate::making::make;
 use crate::room::room_for;
 use crate::{LogFault, Progress};
 use arrayvec::ArrayVec;
@@ -200,9 +199,7 @@ impl Log {
         ensures { MakesStep M.state M.follows (entries_of numbers.now bytes.now) result
             self.old self.new m.old m.new }
     {
-        let mut sector = [0; 512];
-        let call = self.next_step::<M>(numbers, bytes, &mut sector);
-        let Ok(()) = make(m, call, &mut sector) else {
+        let Ok(()) = self.make_step(m, numbers, bytes) else {
             self.stop();
             return Err(LogFault::Medium);
         };

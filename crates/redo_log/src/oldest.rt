@@ -1,10 +1,11 @@
 //! The turns of the oldest durable record, one after the other.
 ghost use Rattle.std.specs.Prelude.{◌≡◌, ◌+◌, ◌<◌, ◌≤◌, true, false, length, MatchOption};
-ghost use Rattle.medium.specs.declared.medium_call.Call.TheVariants.{Write};
+ghost use Rattle.std.specs.Prelude.{ℕ, List, Some};
+ghost use Rattle.medium.specs.declared.medium_call.Call.TheVariants.{Read, Write};
 ghost use Rattle.journal.specs.Places.{sectors_of};
 ghost use Rattle.redo_log.specs.Value.{next_calls, next_sends, of_oldest, IsAway, IsSentHome};
 ghost use Rattle.redo_log.specs.Value.{IsRetireStepped, next_turn_flushes};
-ghost use Rattle.redo_log.specs.Steps.{CountsStep, BringsOn};
+ghost use Rattle.redo_log.specs.Steps.{CountsStep, BringsOn, TurnsOn};
 ghost use Rattle.redo_log.specs.Halfway.{IsFirst, IsSecond, IsOneCall, TellsFirst, TellsSecond};
 
 use crate::Log;
@@ -27,6 +28,29 @@ impl Log {
         (home, self.copies.block(0, self.turned))
     }
 
+    // Where the copy of that block stands in the log.
+    fn copy_next(&self) -> u64
+        requires { IsAway self.now × (self.now.keeps ≡ false) }
+        ensures { (bytes : List ℕ) → IsFirst self.now (Read result) bytes }
+    {
+        let slot = slot_of(self.head, self.sizes.slots);
+        copy_place(self.sizes.format, slot, self.turned)
+    }
+
+    // Makes its copy the block, and tells where that goes.
+    fn bring(&self, sector: &mut [u8; 512]) -> u64
+        requires { IsAway self.now }
+        ensures { self.now.keeps ≡ false
+            → IsSecond self.now sector.old (Some (Write result)) sector.new }
+    {
+        let Some(oldest) = self.waiting.front() else {
+            unreachable!()
+        };
+        let number = oldest[self.turned];
+        put_first(sector, &first_kept(&self.firsts, 0, self.turned));
+        self.sizes.home_of(number)
+    }
+
     // The first call of the next turn of the oldest durable record, a flush where none waits, and
     // in the sector what it writes.
     fn first_call(&self, sector: &mut [u8; 512]) -> Call
@@ -41,8 +65,7 @@ impl Log {
             *sector = *block;
             Call::Write(home)
         } else if self.turned < count {
-            let slot = slot_of(self.head, self.sizes.slots);
-            Call::Read(copy_place(self.sizes.format, slot, self.turned))
+            Call::Read(self.copy_next())
         } else if self.turned == count {
             Call::Flush
         } else {
@@ -60,9 +83,7 @@ impl Log {
             if self.copies.are_kept() {
                 return None;
             }
-            let number = oldest[self.turned];
-            put_first(sector, &first_kept(&self.firsts, 0, self.turned));
-            Some(Call::Write(self.sizes.home_of(number)))
+            Some(Call::Write(self.bring(sector)))
         } else if self.turned == oldest.len() {
             None
         } else {
@@ -100,9 +121,8 @@ impl Log {
             (next_turn_flushes self.now) result (M.state m.old) (M.state m.new)) result self.now
             m.old m.new }
     {
-        if self.copies.are_kept() && self.is_away() {
-            let (home, block) = self.kept_next();
-            return write(m, home, block);
+        if self.is_away() {
+            return self.bring_home(m);
         }
         let mut sector = [0; 512];
         let first = self.turn_first::<M>(&mut sector);
@@ -111,6 +131,21 @@ impl Log {
             return Ok(());
         };
         make(m, second, &mut sector)
+    }
+
+    // Brings the next block of the oldest durable record home, which is not counted yet.
+    fn bring_home<M: Medium>(&self, m: &mut M) -> Result<(), MediumFault>
+        requires { IsAway self.now × (sectors_of self.now.shape ≤ (M.state m.old).size) }
+        ensures { self.now.dead ≡ false → TurnsOn M.state M.follows result self.now m.old m.new }
+    {
+        if self.copies.are_kept() {
+            let (home, block) = self.kept_next();
+            return write(m, home, block);
+        }
+        let mut sector = [0; 512];
+        make(m, Call::Read(self.copy_next()), &mut sector)?;
+        let home = self.bring(&mut sector);
+        write(m, home, &sector)
     }
 
     /// Counts a block of the oldest durable record that went home. The last one is noted: the flush

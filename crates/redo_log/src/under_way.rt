@@ -1,18 +1,20 @@
 //! The calls of the record under way, one after the other.
-ghost use Rattle.std.specs.Prelude.{◌≡◌, ◌<◌, ◌≤◌, ◌*◌, ◌++◌, ◌∷◌, [], length};
+ghost use Rattle.std.specs.Prelude.{◌≡◌, ◌<◌, ◌≤◌, ◌+◌, ◌*◌, ◌++◌, ◌∷◌, [], length, IfSome};
 ghost use Rattle.std.specs.VecDeque.{deque_len, deque_capacity};
 ghost use Rattle.journal.specs.Record.{entries_of};
 ghost use Rattle.redo_log.specs.Shown.{lists_of};
 ghost use Rattle.redo_log.specs.Value.{IsStepped};
-ghost use Rattle.redo_log.specs.Steps.{TellsStep};
+ghost use Rattle.redo_log.specs.Steps.{CanStep, StepCalled};
+ghost use Rattle.redo_log.specs.Halfway.{TellsStep, IsNextData};
 
 use crate::begun::BegunNumbers;
-use crate::call::next_call;
+use crate::call::{is_stamped, next_call};
 use crate::index::enter_record;
 use crate::log::Numbers;
+use crate::making::{make, write};
 use crate::{Log, Progress};
-use journal::{parts, slot_of};
-use medium::{Call, Medium};
+use journal::{copy_place, data_sector2, parts, slot_of};
+use medium::{Call, Medium, MediumFault};
 use std::collections::VecDeque;
 
 impl Log {
@@ -34,6 +36,61 @@ impl Log {
         };
         let stamp = self.head + self.waiting.len() as u64;
         next_call(&self.sizes, stamp, numbers, bytes, made, sector)
+    }
+
+    /// Makes the next call of the record under way, which is not counted yet. The block of a data
+    /// place is copied once at most on its way there, and no sector is cleared for it.
+    #[inline]
+    pub(crate) fn make_step<M: Medium>(
+        &self,
+        m: &mut M,
+        numbers: &[u64],
+        bytes: &[u8],
+    ) -> Result<(), MediumFault>
+        requires { CanStep self.now numbers.now bytes.now (M.state m.old) }
+        ensures { M.follows m.old m.new × StepCalled (entries_of numbers.now bytes.now) result
+            self.now (M.state m.old) (M.state m.new) }
+    {
+        let Some((place, i)) = self.next_data(numbers.len()) else {
+            let mut sector = [0; 512];
+            let call = self.next_step::<M>(numbers, bytes, &mut sector);
+            return make(m, call, &mut sector);
+        };
+        let Some(block) = bytes[512 * i..].first_chunk::<512>() else {
+            unreachable!()
+        };
+        if is_stamped(self.sizes.format) {
+            return write(m, place, &data_sector2(self.stamp(), block));
+        }
+        write(m, place, block)
+    }
+
+    // The stamp of the record under way.
+    fn stamp(&self) -> u64
+        ensures { result ≡ self.now.head + length self.now.waiting }
+    {
+        self.head + self.waiting.len() as u64
+    }
+
+    // The data place that comes next of the record under way, which has so many blocks, and which
+    // of these goes there, where a data place comes next.
+    #[inline]
+    fn next_data(&self, count: usize) -> Option<(u64, usize)>
+        requires { (0 < self.now.steps_left) × (count ≡ length self.now.under_way) }
+        ensures { IfSome result (λ next. IsNextData self.now count next.0 next.1) }
+    {
+        let Some(made) = self.made else {
+            return None;
+        };
+        let first = parts(self.sizes.format, count) - count - 1;
+        if made < first || first + count <= made {
+            return None;
+        }
+        let slot = slot_of(self.stamp(), self.sizes.slots);
+        Some((
+            copy_place(self.sizes.format, slot, made - first),
+            made - first,
+        ))
     }
 
     /// Counts a call of the record under way, which is durable with its last one.

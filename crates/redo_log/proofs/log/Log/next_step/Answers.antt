@@ -21,6 +21,7 @@ returns g c =
     let inside : IsWithin (first_home log.shape) c.next_call.result = rw (← c.self.view_is) c.next_call.ensures.inside in
     record {
       inside = within_more (first_home log.shape) (sectors_of log.shape) (omega arith) c.next_call.result inside;
+      call_is = next;
       law = λ m n after result on made.
           step_called is on.live c.requires.under_way c.args.bytes.now c.requires.numbers c.requires.bytes
           next inside after result (g.M.Medium.state m) (g.M.Medium.state n) (g.met.M.Medium.sound m) (g.met.M.Medium.sound n) made;
