@@ -11,10 +11,8 @@ pub(crate) fn write_blocks(row: &mut [[u8; BLOCK]], from: usize, bytes: &[u8])
     requires { from + length bytes.now / 512 ≤ length row.old }
     ensures { IsWrittenFrom row.old row.new from (length bytes.now / 512) (block_at bytes.now) [] }
 {
-    for i in 0..bytes.len() / BLOCK {
-        let at = i * BLOCK;
-        row[from + i].copy_from_slice(&bytes[at..at + BLOCK]);
-    }
+    let (blocks, _) = bytes.as_chunks::<BLOCK>();
+    row[from..from + blocks.len()].copy_from_slice(blocks);
 }
 
 /// Writes `count` entries from this cell on, whose numbers and places follow those of the first.
