@@ -1,18 +1,17 @@
 -- Records are copied home, call by call.
 use Rattle.std.proofs.Common.{◌≡◌, ◌≢◌, ◌<◌, ◌≤◌, ◌+◌, ◌*◌, ◌++◌, ℕ, List, [], ◌∷◌, length, drop, get_or, take, inl, inr, ◌∙◌, sym, refl}
-use Rattle.std.proofs.Common.{arith, Ok, Err, Result, true, false, Some, zero, suc}
-use Rattle.std.proofs.lemmas.List.{take_more, take_all, length-append, get_or_append_left, get_or_push}
-use Rattle.medium.specs.declared.medium_call.Call.TheVariants.{Read, Write}
-use Rattle.medium.specs.{Medium.State, Medium.Image, Performed.Performed, declared.fault.MediumFault.MediumFault}
+use Rattle.std.proofs.{Common.{arith, Ok, Err, Result, true, false, Some, zero, suc}, lemmas.List.{take_more, take_all, length-append}}
+use Rattle.std.proofs.lemmas.List.{get_or_append_left, get_or_push}
+use Rattle.medium.specs.{declared.medium_call.Call.TheVariants.{Read, Write}, Medium.{State, Image}, Performed.Performed}
+use Rattle.medium.specs.declared.fault.MediumFault.{MediumFault}
 use Rattle.medium.proofs.Moments.{gains_within}
 use Rattle.journal.specs.{declared.log_format.LogFormat.LogFormat, declared.record.Record.Record, declared.reader.RecordReader.RecordReader}
-use Rattle.journal.specs.{declared.naming_stage.NamingStage.TheVariants.Named, Places.Shape, Places.first_home, Formats.shape_of}
-use Rattle.journal.specs.{Formats.IsWhole, Record.Entry, Record.numbers_of, Record.with_records, Record.home_of, Record.block_of}
-use Rattle.journal.specs.{Reading.data_at, Reading.IsRead, Reading.IsReadFor, Naming.IsKnown, Naming.Learns, Naming.naming_place}
+use Rattle.journal.specs.{declared.naming_stage.NamingStage.TheVariants.Named, Places.{Shape, first_home}, Formats.{shape_of, IsWhole}}
+use Rattle.journal.specs.{Record.{Entry, numbers_of, with_records, home_of, block_of}, Reading.{data_at, IsRead, IsReadFor}, Naming.IsKnown}
+use Rattle.journal.specs.Naming.{Learns, naming_place}
 use Rattle.journal.proofs.Wholeness.{with_blocks-copied, with_records-append}
-use Rattle.recovery.specs.Calls.{IsHomeOf, IsHomeInRecords, freed_at, copy_calls, calls_of, AreCopied}
-use Rattle.recovery.specs.Copying.{CopyView, HasHome, HoldsCopied, IsNextRecord, IsTakenOrPassed}
-use Rattle.recovery.specs.declared.copy_step.CopyStep.{CopyStep}
+use Rattle.recovery.specs.{Calls.{IsHomeOf, IsHomeInRecords, freed_at, copy_calls, calls_of, AreCopied}, Copying.{CopyView, HasHome}}
+use Rattle.recovery.specs.{Copying.{HoldsCopied, IsNextRecord, IsTakenOrPassed}, declared.copy_step.CopyStep.CopyStep}
 use Rattle.recovery.proofs.JoinedCalls.{not_in_log, number_of, long_as}
 
 -- one call more for each block of one more record

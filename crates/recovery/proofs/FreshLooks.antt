@@ -1,26 +1,25 @@
--- Which sectors a start reads of an image in which no record waits.
-use Rattle.std.proofs.Common.{◌≡◌, ◌≢◌, ◌∙◌, sym, refl, subst, inl, inr, ℕ, ◌+◌, ◌%◌, ◌<◌, ◌≤◌, List, [], length, arith, Result}
+-- The calls that a start tells, and which sectors they read of an image in which no record waits.
+use Rattle.std.proofs.Common.{◌≡◌, ◌≢◌, ◌∙◌, refl, subst, inl, inr, ℕ, ◌+◌, ◌%◌, ◌<◌, ◌≤◌, List, [], length, arith, Result, Ok, Err}
 use Rattle.std.proofs.lemmas.Nat.{mod_below}
-use Rattle.medium.specs.{Medium.State, Medium.Image, Medium.IsSound, declared.medium_call.Call.Call, declared.fault.MediumFault.MediumFault}
+use Rattle.medium.specs.{Medium.{State, Image, IsSound}, declared.medium_call.Call.Call, declared.fault.MediumFault.MediumFault}
+use Rattle.medium.specs.{Performed.{Performed, fault_of, IsWithin, IsReadBy}, Machine.{TellsCall, IsLeft}, Tally.Tally}
+use Rattle.medium.specs.Tally.{one_more}
 use Rattle.medium.proofs.SectorsRead.{looks_joined, looks_wider}
 use Rattle.spec.specs.Blocks.{Array}
-use Rattle.journal.specs.{Places.Shape, Layout.CarriesBelowIn, Format2.format2, Format2.commit_place, Format2.IsCommitTwo}
-use Rattle.journal.specs.{Formats.CarriesBelow, Formats.HasWhole, Formats.layout_of, Formats.shape_of, declared.record.Record.Record}
-use Rattle.journal.specs.{Naming.IsReader, Naming.IsReading, Naming.IsKnown, Naming.IsToldAt, Naming.naming_place, Sectors.IsHead}
-use Rattle.journal.specs.{declared.naming_stage.NamingStage.NamingStage, declared.log_format.LogFormat.TheVariants.Two, Sectors.IsSuper}
-use Rattle.journal.proofs.{Engine.none_carried, Formats.laws_of, SectorNumbers.IsSuper-one, SectorNumbers.IsHead-one}
-use Rattle.recovery.specs.Calls.{IsFresh, IsReadOfFresh, IsReadBy, LooksAtFresh, MakesCall}
-use Rattle.recovery.specs.HoldsStart.{HoldsStart, HoldsLook, IsFlushedFirst, IsCopying, IsStartCall, IsSurveyCall}
-use Rattle.recovery.specs.{declared.surveying.Surveying.Surveying, Copying.Copying}
+use Rattle.journal.specs.{Places.Shape, Layout.CarriesBelowIn, Format2.{format2, commit_place, IsCommitTwo}, Formats.CarriesBelow}
+use Rattle.journal.specs.{Formats.{HasWhole, layout_of, shape_of}, declared.record.Record.Record, Naming.{IsReader, IsReading, IsKnown}}
+use Rattle.journal.specs.{Naming.{IsToldAt, naming_place}, Sectors.{IsHead, IsSuper}, declared.naming_stage.NamingStage.NamingStage}
+use Rattle.journal.specs.declared.log_format.LogFormat.TheVariants.{Two}
+use Rattle.journal.proofs.{Engine.none_carried, Formats.laws_of, SectorNumbers.{IsSuper-one, IsHead-one}}
+use Rattle.recovery.specs.{Calls.{IsFresh, IsReadOfFresh, LooksAtFresh}, HoldsStart.{HoldsStart, HoldsLook, IsFlushedFirst, IsCopying}}
+use Rattle.recovery.specs.{HoldsStart.{IsStartCall, IsSurveyCall, StartView}, Starting.{IsStarting, IsStartStep, start_left, start_kind}}
+use Rattle.recovery.specs.{declared.surveying.Surveying.Surveying, Copying.Copying, Causes.start_fault_of, Recovered.LeavesAtLeast}
 use Rattle.recovery.specs.{declared.starting.Starting.Starting, declared.start_point.StartPoint.StartPoint, declared.found.Found.Found}
-use Rattle.recovery.proofs.{Looks.at_point, Looks.stage_of, Looks.survey_held, StartCopy.ran}
+use Rattle.recovery.specs.Stages.{StartStage}
+use Rattle.recovery.proofs.{Looks.{at_point, stage_of, Goes, survey_held}, StartCopy.ran}
 use Rattle.journal.specs.declared.naming_stage.NamingStage.TheVariants as naming
 use Rattle.recovery.specs.declared.start_point.StartPoint.TheVariants as point
 use Rattle.recovery.specs.Stages as stage
-
--- each sector that a call reads is one of those
-abbrev pub ReadsFresh : Shape → ℕ → Call → Type 0
-ReadsFresh shape next call = (s : ℕ) → IsReadBy call s → IsReadOfFresh shape next s
 
 module _ (shape : Shape) (image : Image) (next : ℕ) (some : 1 ≤ shape.slots) (carries : CarriesBelow shape image next) where
   -- in format 2 there is no commit of the next record
@@ -69,7 +68,7 @@ module _ {M : Type 0} {state : M → State} (sound : (m : M) → IsSound (state 
   -- the survey
   survey_named : {mid : M} {head : ℕ} {survey : Surveying} {call : Call} → IsFlushedFirst (state start) (state mid)
       → HoldsLook state least (stage.Survey head survey) had mid m → 0 < survey.left → IsSurveyCall survey.reader call
-      → ReadsFresh shape next call
+      → (s : ℕ) → IsReadBy call s → IsReadOfFresh shape next s
   survey_named {mid} {head} {survey} {call} flushed held due named s reads =
       let at = held.midway.0 in
       let surveyed = survey_held state held.midway.1 at.sizes head at.new in
@@ -85,7 +84,7 @@ module _ {M : Type 0} {state : M → State} (sound : (m : M) → IsSound (state 
       (subst (λ stamp. IsKnown shape image stamp going.reads survey.reader.stage survey.reader.read) stamp_is
       (rw found.0 at going.to.known))
       (survey.goes.there due) (λ is. rw (← sizes_are) (survey.goes.two due is)) in
-      let is : s ≡ naming_place shape next survey.reader.stage = rw (named told.0, sizes_are, stamp_is) at reads in
+      let is : s ≡ naming_place shape next survey.reader.stage = rw (named.1 told.0, sizes_are, stamp_is) at reads in
       inr (inr (rw is told.1))
 
   -- the copying, of which there is none
@@ -99,35 +98,60 @@ module _ {M : Type 0} {state : M → State} (sound : (m : M) → IsSound (state 
   -- each call of a start
   named_at : (machine : Starting) (here : StartPoint) (call : Call) → machine.stage ≡ here
       → HoldsStart state least (at_point machine here) had start m → IsStartCall (at_point machine here) call
-      → ReadsFresh shape next call
+      → (s : ℕ) → IsReadBy call s → IsReadOfFresh shape next s
   named_at machine point.ReadSuper call is held named s reads = inl (rw named at reads)
   named_at machine (point.ReadHead sizes) call is held named s reads = inr (inl (rw named at reads))
   named_at machine (point.Survey head) call is held named s reads =
       survey_named held.midway.1 held.midway.2 (machine.goes.survey_goes head is).due named s reads
   named_at machine (point.Copy found) call is held named s reads =
       absurd (omega (arith, none_copied held.midway, (machine.goes.copy found is).due))
-  named_at machine (point.WriteHead found) call is held named s reads = absurd (rw named at reads)
   named_at machine here call is held named s reads = absurd (rw named at reads)
 
--- A start was begun, and its calls are made: where no record waited, each read names one of those.
-pub record RunsStart {M : Type 0} (state : M → State) (Follows : M → M → Type 0) (least : ℕ) (machine : Starting) (had : List ℕ)
-    (start m : M) : Type 0 where
-  pub size_is : machine.sectors ≡ (state m).size
-  pub held : (machine.least ≡ least) × HoldsStart state least (stage_of machine) had start m
-  pub looks : LooksAtFresh (state start) (state m)
-  pub follows : Follows start m
+module _ {M : Type 0} {state : M → State} (sound : (m : M) → IsSound (state m)) (machine : Starting) {here : StartPoint} {call : Call}
+    {had bytes : List ℕ} where
+  -- what is read so far, where this call is made, or refused
+  looks_on : {least : ℕ} {start m n : M} {got : List ℕ} {result : Result (Unit {0}) MediumFault} → machine.stage ≡ here
+      → HoldsStart state least (at_point machine here) had start m → IsStartCall (at_point machine here) call
+      → Performed call bytes got result (state m) (state n) → LooksAtFresh (state start) (state n)
+  looks_on {m = m} is held named performed shape array next fresh = looks_joined (IsReadOfFresh shape next) _ (state m) _
+      (held.looks shape array next fresh)
+      (looks_wider (IsReadBy call) _ _ _ (named_at sound fresh machine here call is held named) performed.names)
 
--- a call is made, or refused
-pub runs_on : {M : Type 0} {state : M → State} → ((m : M) → IsSound (state m)) → {Follows : M → M → Type 0}
-    → ((a b c : M) → Follows a b → Follows b c → Follows a c) → {least : ℕ} {machine next : Starting} {had bytes got : List ℕ}
-    {start m n : M} {call : Call} {result : Result (Unit {0}) MediumFault} → RunsStart state Follows least machine had start m
-    → IsStartCall (stage_of machine) call → MakesCall state Follows call bytes got result m n → next.sectors ≡ machine.sectors
-    → (next.least ≡ least) × HoldsStart state least (stage_of next) got start n → RunsStart state Follows least next got start n
-runs_on {state = state} sound through {machine = machine} {start = start} {m = m} {n = n} {call = call} runs named made same held = record {
-  size_is = same ∙ runs.size_is ∙ sym made.performed.passes.size_stays;
-  held = held;
-  looks = λ shape array next fresh. looks_joined (IsReadOfFresh shape next) (state start) (state m) (state n)
-      (runs.looks shape array next fresh) (looks_wider (IsReadBy call) (IsReadOfFresh shape next) (state m) (state n)
-      (named_at sound fresh machine machine.stage call refl runs.held.1 named) made.looks);
-  follows = through _ _ _ runs.follows made.follows;
-}
+  -- a start tells this call there
+  pub told : machine.stage ≡ here → IsStarting (at_point machine here) → IsWithin machine.sectors call
+      → IsStartCall (at_point machine here) call
+      → ((m n start : M) (got : List ℕ) (least : ℕ) (next : StartStage) → machine.sectors ≡ (state m).size
+      → HoldsStart state least (at_point machine here) had start m → Performed call bytes got (Ok tt) (state m) (state n)
+      → IsStartStep machine.sectors least (at_point machine here) got next → Goes state least next got start n)
+      → ((m n start : M) (got : List ℕ) (least : ℕ) (e : MediumFault) → HoldsStart state least (at_point machine here) had start m
+      → Performed call bytes got (Err e) (state m) (state n) → LeavesAtLeast least (state start) (state n))
+      → (rest : Tally) → start_left (at_point machine here) ≡ one_more rest (fault_of call)
+      → ((got : List ℕ) (next : StartStage) → IsStartStep machine.sectors machine.least (at_point machine here) got next
+      → IsLeft ⊥ (start_left next) rest)
+      → TellsCall {M = M} {S = Starting} {V = StartView M} state (λ s size. s.sectors ≡ size)
+      (λ s had m view. (s.least ≡ view.least) × HoldsStart state view.least (stage_of s) had view.start m)
+      (λ s. s.sectors) (λ s. s.sectors) (λ s. start_left (stage_of s)) ⊥ (λ s. IsStarting (stage_of s))
+      (λ s got t. (t.sectors ≡ s.sectors) × (t.least ≡ s.least) × IsStartStep s.sectors s.least (stage_of s) got (stage_of t))
+      (λ s t. (t.sectors ≡ s.sectors) × (t.least ≡ s.least) × (t.stage ≡ point.Refused (start_fault_of (start_kind (stage_of s)))))
+      machine had call bytes
+  told is live within named made leaves rest pays rests = record {
+    due = rw is live;
+    within = within;
+    looks = grind (arith, within);
+    made = λ m n got view next fits held performed after.
+        let h = rw is at held.1 in
+        let goes = made m n view.start got view.least (stage_of next) fits h performed (rw (is, held.0) at after.2) in
+        (after.1 ∙ held.0, grind (arith, goes, looks_on is h named performed, performed.passes.failures_are, h.well live));
+    refused = λ m n got view next e fits held performed gone.
+        let h = rw is at held.1 in
+        let moments = h.leaves.moments in
+        let kind : fault_of call ≡ start_kind (at_point machine here) = grind arith in
+        let all = leaves m n view.start got view.least e h performed in (
+          gone.1 ∙ held.0,
+          rw (gone.2, is, ← kind)
+              (grind (arith, all, looks_on is h named performed, moments.refused_stay (fault_of call), performed.passes)),
+        );
+    rest = rest;
+    pays = rw is pays;
+    rests = λ got next after. rests got (stage_of next) (rw is at after.2);
+  }

@@ -1,16 +1,14 @@
 -- The calls that write a new image, and what each leaves of what was shown before it.
 use Rattle.std.proofs.Common.{◌≡◌, ◌≢◌, ◌<◌, ◌≤◌, ◌+◌, ℕ, List, ◌∷◌, Ok, Err, OnOk, Result, refl, ◌∙◌, sym, ap, ⊎_elim, arith, rules}
 use Rattle.std.proofs.lemmas.Result.{on_ok_weaker}
-use Rattle.medium.specs.declared.medium_call.Call.TheVariants.{Write, Flush}
-use Rattle.medium.specs.{Medium.State, Medium.Image, Medium.Holds, Medium.IsSound, Medium.Passes, Moments.EachCut, Moments.IsFlushed}
-use Rattle.medium.specs.{Machine.TellsCall, Machine.Driven, Machine.Tallied, Performed.Performed, declared.fault.MediumFault.MediumFault}
-use Rattle.medium.specs.{declared.medium_call.Call.Call, Tally.none, Tally.of_all, Tally.one_more}
-use Rattle.medium.proofs.{Driving.left_all, Moments.after_write, Moments.shrunk, Moments.weaker, Tallies.calls_most, Tallies.calls_all}
-use Rattle.medium.proofs.{Tallies.sends_most}
+use Rattle.medium.specs.{declared.medium_call.Call.TheVariants.{Write, Flush}, Medium.{State, Image, Holds, IsSound, Passes}}
+use Rattle.medium.specs.{Moments.{EachCut, IsFlushed}, Machine.{TellsCall, Driven, Tallied}, Performed.Performed}
+use Rattle.medium.specs.{declared.fault.MediumFault.MediumFault, declared.medium_call.Call.Call, Tally.{none, of_all, one_more}}
+use Rattle.medium.proofs.{Driving.left_all, Moments.{after_write, shrunk, weaker}, Tallies.{calls_most, calls_all, sends_most}}
 use Rattle.recovery.specs.NewImage.{ImageView, Under, Shows, IsNew, IsPartOrNew, HasImage, MidwayImage, HoldsImage, MayBeImage, IsLive}
-use Rattle.recovery.specs.NewImage.{IsAfter, image_left, calls_ahead, each_midway}
-use Rattle.recovery.specs.{Calls.Writes, Calls.AreMade, declared.image_plan.ImagePlan.ImagePlan, declared.new_image.NewImage.NewImage}
-use Rattle.recovery.specs.{declared.image_stage.ImageStage.ImageStage}
+use Rattle.recovery.specs.{NewImage.{IsAfter, image_left, calls_ahead, each_midway}, Calls.{Writes, AreMade}}
+use Rattle.recovery.specs.{declared.image_plan.ImagePlan.ImagePlan, declared.new_image.NewImage.NewImage}
+use Rattle.recovery.specs.declared.image_stage.ImageStage.{ImageStage}
 use Rattle.recovery.proofs.JoinedCalls.{refused_call, none_read}
 use Rattle.medium.specs.declared.fault.MediumFault.TheVariants as fault
 use Rattle.recovery.specs.declared.image_stage.ImageStage.TheVariants as stage

@@ -1,24 +1,22 @@
 -- Calls, and then others: what they are together, and what is left at each moment of them; and records that are copied home.
 use Rattle.std.proofs.Common.{◌≡◌, inl, inr, ℕ, ◌+◌, ◌*◌, ◌<◌, ◌≤◌, List, [], length, get_or, refl, ◌∙◌, ap, subst, ◌⊎◌, ⊎_elim, replicate}
-use Rattle.std.proofs.Common.{sym, arith, rules, Result, ◌≢◌, IfErr, OnOk, Ok, Err}
-use Rattle.std.proofs.{Math.ListN.get_or-map, lemmas.List.length-map, lemmas.Result.on_ok_weaker}
-use Rattle.medium.specs.Medium.{State, Image, Sets, CutLeaves, Within, IsSound, LooksOnly, Stays, Passes}
-use Rattle.medium.specs.Moments.{LeavesOnly, StaysWithin, SparesFrom, IsQuiet, EachCut}
-use Rattle.medium.specs.declared.fault.MediumFault.TheVariants.{Read, Flush}
-use Rattle.medium.specs.{declared.fault.MediumFault.MediumFault, Tally.Tally, Tally.of_kind, Machine.Tallied}
+use Rattle.std.proofs.{Common.{sym, arith, rules, Result, ◌≢◌, IfErr, OnOk, Ok, Err}, Math.ListN.get_or-map, lemmas.List.length-map}
+use Rattle.std.proofs.lemmas.Result.{on_ok_weaker}
+use Rattle.medium.specs.{Medium.{State, Image, Sets, CutLeaves, Within, IsSound, LooksOnly, Stays, Passes}, Moments.LeavesOnly}
+use Rattle.medium.specs.{Moments.{StaysWithin, SparesFrom, IsQuiet, EachCut}, declared.fault.MediumFault.TheVariants.{Read, Flush}}
+use Rattle.medium.specs.{declared.fault.MediumFault.MediumFault, Tally.{Tally, of_kind}, Machine.Tallied}
 use Rattle.medium.proofs.Moments.{at_exit, updated, updated_here, updated_elsewhere, quiet_leaves, joined_same, weaker, quiet_call}
-use Rattle.medium.proofs.{SparedSectors.HasSpared, SparedSectors.spared_joined, SparedSectors.spared_quiet, SectorsRead.looks_joined}
-use Rattle.medium.proofs.{SectorsRead.looks_below, Tallies.none_made, Tallies.none_refused, Tallies.refusal_counts, Tallies.nothing_looked}
+use Rattle.medium.proofs.{SparedSectors.{HasSpared, spared_joined, spared_quiet}, SectorsRead.{looks_joined, looks_below}}
+use Rattle.medium.proofs.Tallies.{none_made, none_refused, refusal_counts, nothing_looked}
 use Rattle.spec.specs.Blocks.{Array}
-use Rattle.journal.specs.Record.{Entry, numbers_of, with_records, home_of, Hides}
-use Rattle.journal.specs.{Places.Shape, Places.first_home, Places.sectors_of, Places.IsFirstHome, Formats.layout_of, Formats.IsWhole}
-use Rattle.journal.specs.{Formats.HasWhole, Formats.CarriesBelow, Sectors.IsSuper, Sectors.IsHead, Standing.IsOurs, Standing.Keeps}
-use Rattle.journal.specs.{Standing.HasShape, Staged.View, Staged.Resting, Reading.IsRefusedCall}
+use Rattle.journal.specs.{Record.{Entry, numbers_of, with_records, home_of, Hides}, Places.{Shape, first_home, sectors_of, IsFirstHome}}
+use Rattle.journal.specs.{Formats.{layout_of, IsWhole, HasWhole, CarriesBelow}, Sectors.{IsSuper, IsHead}, Standing.{IsOurs, Keeps}}
+use Rattle.journal.specs.{Standing.HasShape, Staged.{View, Resting}, Reading.IsRefusedCall}
 use Rattle.journal.proofs.Wholeness.{IsWhole-one, IsWhole-same, slot_inside, CarriesBelow-agree, in_log, with_records-same, records-hide}
-use Rattle.journal.proofs.{Formats.laws_of, Formats.sectors_are, Engine.rests_found, Engine.none_carried, SectorNumbers.IsHead-one}
+use Rattle.journal.proofs.{Formats.{laws_of, sectors_are}, Engine.{rests_found, none_carried}, SectorNumbers.IsHead-one}
 use Rattle.recovery.specs.Calls.{IsHomeOf, IsHomeInRecords, LooksAtLog, Writes, cleared_at, WithOrWithout, IsBetween, IsNoneOrNew, IsMidway}
-use Rattle.recovery.specs.Calls.{ImageLeaves, IsMade, IsWritten, IsNoneOrWritten, WritesImage, ReadsNothing}
-use Rattle.recovery.specs.Recovered.{IsFresh, HasNoneWaiting}
+use Rattle.recovery.specs.{Calls.{ImageLeaves, IsMade, IsWritten, IsNoneOrWritten, WritesImage, ReadsNothing}, Recovered.IsFresh}
+use Rattle.recovery.specs.Recovered.{HasNoneWaiting}
 
 -- what a cut may leave in one sector an image has there that it may leave
 image_with : (m : State) (s : ℕ) (c : List ℕ) → IsSound m → m.may_leave s c

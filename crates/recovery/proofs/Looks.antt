@@ -2,30 +2,25 @@
 -- left of it, and how it ends.
 use Rattle.std.proofs.Common.{◌≡◌, ◌≢◌, ◌∙◌, sym, ⊎_elim, ℕ, ◌+◌, ◌*◌, ◌<◌, ◌≤◌, List, length, min, refl, ap, arith, rules, Result, Ok, Err}
 use Rattle.std.proofs.Common.{◌⊎◌, ◌-◌, OnOk, Option, MatchOption, IfSome}
-use Rattle.medium.specs.Performed.{Performed, fault_of, IsWithin, ReadsBefore}
-use Rattle.medium.specs.declared.medium_call.Call.TheVariants.{Read, Flush}
-use Rattle.medium.specs.{Medium.State, Medium.IsSound, Moments.IsQuiet, Machine.Tallied, Machine.IsLeft, Tally.of_all}
-use Rattle.medium.specs.{Tally.Tally, Tally.one_more, Tally.none, declared.medium_call.Call.Call, declared.fault.MediumFault.MediumFault}
-use Rattle.medium.proofs.{Moments.quiet_start, Moments.quiet_call, Moments.quiet_joined, SectorsRead.no_looks, SectorsRead.looks_joined}
-use Rattle.medium.proofs.{Driving.not_driven, Driving.driven_call, Driving.driven_refused, Tallies.calls_most, Tallies.none_made}
-use Rattle.medium.proofs.{Tallies.refusal_counts}
-use Rattle.journal.specs.{declared.super_sector.Super.Super, Places.Shape, Places.sectors_of, Formats.shape_of, Standing.HasShape}
-use Rattle.journal.specs.{Naming.IsReading, Naming.IsReader, Naming.names_left, Reading.record_reads_of, declared.record.Record.Record}
+use Rattle.medium.specs.{Performed.{Performed, fault_of}, declared.medium_call.Call.TheVariants.{Read, Flush}, Medium.{State, IsSound}}
+use Rattle.medium.specs.{Moments.IsQuiet, Machine.{Tallied, IsLeft}, Tally.{of_all, Tally, none}, declared.medium_call.Call.Call}
+use Rattle.medium.specs.declared.fault.MediumFault.{MediumFault}
+use Rattle.medium.proofs.{Moments.{quiet_start, quiet_call, quiet_joined}, SectorsRead.{no_looks, looks_joined}, Driving.not_driven}
+use Rattle.medium.proofs.{Driving.{driven_call, driven_refused}, Tallies.{calls_most, none_made, refusal_counts}}
+use Rattle.journal.specs.{declared.super_sector.Super.Super, Places.{Shape, sectors_of}, Formats.shape_of, Standing.HasShape}
+use Rattle.journal.specs.{Naming.{IsReading, IsReader, names_left}, Reading.record_reads_of, declared.record.Record.Record}
 use Rattle.journal.specs.{declared.reader.RecordReader.RecordReader, declared.naming_stage.NamingStage.NamingStage}
 use Rattle.journal.proofs.SectorNumbers.{IsSuper-one}
-use Rattle.recovery.specs.Causes.{SurveysAtMost, IsRefusalBy, IsSuperCause, AreCounts, AreTries, IsLookCause, WritesNothing}
-use Rattle.recovery.specs.Causes.{HasFewSlots}
-use Rattle.recovery.specs.Starting.{IsReadFirst, FindsSuper, FindsHead, IsNewSurvey, CanStart, CanLook, IsStarting, EndsStart, IsStartStep}
-use Rattle.recovery.specs.Starting.{start_left, start_kind, both, home_calls, IsFoundOn, IsSurveyedOn}
-use Rattle.recovery.specs.HoldsStart.{HoldsLook, HasLooked, HasReadFirst, HasFound, HasBegun, IsSurveyedSoFar, TellsSurvey, HoldsStart}
-use Rattle.recovery.specs.HoldsStart.{IsMidstart, IsFlushedFirst, TellsStart}
-use Rattle.recovery.specs.{Calls.HoldsLog, Calls.most_reads_of, Surveying.HoldsSurveyed, Surveying.IsSurveyStep, Surveying.surveys_left}
-use Rattle.recovery.specs.{declared.surveying.Surveying.Surveying, declared.start_fault.StartFault.StartFault, Surveying.CanSurvey}
-use Rattle.recovery.specs.{Copying.CanCopy, Copying.copies_left, declared.found.Found.Found}
-use Rattle.recovery.specs.{declared.start_point.StartPoint.StartPoint, declared.copy_step.CopyStep.CopyStep, Stages.StartStage}
-use Rattle.recovery.specs.{Stages.stage_at, Recovered.LeavesAtLeast, declared.starting.Starting.Starting}
-use Rattle.recovery.proofs.WholeRecovery.{IsSurveyed, survey_leaves, refusal}
-use Rattle.recovery.proofs.{JoinedCalls.looked_on, SurveyedRecords.counts_made, SurveyedRecords.not_tried}
+use Rattle.recovery.specs.Causes.{SurveysAtMost, IsRefusalBy, IsSuperCause, AreCounts, AreTries, IsLookCause, WritesNothing, HasFewSlots}
+use Rattle.recovery.specs.Starting.{IsReadFirst, FindsSuper, FindsHead, IsNewSurvey, CanStart, CanLook, IsStarting, EndsStart, start_left}
+use Rattle.recovery.specs.{Starting.{both, home_calls, IsFoundOn, IsSurveyedOn}, HoldsStart.{HoldsLook, HasLooked, HasReadFirst, HasFound}}
+use Rattle.recovery.specs.{HoldsStart.{HasBegun, IsSurveyedSoFar, TellsSurvey, IsMidstart, IsFlushedFirst}, Calls.{HoldsLog, most_reads_of}}
+use Rattle.recovery.specs.{Surveying.{HoldsSurveyed, IsSurveyStep, surveys_left, CanSurvey}, declared.surveying.Surveying.Surveying}
+use Rattle.recovery.specs.{declared.start_fault.StartFault.StartFault, Copying.{CanCopy, copies_left}, declared.found.Found.Found}
+use Rattle.recovery.specs.{declared.start_point.StartPoint.StartPoint, declared.copy_step.CopyStep.CopyStep, Stages.{StartStage, stage_at}}
+use Rattle.recovery.specs.{Recovered.LeavesAtLeast, declared.starting.Starting.Starting}
+use Rattle.recovery.proofs.{WholeRecovery.{IsSurveyed, survey_leaves, refusal}, JoinedCalls.looked_on, SurveyedRecords.counts_made}
+use Rattle.recovery.proofs.SurveyedRecords.{not_tried}
 use Rattle.medium.specs.declared.fault.MediumFault.TheVariants as medium
 use Rattle.recovery.specs.declared.start_fault.StartFault.TheVariants as fault
 use Rattle.recovery.specs.Stages as stage
@@ -258,47 +253,10 @@ at_point s here = stage_at here s.survey s.step
 abbrev pub stage_of : Starting → StartStage
 stage_of s = at_point s s.stage
 
-module _ {M : Type 0} {state : M → State} (machine : Starting) {here : StartPoint} {call : Call} {had bytes : List ℕ} where
-  -- a start tells this call there
-  pub told : machine.stage ≡ here → IsStarting (at_point machine here) → IsWithin machine.sectors call → ReadsBefore machine.sectors call
-      → fault_of call ≡ start_kind (at_point machine here)
-      → ((m n start : M) (got : List ℕ) (least : ℕ) (next : StartStage) → machine.sectors ≡ (state m).size
-      → HoldsStart state least (at_point machine here) had start m → Performed call bytes got (Ok tt) (state m) (state n)
-      → IsStartStep machine.sectors least (at_point machine here) got next → Goes state least next got start n)
-      → ((m n start : M) (got : List ℕ) (least : ℕ) (e : MediumFault) → HoldsStart state least (at_point machine here) had start m
-      → Performed call bytes got (Err e) (state m) (state n) → LeavesAtLeast least (state start) (state n))
-      → (rest : Tally) → start_left (at_point machine here) ≡ one_more rest (fault_of call)
-      → ((got : List ℕ) (next : StartStage) → IsStartStep machine.sectors machine.least (at_point machine here) got next
-      → IsLeft ⊥ (start_left next) rest)
-      → TellsStart state machine had call bytes
-  told is live within looks kind made leaves rest pays rests = record {
-    due = rw is live;
-    within = within;
-    looks = looks;
-    made = λ m n got view next fits held performed after.
-        let h = rw is at held.1 in
-        let goes = made m n view.start got view.least (stage_of next) fits h performed (rw (is, held.0) at after.2) in
-        (after.1 ∙ held.0, record { leaves = goes.0; well = λ on. performed.passes.failures_are ∙ h.well live; midway = goes.1 });
-    refused = λ m n got view next e fits held performed gone.
-        let h = rw is at held.1 in
-        let moments = h.leaves.moments in
-        let all = leaves m n view.start got view.least e h performed in (
-          gone.1 ∙ held.0,
-          rw (gone.2, is, ← kind) (grind (arith, all, moments.refused_stay (fault_of call), performed.passes)),
-        );
-    rest = rest;
-    pays = rw is pays;
-    rests = λ got next after. rests got (stage_of next) (rw is at after.2);
-  }
-
--- what is told, where something else was, and of what kind the call is
-pub told_by : {X A C : Type 0} {B D : X → Type 0} (found : Option X) → (A → C) → ((x : X) → B x → D x) → MatchOption found A B
-    → MatchOption found C D
-told_by found ends some is = grind (arith, ends, some)
-
-pub both_told : {X : Type 0} (A : Type 0) (B D : X → Type 0) (found : Option X) → MatchOption found A B → IfSome found D
-    → MatchOption found A (λ x. B x × D x)
-both_told A B D found is kind = grind arith
+-- what is told, where something else was, and which call it is
+pub told_by : {X A C : Type 0} {B D E : X → Type 0} (found : Option X) → (A → C) → ((x : X) → B x → D x → E x) → MatchOption found A B
+    → IfSome found D → MatchOption found C E
+told_by found ends some is call = grind (arith, ends, some)
 
 -- it was driven to its end, or a call was refused, which ends it
 pub at_end : {Exact : Type 0} {cost left rest : Tally} {Live : Type 0} (A : Type 0) {old new : State}

@@ -1,23 +1,21 @@
 -- The second half of a start, call by call: the copies, what is home at their end, and the new head.
-use Rattle.std.proofs.Common.{◌≡◌, ◌∙◌, sym, refl, ⊎_elim, ℕ, ◌+◌, ◌*◌, ◌<◌, ◌≤◌, List, [], length, get_or, arith, Result, Ok, Err}
-use Rattle.std.proofs.Common.{◌^◌, inl, rules}
-use Rattle.medium.specs.declared.medium_call.Call.TheVariants.{Write, Flush}
-use Rattle.medium.specs.{Medium.State, Medium.CutLeaves, Medium.IsSound, Moments.LeavesOnly, Moments.EachCut}
-use Rattle.medium.specs.{Performed.Performed, declared.medium_call.Call.Call, declared.fault.MediumFault.MediumFault, Tally.of_all}
-use Rattle.medium.proofs.{Driving.not_driven, Driving.driven_call, Driving.driven_refused, Tallies.calls_most, Tallies.sends_most}
-use Rattle.medium.proofs.{Moments.at_exit, Moments.after_write, Moments.one_call}
-use Rattle.journal.specs.Formats.{shape_of, IsWhole, HasWhole}
-use Rattle.journal.specs.{Places.sectors_of, Places.first_home, Places.limit_of, Record.Entry, Sectors.IsHead, Standing.IsOurs}
-use Rattle.recovery.specs.Calls.{Copies, IsHomeInRecords, freed_at, most_calls_of, Writes}
-use Rattle.recovery.specs.Copying.{Copying, again, copies_left, HoldsCopied, IsCopyStep, TellsCopy}
-use Rattle.recovery.specs.Starting.{IsNewCopying, IsCopiedOn, IsSurveyedOn, found_by, answer_of}
-use Rattle.recovery.specs.HoldsStart.{IsCopiedSoFar, IsCopying, HasSurveyed, HasCopied, HoldsLook, IsFlushedFirst, HasBegun, IsMovingHead}
-use Rattle.recovery.specs.HoldsStart.{IsFlushedAgain, HasMovedHead}
-use Rattle.recovery.specs.{Recovered.LeavesAtLeast, declared.found.Found.Found, Stages.StartStage, declared.surveying.Surveying.Surveying}
-use Rattle.recovery.proofs.JoinedCalls.{quiet_after, refused_call, flush_writes, writes_on, none_waits}
-use Rattle.recovery.proofs.CopiedBlocks.{gathered, not_copied, all_copied}
-use Rattle.recovery.proofs.Looks.{surveyed_by, reads_leave, ended_by, looked_start, Goes, counted_at_end}
-use Rattle.recovery.proofs.WholeRecovery.{Moved, copies_leave, refusal, moves_leave, recovery_done}
+use Rattle.std.proofs.Common.{◌≡◌, ◌∙◌, sym, refl, ⊎_elim, ℕ, ◌+◌, ◌*◌, ◌<◌, ◌≤◌, List, [], length, get_or, arith, Result, Ok, Err, ◌^◌}
+use Rattle.std.proofs.Common.{inl, rules}
+use Rattle.medium.specs.{declared.medium_call.Call.TheVariants.{Write, Flush}, Medium.{State, CutLeaves, IsSound}, Moments.LeavesOnly}
+use Rattle.medium.specs.{Moments.EachCut, Performed.Performed, declared.medium_call.Call.Call, declared.fault.MediumFault.MediumFault}
+use Rattle.medium.specs.Tally.{of_all}
+use Rattle.medium.proofs.{Driving.{not_driven, driven_call, driven_refused}, Tallies.{calls_most, sends_most}, Moments.at_exit}
+use Rattle.medium.proofs.Moments.{after_write, one_call}
+use Rattle.journal.specs.{Formats.{shape_of, IsWhole, HasWhole}, Places.{sectors_of, first_home, limit_of}, Record.Entry, Sectors.IsHead}
+use Rattle.journal.specs.Standing.{IsOurs}
+use Rattle.recovery.specs.{Calls.{Copies, IsHomeInRecords, freed_at, most_calls_of, Writes}, Copying.{Copying, again, copies_left}}
+use Rattle.recovery.specs.{Copying.{HoldsCopied, IsCopyStep, TellsCopy}, Starting.{IsNewCopying, IsCopiedOn, IsSurveyedOn, found_by}}
+use Rattle.recovery.specs.{Starting.answer_of, HoldsStart.{IsCopiedSoFar, IsCopying, HasSurveyed, HasCopied, HoldsLook, IsFlushedFirst}}
+use Rattle.recovery.specs.{HoldsStart.{HasBegun, IsMovingHead, IsFlushedAgain, HasMovedHead}, Recovered.LeavesAtLeast}
+use Rattle.recovery.specs.{declared.found.Found.Found, Stages.StartStage, declared.surveying.Surveying.Surveying}
+use Rattle.recovery.proofs.{JoinedCalls.{quiet_after, refused_call, flush_writes, writes_on, none_waits}, CopiedBlocks.gathered}
+use Rattle.recovery.proofs.{CopiedBlocks.{not_copied, all_copied}, Looks.{surveyed_by, reads_leave, ended_by, looked_start, Goes}}
+use Rattle.recovery.proofs.{Looks.counted_at_end, WholeRecovery.{Moved, copies_leave, refusal, moves_leave, recovery_done}}
 use Rattle.journal.proofs.StandingLaws.{count_stands}
 use Rattle.recovery.specs.declared.start_fault.StartFault.TheVariants as fault
 use Rattle.recovery.specs.Stages as stage

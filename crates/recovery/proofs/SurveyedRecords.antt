@@ -1,21 +1,19 @@
 -- Records are tried, call by call, and how many reads that takes.
 use Rattle.std.proofs.Common.{◌≡◌, ◌⊎◌, ◌∙◌, inl, inr, ◌+◌, ◌<◌, ◌≤◌, ℕ, List, [], ◌∷◌, ◌++◌, length, refl, sym, arith, ⊎_elim, None, Some}
-use Rattle.std.proofs.Common.{slice_index, ◌*◌, ◌%◌, Ok, Err, Result, below_more, subst}
-use Rattle.std.proofs.lemmas.List.{length-append, get_or_append_left, get_or_push}
-use Rattle.std.proofs.{lemmas.List.Sums.sum_by_push, lemmas.Nat.mod_below}
-use Rattle.medium.specs.declared.medium_call.Call.TheVariants.{Read}
-use Rattle.medium.specs.{Medium.Image, Medium.State, Moments.IsQuiet, Performed.Performed, declared.fault.MediumFault.MediumFault}
-use Rattle.journal.specs.declared.log_format.LogFormat.TheVariants.{One, Two}
-use Rattle.journal.specs.Reading.{StopsAtBad, ReadsUpToBad, HasDescriptor, HasPlace, NamesBlocks, IsReadFor, IsReadForStamps, HasPlaces}
-use Rattle.journal.specs.Reading.{data_at}
-use Rattle.journal.specs.{declared.log_format.LogFormat.LogFormat, declared.record.Record.Record, Places.Shape, Places.first_home}
-use Rattle.journal.specs.{Places.first_data_of, Places.limit_of, Layout.slot_at, Format2.descriptors_of, Format2.format2, Formats.HasWhole}
-use Rattle.journal.specs.{Formats.shape_of, Formats.layout_of, declared.reader.RecordReader.RecordReader}
-use Rattle.journal.specs.{declared.naming_stage.NamingStage.NamingStage, declared.naming_stage.NamingStage.TheVariants.Named}
-use Rattle.journal.specs.{declared.super_sector.Super.Super, Naming.IsKnown, Naming.IsFound, Naming.Learns, Naming.naming_place}
-use Rattle.journal.proofs.{SlotTwo.each_there, SlotTwo.commit_count, SectorsRead.stamped_whole, SectorsRead.place_before}
-use Rattle.recovery.specs.Causes.{IsReadInSlot, IsTryTwo, IsTryOf, AreTriesOf, HasCount, AreCounts, AreTries}
-use Rattle.recovery.specs.Surveying.{SurveyView, HoldsSurveyed, HasTriedTo, IsTrying, IsCounted, TakesName, TakesPlace}
+use Rattle.std.proofs.{Common.{slice_index, ◌*◌, ◌%◌, Ok, Err, Result, below_more, subst}, lemmas.List.{length-append, get_or_append_left}}
+use Rattle.std.proofs.{lemmas.List.get_or_push, lemmas.List.Sums.sum_by_push, lemmas.Nat.mod_below}
+use Rattle.medium.specs.{declared.medium_call.Call.TheVariants.Read, Medium.{Image, State}, Moments.IsQuiet, Performed.Performed}
+use Rattle.medium.specs.declared.fault.MediumFault.{MediumFault}
+use Rattle.journal.specs.{declared.log_format.LogFormat.TheVariants.{One, Two}, Reading.{StopsAtBad, ReadsUpToBad, HasDescriptor, HasPlace}}
+use Rattle.journal.specs.{Reading.{NamesBlocks, IsReadFor, IsReadForStamps, HasPlaces, data_at}, declared.log_format.LogFormat.LogFormat}
+use Rattle.journal.specs.{declared.record.Record.Record, Places.{Shape, first_home, first_data_of, limit_of}, Layout.slot_at}
+use Rattle.journal.specs.{Format2.{descriptors_of, format2}, Formats.{HasWhole, shape_of, layout_of}}
+use Rattle.journal.specs.{declared.reader.RecordReader.RecordReader, declared.naming_stage.NamingStage.NamingStage}
+use Rattle.journal.specs.{declared.naming_stage.NamingStage.TheVariants.Named, declared.super_sector.Super.Super, Naming.{IsKnown, IsFound}}
+use Rattle.journal.specs.Naming.{Learns, naming_place}
+use Rattle.journal.proofs.{SlotTwo.{each_there, commit_count}, SectorsRead.{stamped_whole, place_before}}
+use Rattle.recovery.specs.{Causes.{IsReadInSlot, IsTryTwo, IsTryOf, AreTriesOf, HasCount, AreCounts, AreTries}, Surveying.SurveyView}
+use Rattle.recovery.specs.Surveying.{HoldsSurveyed, HasTriedTo, IsTrying, IsCounted, TakesName, TakesPlace}
 use Rattle.medium.proofs.Moments.{quiet_call, quiet_joined, quiet_start}
 use Rattle.recovery.proofs.JoinedCalls.{long_as}
 

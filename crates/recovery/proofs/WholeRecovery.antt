@@ -1,24 +1,22 @@
 -- A whole recovery: a flush, reads, copies and the new head; what it leaves up to each of its exits, and why it is refused.
 use Rattle.std.proofs.Common.{◌≡◌, ◌⊎◌, inl, inr, ⊎_elim, ℕ, ◌+◌, ◌-◌, ◌*◌, ◌<◌, ◌≤◌, ◌^◌, List, [], length, get_or, sym, ◌∙◌, arith, rules}
 use Rattle.std.proofs.Common.{mul-le-mul_left, min, Result}
-use Rattle.medium.specs.Medium.{State, Image, CutLeaves, Stays, Within, Only, Passes, LooksOnly, IsSound}
-use Rattle.medium.specs.Moments.{EachCut, IsFlushed, LeavesOnly, IsQuiet, SparesFrom}
-use Rattle.medium.specs.{Sent.SendsUpTo, declared.fault.MediumFault.MediumFault}
+use Rattle.medium.specs.{Medium.{State, Image, CutLeaves, Stays, Within, Only, Passes, LooksOnly, IsSound}, Moments.{EachCut, IsFlushed}}
+use Rattle.medium.specs.{Moments.{LeavesOnly, IsQuiet, SparesFrom}, Sent.SendsUpTo, declared.fault.MediumFault.MediumFault}
 use Rattle.spec.specs.Blocks.{Array}
 use Rattle.medium.proofs.Moments.{joined_same, weaker, at_exit, only_image, quiet_call, quiet_joined, quiet_leaves}
-use Rattle.medium.proofs.SparedSectors.{spared_quiet, spared_joined, spared_behind}
-use Rattle.medium.proofs.{CallsSent.none_sent, CallsSent.flush_sends, SectorsRead.no_looks, SectorsRead.looks_joined}
+use Rattle.medium.proofs.{SparedSectors.{spared_quiet, spared_joined, spared_behind}, CallsSent.{none_sent, flush_sends}}
+use Rattle.medium.proofs.SectorsRead.{no_looks, looks_joined}
 use Rattle.journal.specs.{declared.log_format.LogFormat.LogFormat, declared.log_format.LogFormat.TheVariants.Two, Places.Shape}
-use Rattle.journal.specs.{Places.first_home, Places.sectors_of, Places.limit_of, Formats.shape_of, Formats.layout_of, Formats.IsWhole}
-use Rattle.journal.specs.{Record.Entry, Record.home_of, Standing.StandsFor, Standing.IsOurs, Standing.Stands}
+use Rattle.journal.specs.{Places.{first_home, sectors_of, limit_of}, Formats.{shape_of, layout_of, IsWhole}, Record.{Entry, home_of}}
+use Rattle.journal.specs.Standing.{StandsFor, IsOurs, Stands}
 use Rattle.journal.proofs.StandingLaws.{Stood, StandsFor-shape, count_stands, heads, counts, StandsFor-one, HasFault-stands}
 use Rattle.journal.proofs.{SectorNumbers.IsSuper-one, Formats.laws_of, Wholeness.CarriesBelow-agree}
 use Rattle.recovery.specs.Calls.{copy_calls, most_calls_of, most_reads_of, most_start_of, most_start_sends, AreCopied, IsHomeInRecords}
-use Rattle.recovery.specs.Calls.{HasNewHead, Copies, Writes, HoldsLog}
-use Rattle.recovery.specs.Causes.{WritesNothing, HasFewSlots, IsRefusalBy, IsDeviceFault, AreTriesOf, IsSurvey, SurveysAtMost, IsLookCause}
-use Rattle.recovery.specs.Recovered.{IsOursInEither, MigrationLeaves, most_migration_sends, IsRecoveryRefusal, IsRecoveredFrom, IsFresh}
-use Rattle.recovery.specs.Recovered.{IsOursForSome, IsOursWithNext, StandsForOneOf, StandsForSome, LeavesAtLeast, StartMoments}
-use Rattle.recovery.specs.Recovered.{HasNoneWaiting}
+use Rattle.recovery.specs.{Calls.{HasNewHead, Copies, Writes, HoldsLog}, Causes.{WritesNothing, HasFewSlots, IsRefusalBy, IsDeviceFault}}
+use Rattle.recovery.specs.{Causes.{AreTriesOf, IsSurvey, SurveysAtMost, IsLookCause}, Recovered.{IsOursInEither, MigrationLeaves}}
+use Rattle.recovery.specs.Recovered.{most_migration_sends, IsRecoveryRefusal, IsRecoveredFrom, IsFresh, IsOursForSome, IsOursWithNext}
+use Rattle.recovery.specs.Recovered.{StandsForOneOf, StandsForSome, LeavesAtLeast, StartMoments, HasNoneWaiting}
 use Rattle.recovery.specs.{declared.start_fault.StartFault.StartFault, declared.found.Found.Found}
 use Rattle.recovery.specs.declared.start_fault.StartFault.TheVariants.{NoMemory, StampsUsedUp, LogTooSmall}
 use Rattle.recovery.proofs.JoinedCalls.{log_ends, not_in_log, spared_by, AreSame, copies_ours, fresh_ours, quiet_before, quiet_after}

@@ -1,22 +1,18 @@
 -- What the calls of a recovery, a migration or a format do, cost and make, and what a cut leaves.
 use Rattle.std.specs.Prelude.{◌≡◌, ◌≢◌, ◌⊎◌, ℕ, ◌+◌, ◌*◌, ◌<◌, ◌≤◌, List, [], ◌∷◌, length}
 use Rattle.std.specs.Prelude.{slice_index, replicate, Result, Ok, OnOk, IfErr, ◌^◌, ◌-◌, ◌++◌, map}
-use Rattle.std.specs.Prelude.{Bool, if◌then◌else◌}
-use Rattle.std.specs.List.{range_with_len}
-use Rattle.medium.specs.declared.medium_call.Call.TheVariants.{Write, Flush}
-use Rattle.medium.specs.declared.medium_call.Call.TheVariants as medium_call
-use Rattle.medium.specs.Medium.{State, Image, Sets, CutLeaves, LooksOnly, Holds}
-use Rattle.medium.specs.Moments.{LeavesOnly, SparesFrom, IsFlushed}
-use Rattle.medium.specs.{Performed.Performed, Performed.IsWithin, Sent.SendsUpTo}
+use Rattle.std.specs.{Prelude.{Bool, if◌then◌else◌}, List.range_with_len}
+use Rattle.medium.specs.{declared.medium_call.Call.TheVariants.{Write, Flush}, Medium.State}
+use Rattle.medium.specs.{Medium.{Image, Sets, CutLeaves, LooksOnly, Holds}, Moments.LeavesOnly}
+use Rattle.medium.specs.{Moments.{SparesFrom, IsFlushed}, Performed.Performed, Sent.SendsUpTo}
 use Rattle.medium.specs.{declared.medium_call.Call.Call, declared.fault.MediumFault.MediumFault}
-use Rattle.medium.specs.{declared.fault.MediumFault.TheVariants.Read}
+use Rattle.medium.specs.declared.fault.MediumFault.TheVariants.{Read}
 use Rattle.journal.specs.declared.log_format.LogFormat.{LogFormat}
-use Rattle.journal.specs.declared.log_format.LogFormat.TheVariants.{One, Two}
-use Rattle.journal.specs.Record.{Entry, numbers_of, with_records, home_of}
-use Rattle.journal.specs.{Places.limit_of, Places.slot_sectors_of, Places.IsFirstHome}
-use Rattle.journal.specs.{Standing.HasShape, Standing.IsOurs, Sectors.IsHead, Sectors.IsSuper}
-use Rattle.journal.specs.{Format2.descriptors_of, Formats.IsWhole, Reading.IsRefusedCall}
-use Rattle.journal.specs.{Formats.CarriesBelow, Naming.IsToldAt}
+use Rattle.journal.specs.{declared.log_format.LogFormat.TheVariants.{One, Two}, Record.Entry}
+use Rattle.journal.specs.{Record.{numbers_of, with_records, home_of}, Places.limit_of}
+use Rattle.journal.specs.{Places.{slot_sectors_of, IsFirstHome}, Standing.{HasShape, IsOurs}}
+use Rattle.journal.specs.{Sectors.{IsHead, IsSuper}, Format2.descriptors_of, Formats.IsWhole}
+use Rattle.journal.specs.{Formats.CarriesBelow, Reading.IsRefusedCall, Naming.IsToldAt}
 use Rattle.spec.specs.Blocks.{Array}
 use Rattle.recovery.specs.declared.format_fault.FormatFault.{FormatFault}
 use Rattle.recovery.specs.declared.format_fault.FormatFault.TheVariants.{BadSize, Medium}
@@ -60,23 +56,6 @@ IsReadOfFresh shape next s = (s ≡ 0) ⊎ (s ≡ 1) ⊎ IsToldAt shape.format s
 abbrev pub LooksAtFresh : State → State → Type 0
 LooksAtFresh old new = (shape : Shape) (array : Array) (next : ℕ)
     → IsFresh shape array next old.content → LooksOnly (IsReadOfFresh shape next) old new
-
--- the sector that a call reads
-abbrev pub IsReadBy : Call → ℕ → Type 0
-IsReadBy (medium_call.Read place) s = s ≡ place
-IsReadBy (Write place) s = ⊥
-IsReadBy Flush s = ⊥
-
--- the medium has the sector that the call names
-abbrev pub HasSectorOf : Call → State → Type 0
-HasSectorOf call m = IsWithin m.size call
-
--- The call is made with these bytes in the lent sector, or refused; and what it reads is told.
-pub record MakesCall {M : Type 0} (state : M → State) (Follows : M → M → Type 0) (call : Call)
-    (bytes after : List ℕ) (result : Result (Unit {0}) MediumFault) (old new : M) : Type 0 where
-  pub performed : Performed call bytes after result (state old) (state new)
-  pub looks : LooksOnly (IsReadBy call) (state old) (state new)
-  pub follows : Follows old new
 
 -- The medium comes after what it was, by calls alone that read nothing, of which at most `sends`
 -- are writes and flushes.

@@ -1,19 +1,18 @@
 -- What is found of an image before the first write, by how many reads, and why a start is refused.
 use Rattle.std.specs.Prelude.{◌≡◌, ◌⊎◌, ℕ, ◌+◌, ◌*◌, ◌^◌, ◌<◌, ◌≤◌, min, List, length, sum}
 use Rattle.std.specs.Prelude.{slice_index, map}
-use Rattle.medium.specs.Medium.{State, Image}
-use Rattle.medium.specs.{Moments.IsQuiet, declared.fault.MediumFault.MediumFault}
+use Rattle.medium.specs.{Medium.{State, Image}, Moments.IsQuiet}
+use Rattle.medium.specs.declared.fault.MediumFault.{MediumFault}
 use Rattle.journal.specs.declared.log_format.LogFormat.TheVariants.{One, Two}
 use Rattle.journal.specs.Reading.{ReadsUpToBad, IsCommitted, HasPlace, NamesBlocks, IsReadInVain}
 use Rattle.journal.specs.declared.super_fault.SuperFault.TheVariants.{Magic, Version, Rest, Sizes}
-use Rattle.journal.specs.{declared.log_format.LogFormat.LogFormat, Places.Shape}
-use Rattle.journal.specs.{Places.slot_sectors_of, Places.sectors_of, Formats.shape_of}
-use Rattle.journal.specs.{Formats.IsWhole, Sectors.IsHead, Sectors.IsSuper, Sectors.IsSuperFault}
-use Rattle.journal.specs.{Format2.descriptors_of, Format2.format2, Layout.slot_at, Record.Entry}
-use Rattle.journal.specs.{Standing.IsCount, Standing.StandsFor, Standing.Stands}
-use Rattle.recovery.specs.Calls.{most_reads_of, LooksAtLog}
-use Rattle.recovery.specs.{declared.found.Found.Found, declared.start_fault.StartFault.StartFault}
-use Rattle.recovery.specs.{declared.inspection.Inspection.Inspection}
+use Rattle.journal.specs.{declared.log_format.LogFormat.LogFormat, Places.{Shape, slot_sectors_of}}
+use Rattle.journal.specs.{Places.sectors_of, Formats.{shape_of, IsWhole}, Sectors.{IsHead, IsSuper}}
+use Rattle.journal.specs.{Sectors.IsSuperFault, Format2.{descriptors_of, format2}, Layout.slot_at}
+use Rattle.journal.specs.{Record.Entry, Standing.{IsCount, StandsFor, Stands}}
+use Rattle.recovery.specs.{Calls.{most_reads_of, LooksAtLog}, declared.found.Found.Found}
+use Rattle.recovery.specs.declared.start_fault.StartFault.{StartFault}
+use Rattle.recovery.specs.declared.inspection.Inspection.{Inspection}
 use Rattle.spec.specs.Blocks.{Array}
 pub use Rattle.journal.specs.Reading.{IsRefusedCall, MakesReadsAlone}
 use Rattle.medium.specs.declared.fault.MediumFault.TheVariants as medium

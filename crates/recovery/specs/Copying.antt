@@ -1,16 +1,15 @@
 -- What the copying of records home and a medium hold between two calls.
 use Rattle.std.specs.Prelude.{◌≡◌, ◌≢◌, ◌⊎◌, ℕ, ◌+◌, ◌*◌, ◌-◌, ◌≤◌, ◌<◌, ◌^◌, List, [], length}
 use Rattle.std.specs.Prelude.{get_or, take, slice_index, Bool, true, false}
-use Rattle.medium.specs.{Medium.State, Medium.Within, Tally.Tally, Machine.TellsCall}
+use Rattle.medium.specs.{Medium.{State, Within}, Tally.Tally, Machine.TellsCall}
 use Rattle.medium.specs.{declared.medium_call.Call.Call, declared.fault.MediumFault.MediumFault}
 use Rattle.journal.specs.Naming.{IsReading, IsUnread, Learns, IsKnown, names_left}
-use Rattle.journal.specs.Places.{first_home, sectors_of, limit_of}
-use Rattle.journal.specs.Record.{Entry, with_records, home_of, block_of}
-use Rattle.journal.specs.{declared.log_format.LogFormat.LogFormat, declared.record.Record.Record}
-use Rattle.journal.specs.{declared.reader.RecordReader.RecordReader}
-use Rattle.journal.specs.{declared.super_sector.Super.Super}
+use Rattle.journal.specs.{Places.{first_home, sectors_of, limit_of}, Record.{Entry, with_records}}
+use Rattle.journal.specs.{Record.{home_of, block_of}, declared.log_format.LogFormat.LogFormat}
+use Rattle.journal.specs.{declared.record.Record.Record, declared.reader.RecordReader.RecordReader}
+use Rattle.journal.specs.declared.super_sector.Super.{Super}
 use Rattle.journal.specs.{declared.naming_stage.NamingStage.NamingStage, Formats.shape_of}
-use Rattle.journal.specs.{Formats.IsWhole, Reading.data_at, Reading.record_reads_of}
+use Rattle.journal.specs.{Formats.IsWhole, Reading.{data_at, record_reads_of}}
 use Rattle.recovery.specs.Calls.{IsHomeInRecords, freed_at, copy_calls}
 use Rattle.recovery.specs.declared.copy_step.CopyStep.{CopyStep}
 use Rattle.medium.specs.declared.fault.MediumFault.TheVariants as medium

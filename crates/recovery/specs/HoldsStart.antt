@@ -4,24 +4,23 @@ use Rattle.std.specs.Prelude.{Result, Ok, Err}
 use Rattle.medium.specs.Medium.{State, Image, CutLeaves, Only, Stays, Within, Passes, IsSound}
 use Rattle.medium.specs.declared.medium_call.Call.TheVariants.{Read, Write, Flush}
 use Rattle.medium.specs.{Moments.EachCut, Moments.IsQuiet, Machine.Driven, Machine.TellsCall}
+use Rattle.medium.specs.Performed.{fault_of}
 use Rattle.medium.specs.{declared.medium_call.Call.Call, declared.fault.MediumFault.MediumFault}
 use Rattle.journal.specs.Places.{first_home, sectors_of, limit_of}
 use Rattle.journal.specs.{declared.super_sector.Super.Super, Formats.shape_of, Formats.IsWhole}
 use Rattle.journal.specs.{Record.Entry, Sectors.IsHead, Standing.HasShape, Naming.naming_place}
 use Rattle.journal.specs.{Naming.IsReading, declared.reader.RecordReader.RecordReader}
 use Rattle.recovery.specs.Calls.{IsHomeInRecords, freed_at, Copies, AreCopied, most_calls_of}
-use Rattle.recovery.specs.Calls.{HasNewHead, Writes, LooksAtLog}
+use Rattle.recovery.specs.Calls.{HasNewHead, Writes, LooksAtLog, LooksAtFresh}
 use Rattle.recovery.specs.Causes.{SurveysAtMost, IsSurvey, HasFewSlots, MakesReadsAlone}
-use Rattle.recovery.specs.Causes.{IsRefusalBy, start_fault_of}
-use Rattle.recovery.specs.Copying.{Copying, CopyView, HoldsCopied, copies_left}
+use Rattle.recovery.specs.Causes.{IsRefusalBy}
+use Rattle.recovery.specs.Copying.{Copying, CopyView, HoldsCopied, copies_left, copy_kind}
 use Rattle.recovery.specs.Surveying.{SurveyView, HoldsSurveyed, surveys_left, IsSurveyStep}
 use Rattle.recovery.specs.Recovered.{LeavesAtLeast, IsOursForSome, StandsForOneOf}
 use Rattle.recovery.specs.Starting.{EndsStart, IsStarting, IsNewSurvey, IsNewCopying}
-use Rattle.recovery.specs.Starting.{start_left, start_kind, IsStartStep}
 use Rattle.recovery.specs.{declared.surveying.Surveying.Surveying, Stages.StartStage}
 use Rattle.recovery.specs.declared.start_fault.StartFault.TheVariants.{StampsUsedUp}
-use Rattle.recovery.specs.{declared.found.Found.Found, declared.starting.Starting.Starting}
-use Rattle.recovery.specs.declared.start_point.StartPoint.TheVariants.{Refused}
+use Rattle.recovery.specs.{declared.found.Found.Found}
 use Rattle.recovery.specs.Stages as stage
 use Rattle.medium.specs.declared.fault.MediumFault.TheVariants as medium
 
@@ -191,40 +190,28 @@ module _ {M : Type 0} (state : M → State) (least : ℕ) where
       (mid : M) × IsFlushedFirst (state start) (state mid) × HoldsLook at had mid m
 
   -- What a start and a medium hold, which stood so when it began: at each moment so far a cut has
-  -- left what a recovery promises, and no call was refused while one is left.
+  -- left what a recovery promises, no call was refused while one is left, and where no record waits
+  -- each read named what tells that.
   pub record HoldsStart (at : StartStage) (had : List ℕ) (start m : M) : Type 0 where
     pub leaves : LeavesAtLeast least (state start) (state m)
     pub well : IsStarting at → (state m).failures ≡ (state start).failures
     pub midway : IsMidstart at had start m
+    pub looks : LooksAtFresh (state start) (state m)
 
 -- ---- the calls that it tells
 
 -- The next read of a survey: where the blocks of a record are not named yet, of the sector that its
 -- reader asks for.
 abbrev pub IsSurveyCall : RecordReader → Call → Type 0
-IsSurveyCall reader call = IsReading reader.stage
-    → call ≡ Read (naming_place (shape_of reader.sizes) reader.stamp reader.stage)
+IsSurveyCall reader call = (fault_of call ≡ medium.Read) × (IsReading reader.stage
+    → call ≡ Read (naming_place (shape_of reader.sizes) reader.stamp reader.stage))
 
--- The next call of a start, whatever a copying calls.
+-- The next call of a start; of a copying its kind alone.
 abbrev pub IsStartCall : StartStage → Call → Type 0
 IsStartCall stage.ReadSuper call = call ≡ Read 0
 IsStartCall (stage.ReadHead sizes) call = call ≡ Read 1
 IsStartCall (stage.Survey head survey) call = IsSurveyCall survey.reader call
-IsStartCall (stage.Copy found copying) call = Unit {0}
+IsStartCall (stage.Copy found copying) call =
+    fault_of call ≡ copy_kind copying.reader.stage copying.step.has_bytes
 IsStartCall (stage.WriteHead found) call = call ≡ Write 1
 IsStartCall at call = call ≡ Flush
-
--- a start tells this call
-abbrev pub TellsStart : {M : Type 0} → (M → State) → Starting → List ℕ → Call → List ℕ → Type 0
-TellsStart {M = M} state machine had call bytes =
-    TellsCall {M = M} {S = Starting} {V = StartView M} state (λ s size. s.sectors ≡ size)
-    (λ s had m view. (s.least ≡ view.least)
-    × HoldsStart state view.least (stage.stage_at s.stage s.survey s.step) had view.start m)
-    (λ s. s.sectors) (λ s. s.sectors) (λ s. start_left (stage.stage_at s.stage s.survey s.step)) ⊥
-    (λ s. IsStarting (stage.stage_at s.stage s.survey s.step))
-    (λ s got t. (t.sectors ≡ s.sectors) × (t.least ≡ s.least)
-    × IsStartStep s.sectors s.least (stage.stage_at s.stage s.survey s.step) got
-    (stage.stage_at t.stage t.survey t.step))
-    (λ s t. (t.sectors ≡ s.sectors) × (t.least ≡ s.least)
-    × (t.stage ≡ Refused (start_fault_of (start_kind
-    (stage.stage_at s.stage s.survey s.step))))) machine had call bytes

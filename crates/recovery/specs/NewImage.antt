@@ -4,12 +4,11 @@ use Rattle.std.specs.Prelude.{List, [], ◌∷◌}
 use Rattle.std.proofs.Common.{arith}
 use Rattle.medium.specs.Medium.{State, Image, CutLeaves, Holds, Stays, Within}
 use Rattle.medium.specs.declared.medium_call.Call.{Call}
-use Rattle.medium.specs.declared.medium_call.Call.TheVariants.{Write, Flush}
-use Rattle.medium.specs.{Moments.EachCut, Moments.IsFlushed, Tally.Tally, Tally.none, Tally.of_all}
+use Rattle.medium.specs.{declared.medium_call.Call.TheVariants.{Write, Flush}, Moments.EachCut}
+use Rattle.medium.specs.{Moments.IsFlushed, Tally.{Tally, none, of_all}}
 use Rattle.journal.specs.{Formats.shape_of, Sectors.IsHead}
 use Rattle.recovery.specs.Calls.{IsBetween, IsWritten, WithOrWithout, cleared_at, AreMade}
-use Rattle.recovery.specs.Calls.{zeros_and_head}
-use Rattle.recovery.specs.declared.image_plan.ImagePlan.{ImagePlan}
+use Rattle.recovery.specs.{Calls.zeros_and_head, declared.image_plan.ImagePlan.ImagePlan}
 use Rattle.recovery.specs.declared.image_stage.ImageStage.{ImageStage}
 use Rattle.recovery.specs.declared.image_stage.ImageStage.TheVariants as stage
 

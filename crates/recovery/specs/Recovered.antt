@@ -1,21 +1,19 @@
 -- What recovery and a migration to format 2 answer, and what they leave.
 use Rattle.std.specs.Prelude.{◌≡◌, ◌≢◌, ◌⊎◌, ℕ, ◌+◌, ◌-◌, ◌*◌, ◌^◌, ◌<◌, ◌≤◌, length, min}
 use Rattle.std.specs.Prelude.{replicate, Bool, true, false}
-use Rattle.medium.specs.Moments.{EachCut, IsFlushed, LeavesOnly, SparesFrom}
-use Rattle.medium.specs.{Medium.State, Medium.Image, Medium.CutLeaves, Sent.SendsUpTo}
+use Rattle.medium.specs.{Moments.{EachCut, IsFlushed, LeavesOnly, SparesFrom}, Medium.State}
+use Rattle.medium.specs.{Medium.{Image, CutLeaves}, Sent.SendsUpTo}
 use Rattle.spec.specs.Blocks.{Array}
-use Rattle.journal.specs.declared.log_format.LogFormat.TheVariants.{Two, One}
-use Rattle.journal.specs.Places.{Shape, first_home, sectors_of, slot_sectors_of, migrated, limit_of}
-use Rattle.journal.specs.{declared.log_format.LogFormat.LogFormat, Formats.shape_of}
-use Rattle.journal.specs.{Formats.HasWhole, Sectors.IsSuper, Sectors.IsHead}
-use Rattle.journal.specs.{Standing.StandsFor, Standing.IsOurs, Standing.HasShape}
+use Rattle.journal.specs.{declared.log_format.LogFormat.TheVariants.{Two, One}, Places.Shape}
+use Rattle.journal.specs.Places.{first_home, sectors_of, slot_sectors_of, migrated, limit_of}
+use Rattle.journal.specs.{declared.log_format.LogFormat.LogFormat, Formats.{shape_of, HasWhole}}
+use Rattle.journal.specs.{Sectors.{IsSuper, IsHead}, Standing.{StandsFor, IsOurs, HasShape}}
 use Rattle.recovery.specs.Calls.{copy_calls, most_start_of, most_start_sends, LooksAtLog, AreMade}
-use Rattle.recovery.specs.Calls.{zeros_and_head, LooksAtFresh}
-pub use Rattle.recovery.specs.Calls.{IsFresh}
-use Rattle.recovery.specs.Causes.{HasFewSlots, IsCause, IsDeviceFault, WritesNothing, IsRefusalBy}
-use Rattle.recovery.specs.Causes.{AreTries}
+use Rattle.recovery.specs.{Calls.{zeros_and_head, LooksAtFresh}, Causes.{HasFewSlots, IsCause}}
+use Rattle.recovery.specs.Causes.{IsDeviceFault, WritesNothing, IsRefusalBy, AreTries}
 use Rattle.recovery.specs.declared.recovered.Recovered.{Recovered}
 use Rattle.recovery.specs.declared.start_fault.StartFault.{StartFault}
+pub use Rattle.recovery.specs.Calls.{IsFresh}
 
 -- The answer is what the contents stood for, with a stamp left for the next record. They are
 -- flushed, with the head at that stamp and the array at home, and every other sector is as it was.

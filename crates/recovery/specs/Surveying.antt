@@ -3,14 +3,13 @@ use Rattle.std.specs.Prelude.{◌≡◌, ◌≢◌, ◌⊎◌, ℕ, ◌+◌, ◌
 use Rattle.std.specs.Prelude.{length, min, slice_index}
 use Rattle.medium.specs.{Medium.State, Moments.IsQuiet, Tally.Tally}
 use Rattle.journal.specs.Naming.{IsReading, IsUnread, Learns, IsKnown, names_left, HasStamps}
-use Rattle.journal.specs.Naming.{HasNoStamps}
-use Rattle.journal.specs.{declared.log_format.LogFormat.LogFormat, declared.record.Record.Record}
-use Rattle.journal.specs.{declared.reader.RecordReader.RecordReader}
-use Rattle.journal.specs.{declared.super_sector.Super.Super}
+use Rattle.journal.specs.{Naming.HasNoStamps, declared.log_format.LogFormat.LogFormat}
+use Rattle.journal.specs.{declared.record.Record.Record, declared.reader.RecordReader.RecordReader}
+use Rattle.journal.specs.declared.super_sector.Super.{Super}
 use Rattle.journal.specs.{declared.naming_stage.NamingStage.NamingStage, Format2.place_bytes}
 use Rattle.journal.specs.{Format2.format2, Layout.slot_at, Places.Shape, Formats.shape_of}
-use Rattle.journal.specs.{Formats.HasWhole, Reading.HasPlaces, Reading.record_reads_of}
-use Rattle.recovery.specs.{Calls.most_reads_of, Causes.AreTries, Causes.HasCount}
+use Rattle.journal.specs.{Formats.HasWhole, Reading.{HasPlaces, record_reads_of}}
+use Rattle.recovery.specs.{Calls.most_reads_of, Causes.{AreTries, HasCount}}
 use Rattle.journal.specs.declared.naming_stage.NamingStage.TheVariants as stage
 
 -- what a survey holds, whatever it read: while slots are left it reads a record of one

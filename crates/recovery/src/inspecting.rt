@@ -90,7 +90,7 @@ impl<M: Medium> Machine<M> for Inspecting {
         match self.stage {
             StartPoint::ReadSuper => Some(Call::Read(0)),
             StartPoint::ReadHead(_) => Some(Call::Read(1)),
-            StartPoint::Survey(_) => Machine::<M>::next(&self.survey, sector),
+            StartPoint::Survey(_) => self.survey.call::<M>(sector),
             _ => None,
         }
     }

@@ -7,12 +7,12 @@ ghost use Rattle.journal.specs.Places.{Shape};
 ghost use Rattle.journal.specs.Standing.{IsOurs};
 ghost use Rattle.recovery.specs.Recovered.{IsRecoveredFrom, IsRecoveryRefusal, IsFresh};
 ghost use Rattle.recovery.specs.Recovered.{RecoveryMoments};
-ghost use Rattle.recovery.specs.Calls.{LooksAtFresh, MakesCall, HasSectorOf};
+ghost use Rattle.recovery.specs.Calls.{LooksAtFresh};
 ghost use Rattle.recovery.specs.Starting.{EndsStart};
 
 use crate::starting::Starting;
 use crate::{Recovered, StartFault};
-use medium::{Call, Machine, Medium, MediumFault};
+use medium::{Medium, drive};
 
 /// Copies the blocks of the whole records from the head on home, in order of their stamps, and
 /// moves the head past the first record that is not whole. It takes no memory.
@@ -48,24 +48,6 @@ pub(crate) fn recover_at_least<M: Medium>(m: &mut M, least: u64) -> Result<Recov
     ensures follows { M.follows m.old m.new }
 {
     let mut starting = Starting::begin_at_least::<M>(m.sectors(), least);
-    let mut sector = [0; 512];
-    while let Some(call) = starting.call::<M>(&mut sector) {
-        match make(m, call, &mut sector) {
-            Ok(()) => Machine::<M>::made(&mut starting, &sector),
-            Err(_) => Machine::<M>::refused(&mut starting),
-        }
-    }
+    let _ = drive(m, &mut starting, &mut [0; 512]);
     starting.end::<M>()
-}
-
-// Makes the call with this sector, as `perform` does, and tells which sector it reads.
-fn make<M: Medium>(m: &mut M, call: Call, sector: &mut [u8; 512]) -> Result<(), MediumFault>
-    requires { HasSectorOf call (M.state m.old) }
-    ensures { MakesCall M.state M.follows call sector.old sector.new result m.old m.new }
-{
-    match call {
-        Call::Read(place) => m.read(place, sector),
-        Call::Write(place) => m.write(place, sector),
-        Call::Flush => m.flush(),
-    }
 }

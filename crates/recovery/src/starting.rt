@@ -1,11 +1,12 @@
 //! A start, call by call.
-ghost use Rattle.std.specs.Prelude.{◌≡◌, ◌<◌, ℕ, List, Ok, Err, MatchOption, IfSome};
+ghost use Rattle.std.specs.Prelude.{◌≡◌, ◌<◌, ℕ, List, Ok, Err};
 ghost use Rattle.std.proofs.Math.Nat.{le_refl};
 ghost use Rattle.medium.specs.Tally.{none};
 ghost use Rattle.medium.proofs.Moments.{at_exit};
 ghost use Rattle.recovery.specs.Causes.{start_fault_of};
 ghost use Rattle.recovery.specs.Starting.{EndsStart, IsStarting, start_left, CanStart, IsStartStep};
 ghost use Rattle.recovery.specs.Starting.{start_kind, stage_at};
+ghost use Rattle.recovery.specs.HoldsStart.{HoldsStart, StartView, MayStart};
 ghost use Rattle.recovery.specs.declared.start_point.StartPoint.TheVariants.{Refused};
 
 use crate::copy_step::CopyStep;
@@ -36,8 +37,6 @@ pub struct Starting {
 }
 
 impl Starting {
-    ghost use Rattle.recovery.specs.HoldsStart.{HoldsStart, IsStartCall, TellsStart};
-
     /// The start of an image on a medium of this many sectors.
     pub fn begin<M: Medium>(sectors: u64) -> Starting
         ensures of { (result.sectors ≡ sectors) × (result.least ≡ 0) }
@@ -60,32 +59,6 @@ impl Starting {
             stage: StartPoint::FlushFirst,
             survey: Surveying::over(),
             step: first_step(0),
-        }
-    }
-
-    /// The next call, and which sector it names.
-    pub(crate) fn call<M: Medium>(&self, sector: &mut [u8; 512]) -> Option<Call>
-        ensures told { MatchOption result
-            ((start_left (stage_at self.now.stage self.now.survey self.now.step) ≡ none)
-            × (sector.new ≡ sector.old))
-            (λ call. TellsStart M.state self.now sector.old call sector.new) }
-        ensures named { IfSome result
-            (IsStartCall (stage_at self.now.stage self.now.survey self.now.step)) }
-    {
-        match self.stage {
-            StartPoint::FlushFirst => Some(Call::Flush),
-            StartPoint::ReadSuper => Some(Call::Read(0)),
-            StartPoint::ReadHead(_) => Some(Call::Read(1)),
-            StartPoint::Survey(_) => self.survey.call::<M>(sector),
-            StartPoint::Copy(_) => next_copy::<M>(&self.survey.reader, &self.step, sector),
-            StartPoint::FlushCopies(_) => Some(Call::Flush),
-            StartPoint::WriteHead(found) => {
-                put_head(&found, sector);
-                Some(Call::Write(1))
-            }
-            StartPoint::FlushHead(_) => Some(Call::Flush),
-            StartPoint::Started(_) => None,
-            StartPoint::Refused(_) => None,
         }
     }
 
@@ -123,8 +96,6 @@ impl Starting {
 }
 
 impl<M: Medium> Machine<M> for Starting {
-    ghost use Rattle.recovery.specs.HoldsStart.{HoldsStart, StartView, MayStart};
-
     ghost View = { StartView M };
 
     ghost fits = { λ s size. s.sectors ≡ size };
@@ -153,7 +124,21 @@ impl<M: Medium> Machine<M> for Starting {
         (stage_at s.stage s.survey s.step)))) };
 
     fn next(&self, sector: &mut [u8; 512]) -> Option<Call> {
-        self.call::<M>(sector)
+        match self.stage {
+            StartPoint::FlushFirst => Some(Call::Flush),
+            StartPoint::ReadSuper => Some(Call::Read(0)),
+            StartPoint::ReadHead(_) => Some(Call::Read(1)),
+            StartPoint::Survey(_) => self.survey.call::<M>(sector),
+            StartPoint::Copy(_) => next_copy::<M>(&self.survey.reader, &self.step, sector),
+            StartPoint::FlushCopies(_) => Some(Call::Flush),
+            StartPoint::WriteHead(found) => {
+                put_head(&found, sector);
+                Some(Call::Write(1))
+            }
+            StartPoint::FlushHead(_) => Some(Call::Flush),
+            StartPoint::Started(_) => None,
+            StartPoint::Refused(_) => None,
+        }
     }
 
     fn made(&mut self, sector: &[u8; 512]) {

@@ -1,9 +1,8 @@
-use Rattle.std.proofs.Common.{◌≡◌, ◌≤◌, ℕ, ◌⊎◌, ◌+◌, inl, inr, ⊎_elim, refl, ◌∙◌, arith, replicate}
-use Rattle.std.proofs.lemmas.Result.{on_ok_weaker}
+use Rattle.std.proofs.{Common.{◌≡◌, ◌≤◌, ℕ, ◌⊎◌, ◌+◌, inl, inr, ⊎_elim, refl, ◌∙◌, arith, replicate}, lemmas.Result.on_ok_weaker}
 use Rattle.medium.specs.Medium.{Image, Holds, CutLeaves}
 use Rattle.medium.proofs.Moments.{updated, updated_here, updated_elsewhere}
 use Rattle.journal.specs.{Places.Shape, Formats.shape_of}
-use Rattle.recovery.specs.{Calls.IsWritten, Calls.IsNoneOrWritten, NewImage.Under, NewImage.IsPart, declared.image_plan.ImagePlan.ImagePlan}
+use Rattle.recovery.specs.{Calls.{IsWritten, IsNoneOrWritten}, NewImage.{Under, IsPart}, declared.image_plan.ImagePlan.ImagePlan}
 use Rattle.recovery.proofs.ImageCalls.{image_driven}
 use Rattle.recovery.proofs.formatting.write_image.Goals as goal
 use Rattle.recovery.proofs.formatting.write_image.Goals.{After-drive}

@@ -1,13 +1,12 @@
 use Rattle.std.proofs.Common.{◌≡◌, ◌≢◌, ◌⊎◌, inl, inr, ⊎_elim, ℕ, ◌+◌, refl, true, ◌∙◌, arith, rules, replicate, OnOk}
 use Rattle.std.proofs.lemmas.Result.{on_ok_weaker}
-use Rattle.medium.specs.{Medium.State, Medium.Image, Moments.IsFlushed}
+use Rattle.medium.specs.{Medium.{State, Image}, Moments.IsFlushed}
 use Rattle.spec.specs.Blocks.{Array}
-use Rattle.journal.specs.{Places.Shape, Places.first_home, Places.migrated, Formats.shape_of}
+use Rattle.journal.specs.{Places.{Shape, first_home, migrated}, Formats.shape_of}
 use Rattle.journal.proofs.Formats.{laws_of}
-use Rattle.recovery.specs.Calls.{AreMade, zeros_and_head, Writes, IsBetween, IsWritten, WithOrWithout}
-use Rattle.recovery.specs.Recovered.{StaysFresh, IsFresh, IsMadeTwo}
-use Rattle.recovery.specs.{NewImage.Under, NewImage.IsPart, declared.image_plan.ImagePlan.ImagePlan}
-use Rattle.recovery.proofs.{ImageCalls.image_driven, JoinedCalls.log_ends, JoinedCalls.zeros_fresh}
+use Rattle.recovery.specs.{Calls.{AreMade, zeros_and_head, Writes, IsBetween, IsWritten, WithOrWithout}, Recovered.{StaysFresh, IsFresh}}
+use Rattle.recovery.specs.{Recovered.IsMadeTwo, NewImage.{Under, IsPart}, declared.image_plan.ImagePlan.ImagePlan}
+use Rattle.recovery.proofs.{ImageCalls.image_driven, JoinedCalls.{log_ends, zeros_fresh}}
 use Rattle.recovery.proofs.migration.make_two.Goals as goal
 use Rattle.recovery.proofs.migration.make_two.Goals.{After-drive}
 

@@ -1,17 +1,16 @@
 use Rattle.std.proofs.Common.{◌≡◌, inl, inr, ⊎_elim, ℕ, ◌+◌, ◌*◌, ◌<◌, ◌≤◌, length, refl, ◌∙◌, arith, rules, min, Result, true}
 use Rattle.std.proofs.lemmas.Result.{err_from_is_err_and}
-use Rattle.medium.specs.{Medium.State, Medium.IsSound, Moments.EachCut, Sent.SendsUpTo}
+use Rattle.medium.specs.{Medium.{State, IsSound}, Moments.EachCut, Sent.SendsUpTo}
 use Rattle.spec.specs.Blocks.{Array}
-use Rattle.medium.proofs.{Moments.weaker, Moments.only_image, SectorsRead.no_looks, SparedSectors.spared_behind}
-use Rattle.journal.specs.Places.{Shape, first_home, sectors_of, migrated}
-use Rattle.journal.specs.{declared.log_format.LogFormat.TheVariants.One, Record.home_of, Formats.shape_of, Standing.IsOurs}
-use Rattle.journal.proofs.{SectorNumbers.IsSuper-one, StandingLaws.StandsFor-one, StandingLaws.StandsFor-shape}
-use Rattle.recovery.specs.Causes.{HasFewSlots, start_fault_of, IsRefusedCall}
-use Rattle.recovery.specs.Recovered.{IsRecoveredFrom, IsFresh, LeavesAtLeast, CanMigrate, IsMadeTwo, IsMigratedFrom, IsMigrationRefusal}
-use Rattle.recovery.specs.Recovered.{StaysFresh, MigrationLeaves, most_migration_sends, IsInOrder}
-use Rattle.recovery.specs.{Calls.Writes, Calls.copy_calls, declared.recovered.Recovered.Recovered}
-use Rattle.recovery.proofs.WholeRecovery.{recovery_leaves, served_slots, start_on}
-use Rattle.recovery.proofs.JoinedCalls.{log_ends, AreSame, zeros_fresh, fresh_ours}
+use Rattle.medium.proofs.{Moments.{weaker, only_image}, SectorsRead.no_looks, SparedSectors.spared_behind}
+use Rattle.journal.specs.{Places.{Shape, first_home, sectors_of, migrated}, declared.log_format.LogFormat.TheVariants.One, Record.home_of}
+use Rattle.journal.specs.{Formats.shape_of, Standing.IsOurs}
+use Rattle.journal.proofs.{SectorNumbers.IsSuper-one, StandingLaws.{StandsFor-one, StandsFor-shape}}
+use Rattle.recovery.specs.{Causes.{HasFewSlots, start_fault_of, IsRefusedCall}, Recovered.{IsRecoveredFrom, IsFresh, LeavesAtLeast}}
+use Rattle.recovery.specs.Recovered.{CanMigrate, IsMadeTwo, IsMigratedFrom, IsMigrationRefusal, StaysFresh, MigrationLeaves}
+use Rattle.recovery.specs.{Recovered.{most_migration_sends, IsInOrder}, Calls.{Writes, copy_calls}, declared.recovered.Recovered.Recovered}
+use Rattle.recovery.proofs.{WholeRecovery.{recovery_leaves, served_slots, start_on}, JoinedCalls.{log_ends, AreSame, zeros_fresh}}
+use Rattle.recovery.proofs.JoinedCalls.{fresh_ours}
 use Rattle.recovery.proofs.migration.migrate.Goals as goal
 use Rattle.recovery.proofs.migration.migrate.Goals.{After-make_two}
 

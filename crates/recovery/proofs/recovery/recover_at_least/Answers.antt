@@ -1,39 +1,21 @@
 -- A recovery is a start whose calls are made.
-use Rattle.std.proofs.Common.{refl, arith}
-use Rattle.medium.proofs.{Driving.fewer_left, SectorsRead.no_looks}
-use Rattle.recovery.proofs.FreshLooks.{runs_on}
+use Rattle.std.proofs.Common.{arith}
+use Rattle.recovery.specs.HoldsStart.{HoldsStart}
+use Rattle.recovery.proofs.Looks.{stage_of, at_end}
 use Rattle.recovery.proofs.recovery.recover_at_least.Goals as goal
+use Rattle.recovery.proofs.recovery.recover_at_least.Goals.{After-drive}
 
-pub loop-call-init : goal.loop-call-init
-loop-call-init g c = record {
-  size_is = grind (arith, c.begin_at_least-starting.ensures.of, c.sectors.ensures);
-  held = (c.begin_at_least-starting.ensures.of.1, c.begin_at_least-starting.ensures.held c.args.m.now _);
-  looks = λ shape array next fresh. no_looks _ _ _ refl;
-  follows = g.met.M.Medium.follows_itself c.args.m.now;
-}
+-- it began before the first call
+held : (g : _) (c : After-drive g) → HoldsStart g.M.Medium.state c.args.least (stage_of c.drive.new.machine) c.drive.new.sector c.args.m.now
+    c.drive.new.m
+held g c = ((c.drive.ensures.driven.runs (record { start = c.args.m.now; least = c.args.least })
+    (c.begin_at_least-starting.ensures.of.1, c.begin_at_least-starting.ensures.held c.args.m.now _)).1).1
 
-pub loop-call-smaller-in-Ok : goal.loop-call-smaller-in-Ok
-loop-call-smaller-in-Ok g c =
-    fewer_left _ c.in-Some.ensures.told.pays (c.in-Some.ensures.told.rests c.make.new.sector c.made.new.self c.made.ensures)
+pub end-requires : goal.end-requires
+end-requires g c = at_end _ c.drive.result c.drive.ensures.driven.tallied c.drive.ensures.done (grind arith)
+    (held g (goal.at.end-requires g c).After-drive).well
 
-pub loop-call-preserved-in-Ok : goal.loop-call-preserved-in-Ok
-loop-call-preserved-in-Ok g c =
-    let runs = c.loop-call.invariant in
-    let call = c.in-Some.ensures in
-    runs_on g.met.M.Medium.sound g.met.M.Medium.follows_through runs call.named c.in-Ok.ensures c.made.ensures.0
-    (call.told.made _ _ _ (record { start = _; least = _ }) c.made.new.self runs.size_is runs.held c.in-Ok.ensures.performed c.made.ensures)
-
--- none is left where one was refused
-pub loop-call-smaller : goal.loop-call-smaller
-loop-call-smaller g c =
-    let tells = c.in-Some.ensures.told in
-    let less = fewer_left {Exact = ⊥} {next = tells.rest} _ tells.pays (record { most = λ kind. omega arith; exact = λ e. refl }) in
-    rw c.refused.ensures.2 (omega (arith, less))
-
-pub loop-call-preserved : goal.loop-call-preserved
-loop-call-preserved g c =
-    let runs = c.loop-call.invariant in
-    let call = c.in-Some.ensures in
-    runs_on g.met.M.Medium.sound g.met.M.Medium.follows_through runs call.named c.in-Err.ensures c.refused.ensures.0
-    (call.told.refused _ _ _ (record { start = _; least = _ }) c.refused.new.self _ runs.size_is runs.held c.in-Err.ensures.performed
-    c.refused.ensures)
+pub returns : goal.returns
+returns g c =
+    let so_far = held g (goal.at.returns g c).After-drive in
+    record { ends = c.end.ensures _ _ _ _ so_far; looks = so_far.looks; follows = c.drive.ensures.follows }

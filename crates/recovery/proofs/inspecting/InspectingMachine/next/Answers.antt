@@ -1,5 +1,4 @@
-use Rattle.std.proofs.Common.{◌≡◌, ◌<◌, ◌≤◌, refl, arith}
-use Rattle.medium.specs.{Performed.fault_of, declared.fault.MediumFault.TheVariants.Read}
+use Rattle.std.proofs.Common.{◌<◌, ◌≤◌, refl, arith}
 use Rattle.journal.specs.{declared.log_format.LogFormat.TheVariants.Two, Places.sectors_of, Formats.shape_of}
 use Rattle.recovery.specs.Starting.{all_calls}
 use Rattle.recovery.proofs.Looks.{look_refused, super_read, super_looked, head_read, head_looked, survey_read, survey_looked, told_by}
@@ -51,9 +50,7 @@ returns-in-Survey g c =
     let is = c.in-Survey.is in
     let shape = shape_of s.survey.reader.sizes in
     let inside : sectors_of shape ≤ s.sectors = s.goes.fits c.in-Survey.field-0 is in
-    told_by c.next.result (λ none. (rw is none.0, none.1)) (λ call tells.
-    let kind : fault_of call ≡ Read = grind (arith, tells.pays) in
-    record {
+    told_by c.call.result (λ none. (rw is none.0, none.1)) (λ call tells named. record {
       due = rw is tells.due;
       within = grind (arith, inside, tells.within);
       looks = grind (arith, inside, tells.looks);
@@ -62,8 +59,8 @@ returns-in-Survey g c =
           rw step.2 (survey_looked sound (rw is at held) tells performed step.1);
       refused = λ m n got view next e fits held performed gone.
           let h = rw is at held in
-          rw gone.1 (look_refused sound h performed kind (survey_read sound h tells performed));
+          rw gone.1 (look_refused sound h performed named.0 (survey_read sound h tells performed));
       rest = tells.rest;
       pays = rw is tells.pays;
       rests = λ got next after. let step = rw is at after.1 in rw step.2 (tells.rests got step.0 step.1);
-    }) c.next.ensures
+    }) c.call.ensures.told c.call.ensures.named

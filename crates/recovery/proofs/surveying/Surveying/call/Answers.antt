@@ -1,10 +1,9 @@
 use Rattle.std.proofs.Common.{◌≡◌, ◌<◌, ◌≤◌, ◌+◌, ℕ, length, arith}
 use Rattle.medium.specs.Medium.{State, IsSound}
-use Rattle.journal.specs.{declared.naming_stage.NamingStage.TheVariants.Named, Places.first_home, Places.sectors_of, Layout.slot_at}
+use Rattle.journal.specs.{declared.naming_stage.NamingStage.TheVariants.Named, Places.{first_home, sectors_of}, Layout.slot_at}
 use Rattle.journal.specs.{Format2.format2, Formats.shape_of, declared.reader.RecordReader.RecordReader}
 use Rattle.recovery.specs.Surveying.{HoldsSurveyed, SurveyView, surveys_left}
-use Rattle.recovery.proofs.SurveyedRecords.{untried, named_taken, place_taken, data_place}
-use Rattle.recovery.proofs.Looks.{less_read, names_few}
+use Rattle.recovery.proofs.{SurveyedRecords.{untried, named_taken, place_taken, data_place}, Looks.{less_read, names_few}}
 use Rattle.recovery.proofs.surveying.Surveying.call.Goals as goal
 
 -- each sector of the log has its bytes
