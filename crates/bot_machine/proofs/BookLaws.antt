@@ -10,7 +10,7 @@ use Rattle.spec.specs.{UnitConversation.{Intends, UnitStep, write_of_packet, wri
 use Rattle.spec.specs.declared.event.Event.TheVariants as event
 use Rattle.bot_machine.specs.Acts.{CarriesOutAtOnce, CarriesOutLast, PacketCarriesOut, EventCarriesOut}
 use Rattle.bot_machine.specs.{BookLaws.{GrowsBy, MarkMoves, FaultStays, AreBookLaws}, Promising.promises_by}
-use Rattle.conversations.proofs.Wrappers.{at_once-writes_none}
+use Rattle.theorems.proofs.Wrappers.{at_once-writes_none}
 use Rattle.bot_machine.proofs.{Wrappers.carries_at_once, UnitLaws.{keeps_writes, stays_faulted, ticks_only}}
 use Rattle.scsi_unit.specs.{Laws.{IsSameLife, is_promising}, Promising.promises_for}
 

@@ -6,8 +6,8 @@ use Rattle.spec.specs.{declared.case.Outcome.Outcome, CommandWrapper.{SpellsComm
 use Rattle.spec.specs.Exchange.{at_once, after_data, moment_of, finished, Line}
 use Rattle.spec.specs.Rules.{Intention, UnitState, CarriesOut, Ticks, intention, write_in_progress}
 use Rattle.spec.specs.{UnitConversation.{way_of, Intends, on_line}, Book.Book, Conversation.{Conversation, Begins, OpensExchange}}
-pub use Rattle.conversations.proofs.Wrappers.{one_wrapper}
-use Rattle.conversations.proofs.Wrappers.{at_once-writes_none}
+pub use Rattle.theorems.proofs.Wrappers.{one_wrapper}
+use Rattle.theorems.proofs.Wrappers.{at_once-writes_none}
 use Rattle.bot_machine.specs.{Cases.IsFit, declared.exchange.Exchange.Exchange, Disk.DiskValue, Reading.{sectors_in, sectors_for}}
 use Rattle.bot_machine.specs.Reading.{WrapperReads, WrapperReadsNone, ReadsHome, ReadsNoHome, LooksBesides, WrapperReadsAt}
 use Rattle.bot_machine.specs.{Serving.IsBegun, Acts.CarriesOutAtOnce}

@@ -11,7 +11,7 @@ use Rattle.bot_machine.specs.Device.{Device, Retiring}
 use Rattle.bot_machine.specs.Disk.{DiskValue, over, FitsDisk, RunsOn, IsRun}
 use Rattle.bot_machine.specs.Moving.{MovesBy}
 use Rattle.bot_machine.specs.Opening.{IsOpened}
-use Rattle.conversations.specs.Striking.{without_ticks, answers_without_ticks, IsUntroubled}
+use Rattle.theorems.specs.Striking.{without_ticks, answers_without_ticks, IsUntroubled}
 use Rattle.spec.specs.Lives.{Action}
 
 -- a disk that runs retires so

@@ -3,7 +3,7 @@ use Rattle.std.specs.Prelude.{Result, Ok, Err}
 use Rattle.spec.specs.{Sense.Sense, Rules.Intention, Exchange.finished}
 use Rattle.spec.specs.declared.intent.Intent.TheVariants as intent
 use Rattle.scsi_unit.specs.Calls.{SendsAsMeant}
-use Rattle.conversations.proofs.Packets.{packets_of-none}
+use Rattle.theorems.proofs.Packets.{packets_of-none}
 use Rattle.bot_machine.proofs.UnitLaws.{keeps_writes, faulted_rests, proceeding}
 use Rattle.bot_machine.proofs.{Packets.{sent_in-size, lies_sent, lies_within, some_bytes}, OutPackets.tells}
 use Rattle.bot_machine.specs.Refinement.{line_with}

@@ -1,2 +1,4 @@
+pub mod Logging
+pub mod Ordering
 pub mod Striking
 pub mod Transfers

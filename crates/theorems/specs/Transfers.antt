@@ -7,7 +7,7 @@ use Rattle.spec.specs.{Requests.{setup_packet, clear_halt}, Exchange.at_rest}
 use Rattle.spec.specs.UnitConversation.{on_line, UnitRun}
 use Rattle.spec.specs.declared.event.Event.TheVariants as event
 use Rattle.spec.specs.declared.event.Answer.TheVariants as answer
-use Rattle.conversations.specs.Striking.{IsUntroubled}
+use Rattle.theorems.specs.Striking.{IsUntroubled}
 
 -- a command wrapper, and the bytes that the host sends after it: as many as it announces, or none
 pub record Transfer : Type 0 where

@@ -3,7 +3,7 @@ use Rattle.std.proofs.Common.{◌≡◌, ◌≢◌, ℕ, List, arith, None, ap, 
 use Rattle.spec.specs.{declared.wrapper.Cbw.Cbw, declared.way.Way.Way, declared.way.Way.TheVariants.Out, declared.case.Case.Case}
 use Rattle.spec.specs.{CommandWrapper.SpellsCommand, Cases.IsCase, Exchange.{at_once, moment_of}, Rules.{UnitState, write_in_progress}}
 use Rattle.spec.specs.UnitConversation.{way_of, Intends}
-use Rattle.conversations.proofs.Rules.{unwritten}
+use Rattle.theorems.proofs.{Rules.unwritten}
 
 pub one_wrapper : (packet : List ℕ) (one other : Cbw) → SpellsCommand packet one → SpellsCommand packet other → one ≡ other
 one_wrapper packet one other first second = grind arith

@@ -1,8 +1,6 @@
-//! What holds of every conversation by the rules alone, whatever carries them out.
-#![tactic(auto)]
-
-ghost use Rattle.conversations.specs.Striking.{TicksAreStruck};
-ghost use Rattle.conversations.specs.Transfers.{SizesAreAlike};
+//! What holds of every conversation by the rules alone.
+ghost use Rattle.theorems.specs.Striking.{TicksAreStruck};
+ghost use Rattle.theorems.specs.Transfers.{SizesAreAlike};
 
 /// Does nothing: its contract says that a host sees nothing of the steps in the background.
 #[tactic(auto, using(crate::proofs::StruckTicks::ticks_struck))]

@@ -1,0 +1,11 @@
+pub mod Rules
+pub mod Packets
+pub mod Wrappers
+pub mod StruckTicks
+pub mod Transfers
+pub mod OrderedArrays
+pub mod OrderedCuts
+pub mod Ordering
+pub mod LoggedSteps
+pub mod LoggedTurns
+pub mod Logging

@@ -1,0 +1,5 @@
+use Rattle.theorems.proofs.Logging.{keeps_the_rules, every_log}
+use Rattle.theorems.proofs.orders.log_laws.Goals as goal
+
+pub returns : goal.returns
+returns g c = record { rules = keeps_the_rules; orders = every_log g.M.Medium.state g.met.M.Medium.sound }

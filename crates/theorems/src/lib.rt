@@ -1,0 +1,9 @@
+//! What follows from the definitions alone, whatever carries them out: of every conversation, and
+//! of every order of writes and flushes.
+#![tactic(auto)]
+
+mod conversations;
+mod orders;
+
+pub use conversations::{conversation_laws, packet_laws};
+pub use orders::{log_laws, order_laws};

@@ -1,0 +1,18 @@
+//! What holds of every order of calls of a medium.
+ghost use Rattle.theorems.specs.Logging.{LogKeepsTheRules, EveryLogIsSafe};
+ghost use Rattle.theorems.specs.Ordering.{EveryOrderIsSafe};
+
+use medium::Medium;
+
+/// Does nothing: its contract says that each order of calls of a medium that keeps the rules of
+/// write ordering is safe.
+pub fn order_laws<M: Medium>()
+    ensures { EveryOrderIsSafe M.state }
+{}
+
+/// Does nothing: its contract says that a redo log that keeps its blocks tells such calls alone,
+/// and that every order of what it does is safe.
+pub fn log_laws<M: Medium>()
+    ensures rules { LogKeepsTheRules }
+    ensures orders { EveryLogIsSafe M.state }
+{}
