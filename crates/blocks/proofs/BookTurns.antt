@@ -1,19 +1,15 @@
 -- How the books that a store fits go on from turn to turn.
-use Rattle.std.specs.Prelude.{if◌then◌else◌, ◌==◌, nat_le, get_or, slice_range, unwrap_or}
-use Rattle.std.proofs.{lemmas.List.take-append-le, lemmas.List.drop-drop, Math.Seq.take-length, lemmas.Bool.Decides.nat_tests}
-use Rattle.std.proofs.Common.{◌≡◌, ◌≤◌, ◌<◌, ℕ, ◌+◌, ◌*◌, ◌-◌, ⊎_elim, arith, ◌∙◌, sym, ap, refl, Bool, Option, Some}
-use Rattle.std.proofs.Common.{List, [], ◌∷◌, ◌++◌, length, take, drop, length-append, zero, suc, get_or}
+use Rattle.std.proofs.Common.{rules}
+use Rattle.std.{specs.Prelude.{if◌then◌else◌, ◌==◌, nat_le, get_or, slice_range, unwrap_or}, proofs.lemmas.List.{take-append-le, drop-drop}}
+use Rattle.std.proofs.{Math.Seq.take-length, lemmas.Bool.Decides.nat_tests, Common.{◌≡◌, ◌≤◌, ◌<◌, ℕ, ◌+◌, ◌*◌, ◌-◌, ⊎_elim, arith, ◌∙◌}}
+use Rattle.std.proofs.Common.{sym, ap, refl, Bool, Option, Some, List, [], ◌∷◌, ◌++◌, length, take, drop, length-append, zero, suc, get_or}
 use Rattle.medium.specs.Medium.{State, Image}
-use Rattle.spec.specs.Blocks.{Array, Write, apply, after, chunks}
-use Rattle.spec.specs.Book.{Book, after_first, array_of, with_write, promised}
+use Rattle.spec.specs.{Blocks.{Array, Write, apply, after, chunks}, Book.{Book, after_first, array_of, with_write, promised}}
 use Rattle.journal.specs.{Places.Shape, Record.with_blocks, Standing.IsOurs}
-use Rattle.cache.specs.{Blocks.Blocks, Blocks.blocks_of, Blocks.over, Blocks.with_range, Blocks.Listed, Entries.Entries, Entries.map_of}
-use Rattle.cache.proofs.Arrays.{over_put}
-use Rattle.redo_log.specs.Value.{LogValue, IsBatch, entries_from, entries_of}
-use Rattle.redo_log.specs.Held.{View, HoldsView, MayLeave, with_record}
+use Rattle.cache.{specs.{Blocks.{Blocks, blocks_of, over, with_range, Listed}, Entries.{Entries, map_of}}, proofs.Arrays.over_put}
+use Rattle.redo_log.specs.{Value.{LogValue, IsBatch, entries_from, entries_of}, Held.{View, HoldsView, MayLeave, with_record}}
 use Rattle.redo_log.proofs.{HeldLog.many, StoreFacts.may_leave_ours}
-use Rattle.blocks.specs.{Book.Same, Finding.StandsAs, Finding.MayFind, Kept.IsBatchOf}
-use Rattle.blocks.specs.StoreValue.{Cached, FitsBook, ShowsBook, wants}
+use Rattle.blocks.specs.{Book.Same, Finding.{StandsAs, MayFind}, Kept.IsBatchOf, StoreValue.{Cached, FitsBook, ShowsBook, wants}}
 
 -- blocks over two arrays that have the same block
 pub over_same : (blocks : Blocks) (a c : Array) (b : ℕ) → a b ≡ c b → over blocks a b ≡ over blocks c b
@@ -68,54 +64,23 @@ with_entries numbers bytes a b = entries_over 0 numbers bytes a b
 pub over_none : (numbers bytes : List ℕ) → numbers ≡ [] → (a : Array) (b : ℕ) → over (blocks_of numbers bytes) a b ≡ a b
 over_none numbers bytes e a b = rw e refl
 
--- a batch wants a stamp or none
+-- a batch wants a stamp
 pub wants_some : (numbers : List ℕ) → 0 < length numbers → wants numbers ≡ 1
 wants_some numbers some = grind arith
-
-pub wants_none : (numbers : List ℕ) → numbers ≡ [] → wants numbers ≡ 0
-wants_none numbers e = grind arith
 
 -- an image that is ours for an array stands so for one with the same blocks
 pub stands_as : (size blocks : ℕ) (shape : Shape) (image : Image) (a c : Array) (next : ℕ) → shape.blocks ≡ blocks → Same blocks a c
     → IsOurs size shape image a next → StandsAs size blocks image c next
-stands_as size blocks shape image a c next is same ours =
-    let alike : Same shape.blocks a c = rw is same in (shape, is, grind (arith, ours, alike))
+stands_as size blocks shape image a c next is same ours = grind (arith, nat_tests)
 
 -- ---- what a store shows
-
--- arrays with the same blocks show the same
-pub shows_same : {book : Book} {k n : ℕ} {a b c a' b' c' : Array} → ShowsBook book k n a b c → Same book.blocks a' a
-    → Same book.blocks b' b → Same book.blocks c' c → ShowsBook book k n a' b' c'
-shows_same s floor middle now = grind (arith, s, floor, middle, now)
-
--- the writes of the frozen batch are durable, or it has all, or all are promised
-shows_durable : {book : Book} {k n : ℕ} {a b c : Array} → ShowsBook book k n a b c → ShowsBook book n n b b c
-shows_durable s = grind (arith, s)
-
-shows_all : {book : Book} {k n : ℕ} {a b c : Array} → ShowsBook book k n a b c → ShowsBook book k (length book.writes) a c c
-shows_all {book = book} s = grind (arith, s, first_all book)
-
-shows_promised : {book : Book} {k n : ℕ} {a b c : Array} → ShowsBook book k n a b c
-    → ShowsBook (promised book) (length book.writes) (length book.writes) c c c
-shows_promised {book = book} s = grind (arith, s, first_all book)
 
 -- the log goes on, with the same array
 pub moves : {m m' : State} {s : Cached} {book : Book} {log' : LogValue} {view' : View} (f : FitsBook m s book) → HoldsView log' m' view'
     → view'.array ≡ f.view.array → (0 < log'.steps_left → view'.under_way ≡ entries_of s.frozen.numbers s.frozen.bytes)
     → (0 < log'.steps_left → wants s.frozen.numbers ≡ 1) → view'.ours ≡ f.view.ours → log'.shape ≡ s.log.shape
     → log'.head + length log'.waiting ≡ s.log.head + length s.log.waiting → FitsBook m' (record s { log = log' }) book
-moves {view' = view'} f holds array under_way some ours shape stamp = record {
-  view = view';
-  holds = holds;
-  under_way = under_way;
-  some = some;
-  blocks = ap (λ (x : Shape). x.blocks) shape ∙ f.blocks;
-  floor_count = f.floor_count;
-  middle_count = f.middle_count;
-  arrays = rw array f.arrays;
-  stamps = omega (arith, f.stamps, stamp);
-  ours = ours ∙ f.ours;
-}
+moves {view' = view'} f holds array under_way some ours shape stamp = grind (arith, nat_tests)
 
 -- another batch takes writes, or the book is another
 pub shows_book : {m : State} {s : Cached} {book book' : Book} {k n : ℕ} (f : FitsBook m s book) (active : Entries)
@@ -123,18 +88,7 @@ pub shows_book : {m : State} {s : Cached} {book book' : Book} {k n : ℕ} (f : F
     (over (map_of s.frozen) f.view.array) (over (map_of active) (over (map_of s.frozen) f.view.array))
     → s.log.head + length s.log.waiting + wants s.frozen.numbers + wants active.numbers ≤ book'.stamp + length book'.writes
     → FitsBook m (record s { active = active }) book'
-shows_book {k = k} {n = n} f active blocks ours arrays stamps = record {
-  view = f.view;
-  holds = f.holds;
-  under_way = f.under_way;
-  some = f.some;
-  blocks = f.blocks ∙ blocks;
-  floor_count = k;
-  middle_count = n;
-  arrays = arrays;
-  stamps = stamps;
-  ours = f.ours ∙ ours;
-}
+shows_book {k = k} {n = n} f active blocks ours arrays stamps = grind (arith, nat_tests)
 
 -- the record under way becomes durable, and the frozen batch is emptied
 pub becomes_durable : {m m' : State} {s : Cached} {book : Book} {log' : LogValue} {none : Entries} (f : FitsBook m s book)
@@ -142,24 +96,7 @@ pub becomes_durable : {m m' : State} {s : Cached} {book : Book} {log' : LogValue
     → length log'.waiting ≡ length s.log.waiting + 1 → log'.steps_left ≡ 0
     → FitsBook m' (record { log = log'; active = s.active; frozen = none }) book
 becomes_durable {s = s} {none = none} f some empty holds shape head longer done =
-    let durable : Array = with_blocks f.view.under_way f.view.array in
-    let array : (b : ℕ) → durable b ≡ over (map_of s.frozen) f.view.array b =
-    λ b. rw (f.under_way some) (with_entries s.frozen.numbers s.frozen.bytes f.view.array b) in
-    let emptied : (b : ℕ) → over (map_of none) durable b ≡ over (map_of s.frozen) f.view.array b =
-    λ b. over_none none.numbers none.bytes empty durable b ∙ array b in
-    record {
-      view = with_record f.view;
-      holds = holds;
-      under_way = λ more. absurd (omega (arith, more, done));
-      some = λ more. absurd (omega (arith, more, done));
-      blocks = ap (λ (x : Shape). x.blocks) shape ∙ f.blocks;
-      floor_count = f.middle_count;
-      middle_count = f.middle_count;
-      arrays = shows_same (shows_durable f.arrays) (λ b below. array b) (λ b below. emptied b)
-          (λ b below. over_same (map_of s.active) (over (map_of none) durable) (over (map_of s.frozen) f.view.array) b (emptied b));
-      stamps = omega (arith, f.stamps, f.some some, head, longer, wants_none none.numbers empty);
-      ours = f.ours;
-    }
+    grind (arith, nat_tests, ℕ, over, map_of, with_entries, over_none, over_same)
 
 -- the active batch is frozen in place of an empty one
 pub freezes : {m : State} {s : Cached} {book : Book} → s.log.steps_left ≡ 0 → s.frozen.numbers ≡ [] → FitsBook m s book
@@ -175,8 +112,7 @@ freezes {s = s} {book = book} idle empty f =
       blocks = f.blocks;
       floor_count = f.floor_count;
       middle_count = length book.writes;
-      arrays = shows_same (shows_all f.arrays) (λ b below. refl) (λ b below. now b)
-          (λ b below. none (over (map_of s.active) f.view.array) b ∙ now b);
+      arrays = grind (arith, f.arrays, none, now, first_all book);
       stamps = omega (arith, f.stamps);
       ours = f.ours;
     }
@@ -186,38 +122,18 @@ pub appends : {m : State} {s : Cached} {book : Book} (more : Entries) (address :
     → ((b : ℕ) → map_of more b ≡ with_range (map_of s.active) address count bytes b) → FitsBook m s book
     → FitsBook m (record s { active = more }) (with_write book (record { address = address; blocks = chunks count bytes }))
 appends {s = s} {book = book} more address bytes count put f =
-    let w : Write = record { address = address; blocks = chunks count bytes } in
-    let longer : length (book.writes ++ w ∷ []) ≡ length book.writes + 1 = length-append book.writes (w ∷ []) in
-    let middle : Array = over (map_of s.frozen) f.view.array in
-    let first = λ (k : ℕ) (le : k ≤ length book.writes). first_same book w k le in
-    let now = λ (b : ℕ) (below : b < book.blocks). over_put s.active more middle address count bytes put b
-    ∙ (apply_same w (over (map_of s.active) middle) (array_of book) b (f.arrays.now_is b below)
-    ∙ ap (λ (a : Array). a b) (sym (after_last book.opening book.writes w))) in
-    shows_book {k = f.floor_count} {n = f.middle_count} f more refl refl (grind (arith, f.arrays, longer, first, now))
-    (grind (arith, f.stamps, longer))
+    search (rules, arith, length-append, over, map_of, ℕ, first_same, over_put, apply_same, after_last, shows_book)
 
 -- with both batches empty everything is durable
 pub settles : {m : State} {s : Cached} {book : Book} → s.frozen.numbers ≡ [] → s.active.numbers ≡ [] → FitsBook m s book
     → FitsBook m s (promised book)
-settles {s = s} no_frozen no_active f =
-    let frozen = over_none s.frozen.numbers s.frozen.bytes no_frozen f.view.array in
-    let middle : Array = over (map_of s.frozen) f.view.array in
-    let active = over_none s.active.numbers s.active.bytes no_active middle in
-    shows_book f s.active refl refl (shows_same (shows_promised f.arrays) (λ b below. sym (active b ∙ frozen b))
-    (λ b below. sym (active b)) (λ b below. refl)) f.stamps
+settles {s = s} {book = book} no_frozen no_active f = grind (arith, nat_tests, over_none, over, map_of, shows_book, first_all)
 
 -- an image that is ours for the blocks after some of the first writes may be found
 pub may_find : {size : ℕ} {book : Book} {shape : Shape} {image : Image} {a : Array} {next : ℕ} (k : ℕ) → book.mark ≤ k
     → k ≤ length book.writes → shape.blocks ≡ book.blocks → Same book.blocks a (after_first k book) → IsOurs size shape image a next
     → next ≤ book.stamp + length book.writes + 1 → MayFind size book image
-may_find {size} {book} {shape} {image} {a} {next} k promises accepted blocks same ours bound = record {
-  count = k;
-  next = next;
-  promises = promises;
-  accepted = accepted;
-  stands = stands_as size book.blocks shape image a (after_first k book) next blocks same ours;
-  bound = bound;
-}
+may_find {size} {book} {shape} {image} {a} {next} k promises accepted blocks same ours bound = search (rules, arith, stands_as)
 
 -- what a cut may leave of the log may be found
 pub finds : (m : State) (s : Cached) (book : Book) (f : FitsBook m s book) (image : Image) → MayLeave m.size s.log f.view image
@@ -244,10 +160,4 @@ listed_at (n ∷ numbers) (suc k) d below = grind (arith, nat_tests, listed_at n
 -- a batch that holds blocks can be logged
 pub is_batch : (shape : Shape) (batch : Entries) → IsBatchOf shape batch → 0 < length batch.numbers
     → IsBatch shape batch.numbers batch.bytes
-is_batch shape batch kept some = record {
-  some = some;
-  few = omega (arith, kept.well_formed.within, kept.room);
-  rising = kept.well_formed.rising;
-  inside = λ k d below. kept.inside (get_or batch.numbers k d) (listed_at batch.numbers k d below);
-  size = kept.well_formed.sized;
-}
+is_batch shape batch kept some = grind (arith, kept, some, kept.well_formed, listed_at batch.numbers)

@@ -1,18 +1,14 @@
 -- A store whose batches are empty: what fits, what is sent, how many steps are left else, and that at rest everything is at home.
-use Rattle.std.specs.Prelude.{false}
-use Rattle.std.proofs.{lemmas.List.nil_from_length, lemmas.Bool.cases_lt, lemmas.Bool.cases_Bool, lemmas.Bool.Decides.nat_tests}
-use Rattle.std.proofs.Common.{◌≡◌, ◌+◌, ◌<◌, ◌≤◌, ℕ, ◌∙◌, sym, ap, arith, true, false, List, [], length, ◌⊎◌, Bool, refl, inl, inr}
-use Rattle.medium.specs.{Medium.State, Medium.Image, Medium.IsSound, Moments.EachCut, Sent.SendsUpTo}
+use Rattle.std.{specs.Prelude.false, proofs.{lemmas.{List.nil_from_length, Bool.{cases_lt, cases_Bool, Decides.nat_tests}}, Common.◌≡◌}}
+use Rattle.std.proofs.Common.{◌+◌, ◌<◌, ◌≤◌, ℕ, ◌∙◌, sym, ap, arith, true, false, List, [], length, ◌⊎◌, Bool, refl, inl, inr}
+use Rattle.medium.specs.{Medium.{State, IsSound}, Moments.EachCut, Sent.SendsUpTo}
 use Rattle.spec.specs.Book.{Book, array_of}
-use Rattle.journal.specs.{Record.home_of, Standing.Keeps}
-use Rattle.cache.specs.{Blocks.over, Entries.map_of, Entries.Entries}
-use Rattle.cache.proofs.Arrays.{unlisted_empty}
-use Rattle.redo_log.specs.Value.{LogValue, Owes, retire_steps_of, CanPass, IsCovered, IsAway}
-use Rattle.redo_log.proofs.{HeldLog.many, StoreFacts.home_is, StoreFacts.blocks_guarded, StoreFacts.put_head}
-use Rattle.blocks.specs.{Settled.IsAtHome, Settled.IsSettled, OneBatch.SendsOneBatch, Written.IsWritten, Ahead.is_covered}
-use Rattle.blocks.specs.{Prepared.RestsAhead, Work.IsAheadStep, Work.GoesOnAhead, Work.with_counted}
-use Rattle.blocks.specs.StoreValue.{Cached, layout_of, is_dead, steps_left, FitsBook, FitsBeside, active_of, transfer_limit, unwritten}
-use Rattle.blocks.proofs.{BookTurns.over_none, BookTurns.settles, LogTurns.nothing_left}
+use Rattle.cache.{specs.{Blocks.over, Entries.{map_of, Entries}}, proofs.Arrays.unlisted_empty}
+use Rattle.redo_log.{specs.Value.{LogValue, Owes, CanPass, IsAway}, proofs.{HeldLog.many, StoreFacts.{home_is, blocks_guarded}}}
+use Rattle.blocks.specs.{Settled.{IsAtHome, IsSettled}, OneBatch.SendsOneBatch, Written.IsWritten, Ahead.is_covered, Prepared.RestsAhead}
+use Rattle.blocks.specs.{Work.{IsAheadStep, GoesOnAhead}, StoreValue.{Cached, layout_of, is_dead, steps_left, FitsBook, FitsBeside}}
+use Rattle.blocks.{specs.StoreValue.{active_of, transfer_limit, unwritten}, proofs.BookTurns.{over_none, settles}}
+use Rattle.blocks.{specs.Background.with_counted, proofs.LogTurns.nothing_left}
 
 -- ---- a store at rest has everything at home
 
@@ -20,40 +16,30 @@ use Rattle.blocks.proofs.{BookTurns.over_none, BookTurns.settles, LogTurns.nothi
 pub none_of : {A : Type 0} (l : List A) → length l ≤ 0 → l ≡ []
 none_of l few = nil_from_length l (omega (arith, few))
 
-module _ (m : State) (sound : IsSound m) (s : Cached) (live : is_dead s ≡ false) (none : steps_left s ≡ 0)
-    (empty : s.log.waiting ≡ []) where
+module _ (m : State) (sound : IsSound m) (s : Cached) (owes : Owes s.log) (under_way : s.log.under_way ≡ []) (live : is_dead s ≡ false)
+    (none : steps_left s ≡ 0) where
+  -- its log owes no step, and so no record waits
+  empty : s.log.waiting ≡ []
+  empty = grind (arith, nil_from_length s.log.waiting, owes.some_wait, none)
+
   -- the array of the log is that of the book
   durable : (book : Book) (f : FitsBook m s book) (b : ℕ) → b < book.blocks → f.view.array b ≡ array_of book b
-  durable book f b below =
-      let batches = nothing_left s none in
-      sym (over_none s.active.numbers s.active.bytes batches.1 (over (map_of s.frozen) f.view.array) b
-      ∙ over_none s.frozen.numbers s.frozen.bytes batches.0 f.view.array b)
-      ∙ f.arrays.now_is b below
-
-  no_records : (book : Book) (f : FitsBook m s book) → f.view.records ≡ []
-  no_records book f = none_of f.view.records (grind (arith, many f.holds, empty))
+  durable book f b below = grind (arith, nat_tests, nothing_left, over_none, over, map_of)
 
   at_home : (book : Book) → FitsBook m s book → IsAtHome (layout_of s) book m.content
-  at_home book f b below =
-      home_is s.log m f.view f.holds live b (omega (arith, below, f.blocks))
-      (λ age waits. absurd (omega (arith, waits, ap (λ (l : List (List ℕ)). length l) empty)))
-      ∙ durable book f b below
-
-  left_home : (book : Book) (f : FitsBook m s book) (b : ℕ) → b < book.blocks → (image : Image)
-      → Keeps s.log.shape image s.log.head f.view.records f.view.array → home_of s.log.shape image b ≡ array_of book b
-  left_home book f b below image keeps =
-      (rw (no_records book f) at (keeps.blocks b (omega (arith, below, f.blocks)))) ∙ durable book f b below
+  at_home book f b below = grind (arith, nat_tests, home_is, ℕ, empty, durable)
 
   cut_home : (book : Book) → FitsBook m s book → book.ours ≡ true → EachCut (IsAtHome (layout_of s) book) m
   cut_home book f ours image cut b below =
       let g = blocks_guarded s.log m f.view sound f.holds live (f.ours ∙ ours) image cut in
       let keeps = g.0.stored.keeps in
+      let records = none_of f.view.records (grind (arith, many f.holds, empty)) in
       sym (g.1 (s.log.shape.home + b) (λ e. omega (arith, e, keeps.super.home_is.0)))
-      ∙ left_home book f b below (put_head m image) keeps
+      ∙ (rw records at (keeps.blocks b (omega (arith, below, f.blocks)))) ∙ durable book f b below
 
-  -- a store without steps whose log has no record is at rest
-  pub at_rest : s.log.under_way ≡ [] → IsSettled m s
-  at_rest under_way = record {
+  -- a store without steps is at rest
+  pub settled : IsSettled m s
+  settled = record {
     none_waits = empty;
     none_under_way = under_way;
     active = (nothing_left s none).1;
@@ -63,22 +49,10 @@ module _ (m : State) (sound : IsSound m) (s : Cached) (live : is_dead s ≡ fals
     cuts = cut_home;
   }
 
--- a store without steps is at rest: its log owes none, and so no record waits
-pub settled : (m : State) → IsSound m → (s : Cached) → Owes s.log → s.log.under_way ≡ [] → is_dead s ≡ false → steps_left s ≡ 0
-    → IsSettled m s
-settled m sound s owes under_way live none =
-    at_rest m sound s live none
-    (grind (arith, nil_from_length s.log.waiting, owes.some_wait, none))
-    under_way
-
--- no retire step is owed where no record waits and none is under way
-pub owes_none : (log : LogValue) → Owes log → log.under_way ≡ [] → log.waiting ≡ [] → log.retire_steps_left ≡ 0
-owes_none log owes under_way empty = owes.none_waits empty ∙ ap (λ (l : List ℕ). retire_steps_of l) under_way
-
--- no step is left where no record is under way, none is owed, and both batches are empty
-pub none_left : (s : Cached) → s.log.steps_left ≡ 0 → s.log.retire_steps_left ≡ 0 → s.frozen.numbers ≡ [] → s.active.numbers ≡ []
-    → steps_left s ≡ 0
-none_left s idle owed frozen active = grind arith
+-- no step is left where no record is under way, none waits, and both batches are empty
+pub none_left : (s : Cached) → Owes s.log → s.log.under_way ≡ [] → s.log.waiting ≡ [] → s.log.steps_left ≡ 0 → s.frozen.numbers ≡ []
+    → s.active.numbers ≡ [] → steps_left s ≡ 0
+none_left s owes under_way empty idle frozen active = grind (arith, owes.none_waits empty)
 
 -- both batches of a live store are empty where no record is left to write
 pub both_empty : (s : Cached) → is_dead s ≡ false → IsWritten s → (s.frozen.numbers ≡ []) × (s.active.numbers ≡ [])
@@ -107,9 +81,7 @@ step_sent ahead before after log two = grind (arith, two)
 
 -- where no flush is counted, and something is to be done ahead, a step ahead does it
 does_some : (log : LogValue) → is_covered log ≡ false → ¬ RestsAhead log → CanPass log ⊎ IsAway log
-does_some log not some =
-    let rests = λ (c : ¬ IsCovered log) (p : ¬ CanPass log) (h : ¬ IsAway log). some (record { counted = c; past = p; home = h }) in
-    grind (arith, nat_tests, not, rests)
+does_some log not some = grind (arith, nat_tests, not, some)
 
 -- a step ahead that does something leaves fewer
 pub go_falls : (before after : State) (old new : Cached) → GoesOnAhead before after old new → CanPass old.log ⊎ IsAway old.log
@@ -117,11 +89,7 @@ pub go_falls : (before after : State) (old new : Cached) → GoesOnAhead before 
 go_falls before after old new goes (inl can) live = grind (arith, nat_tests, goes.active, goes.frozen, (goes.passes can).log live, can)
 go_falls before after old new goes (inr away) live = (goes.brings away).fewer live
 
--- the flush that is counted takes a step
-fewer_counted : (old : Cached) → old.log.steps_left ≡ 0 → is_covered old.log ≡ true → steps_left (with_counted old) < steps_left old
-fewer_counted old idle covered = grind (arith, nat_tests, covered, idle)
-
--- and what a step ahead does behind it takes none back
+-- what a step ahead does takes none back
 no_more_ahead : (before after : State) (old new : Cached) → GoesOnAhead before after old new → is_dead new ≡ false
     → steps_left new ≤ steps_left old
 no_more_ahead before after old new goes lives =
@@ -133,6 +101,6 @@ pub ahead_fewer : (before after : State) (old new : Cached) → IsAheadStep true
 ahead_fewer before after old new step live idle some lives =
     let goes = step.goes refl live idle in
     elim (cases_Bool (is_covered old.log)) [
-      | inl covered ↦ omega (arith, fewer_counted old idle covered, no_more_ahead before after (with_counted old) new goes lives)
+      | inl covered ↦ grind (arith, nat_tests, covered, idle, no_more_ahead before after (with_counted old) new goes lives)
       | inr not ↦ go_falls before after old new (rw not at goes) (does_some old.log not some) lives
     ]

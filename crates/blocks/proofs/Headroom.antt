@@ -1,27 +1,16 @@
 -- A store that goes ahead keeps headroom, turn by turn, and its records flush once each.
-use Rattle.std.specs.Prelude.{ℕ, List, [], ◌∷◌, length, drop, true, false}
-use Rattle.std.proofs.{lemmas.Bool.cases_Bool, lemmas.Bool.cases_lt, lemmas.List.nil_from_length, lemmas.Bool.Decides.nat_tests}
-use Rattle.std.proofs.Common.{◌≡◌, ◌⊎◌, ◌<◌, ◌≤◌, ◌+◌, arith, length-append, inl, inr}
+use Rattle.std.{proofs.Common.{rules, ◌≡◌, ◌⊎◌, ◌<◌, ◌≤◌, ◌+◌, arith, length-append, inl, inr}, specs.Prelude.{ℕ, List, length, drop, true}}
+use Rattle.std.{specs.Prelude.false, proofs.lemmas.{Bool.{cases_Bool, cases_lt, Decides.nat_tests}, List.nil_from_length}}
 use Rattle.medium.specs.Medium.{State}
 use Rattle.journal.specs.declared.log_format.LogFormat.TheVariants.{Two}
-use Rattle.redo_log.specs.Value.{LogValue, IsRetireStepped, IsStepped, begun, of_oldest}
-use Rattle.redo_log.specs.declared.progress.Progress.{Progress}
-use Rattle.blocks.specs.{Started.IsStartedBy, declared.start.Keeping.Keeping, Flushing.finish_flushes, Flushing.both_flushes}
-use Rattle.blocks.specs.{Retiring.HasSlots, Retiring.finished_with, Background.IsBackgroundStep, Background.MayBegin}
-use Rattle.blocks.specs.Ahead.{oldest_retired, passed, sent_home, ahead_room, may_go_by}
-use Rattle.blocks.specs.Headroom.{IsInOrder, RestsWithRoom, HasHeadroom, landed}
-use Rattle.blocks.specs.StoreValue.{Cached, is_dead, firsts_in, wants}
-use Rattle.blocks.proofs.Room.{idle_behind, steps_once}
-use Rattle.blocks.proofs.Steady.{blocks_more, blocks_behind, behind_more, first_owed, with_more, finished_is}
+use Rattle.redo_log.specs.{Value.{LogValue, IsRetireStepped, IsStepped, begun, of_oldest}, declared.progress.Progress.Progress}
+use Rattle.blocks.specs.{Started.IsStartedBy, declared.start.Keeping.Keeping, Flushing.{finish_flushes, both_flushes}, Retiring.HasSlots}
+use Rattle.blocks.specs.{Retiring.finished_with, Background.{IsBackgroundStep, MayBegin}, Ahead.{oldest_retired, passed, sent_home}}
+use Rattle.blocks.specs.{Ahead.{ahead_room, may_go_by}, Headroom.{IsInOrder, RestsWithRoom, HasHeadroom, landed}, StoreValue.Cached}
+use Rattle.blocks.{specs.StoreValue.{is_dead, firsts_in, wants}, proofs.{Room.{idle_behind, steps_once}, Steady.blocks_more}}
+use Rattle.blocks.proofs.Steady.{blocks_behind, behind_more, first_owed, with_more, finished_is}
 
--- ---- order is kept by each turn
-
--- one record more is durable
-pub order_more : (numbers : List ℕ) (firsts : List (List ℕ)) (copy : List ℕ) (log : LogValue) → IsInOrder log → 0 < length numbers
-    → IsInOrder (with_more numbers firsts copy log)
-order_more numbers firsts copy log r some =
-    let blocks = blocks_more log.waiting numbers r.blocks some in
-    grind (arith, r, blocks, behind_more log.waiting numbers, length-append log.waiting (numbers ∷ []))
+-- ---- order and room are kept by each retire step
 
 -- of the record behind the oldest no step is made
 next_owed : (log : LogValue) → IsInOrder log → 0 < length (drop 1 log.waiting) → 3 ≤ of_oldest (oldest_retired log)
@@ -31,38 +20,19 @@ next_owed log r some = grind (arith, nat_tests, first_owed, blocks_behind)
 order_retired : (log : LogValue) → IsInOrder log → 0 < length log.waiting → IsInOrder (oldest_retired log)
 order_retired log r one = grind (arith, r, blocks_behind log.waiting r.blocks, next_owed log r)
 
--- ---- a retire step keeps room, and a record that is begun with three slots free
-
-rests_retired : (log : LogValue) → RestsWithRoom log → 0 < length log.waiting → RestsWithRoom (oldest_retired log)
-rests_retired log r one = grind (arith, nat_tests, order_retired)
-
 pub rests_stepped : (old new : LogValue) → RestsWithRoom old → IsRetireStepped old new → RestsWithRoom new
-rests_stepped old new r stepped = elim (cases_lt 2 (of_oldest old)) [
-  | inl away ↦ grind (arith, nat_tests, r, stepped.home away)
-  | inr near ↦ grind (arith, nat_tests, near, rests_retired old r, stepped.some, stepped.flush, stepped.last)
-]
+rests_stepped old new r stepped = search (rules, arith, cases_lt, order_retired)
 
-pub rests_begun : (numbers : List ℕ) (firsts : List (List ℕ)) (copy : List ℕ) (log : LogValue) → IsInOrder log → HasSlots 3 log
-    → 0 < length numbers → RestsWithRoom (with_more numbers firsts copy log)
-rests_begun numbers firsts copy log r slots some = grind (arith, r, order_more numbers firsts copy log r some)
-
--- ---- a record for which the store goes ahead
+-- ---- room for which the store goes ahead
 
 -- three slots are free, or two are, and the oldest record is home
 record IsReady (log : LogValue) : Type 0 where
   order : IsInOrder log
   free : HasSlots 3 log ⊎ (HasSlots 2 log × (of_oldest log ≡ 2))
 
-ready_more : (numbers : List ℕ) (firsts : List (List ℕ)) (copy : List ℕ) (log : LogValue) → IsReady log → 0 < length numbers
-    → RestsWithRoom (with_more numbers firsts copy log)
-ready_more numbers firsts copy log r some =
-    let longer = length-append log.waiting (numbers ∷ []) in
-    grind (arith, r, order_more numbers firsts copy log r.order some, behind_more log.waiting numbers, longer)
-
 -- behind a record that is retired the next one is brought home
 ready_retired : (log : LogValue) → RestsWithRoom log → 0 < length log.waiting → IsReady (sent_home (oldest_retired log))
-ready_retired log r one =
-    let order = order_retired log r.order one in grind (arith, nat_tests, order, next_owed log r.order)
+ready_retired log r one = grind (arith, nat_tests, order_retired, next_owed)
 
 -- so the log is ready for one record more: the oldest is passed where it is home, and else none is
 passes : (log : LogValue) → RestsWithRoom log → ((passed log ≡ oldest_retired log) × (0 < length log.waiting))
@@ -73,21 +43,31 @@ ready_still : (log : LogValue) → IsInOrder log → HasSlots 3 log ⊎ (HasSlot
 ready_still log r free = grind (arith, nat_tests)
 
 ready_room : (log : LogValue) → RestsWithRoom log → IsReady (ahead_room log)
-ready_room log r =
-    let is : ahead_room log ≡ sent_home (passed log) = grind (arith, nat_tests) in
-    grind (arith, is, passes log r, ready_retired log r, ready_still log r.order)
+ready_room log r = grind (arith, nat_tests, passes log r, ready_retired log r, ready_still log r.order)
 
--- one record more, however many slots were free
-pub rests_finished : (numbers : List ℕ) (firsts : List (List ℕ)) (copy : List ℕ) (log : LogValue) → RestsWithRoom log → 0 < length numbers
-    → RestsWithRoom (finished_with true numbers firsts copy log)
-rests_finished numbers firsts copy log r some =
-    rw (finished_is numbers firsts copy log r.order.idle some) (ready_more numbers firsts copy (ahead_room log) (ready_room log r) some)
+-- ---- one record more
 
--- a batch becomes durable
-pub headroom_finished : (numbers : List ℕ) (firsts : List (List ℕ)) (copy : List ℕ) (log : LogValue) → HasHeadroom log
-    → HasHeadroom (finished_with true numbers firsts copy log)
-headroom_finished numbers firsts copy log head =
-    grind (arith, nat_tests, head, rests_finished numbers firsts copy log)
+module _ (numbers : List ℕ) (firsts : List (List ℕ)) (copy : List ℕ) (log : LogValue) where
+  pub order_more : IsInOrder log → 0 < length numbers → IsInOrder (with_more numbers firsts copy log)
+  order_more r some = grind (arith, r, blocks_more, behind_more, length-append)
+
+  -- it is begun with three slots free, or where the log is ready for it
+  pub rests_begun : IsInOrder log → HasSlots 3 log → 0 < length numbers → RestsWithRoom (with_more numbers firsts copy log)
+  rests_begun r slots some = grind (arith, r, order_more r some)
+
+  ready_more : IsReady log → 0 < length numbers → RestsWithRoom (with_more numbers firsts copy log)
+  ready_more r some = grind (arith, r, order_more, behind_more, length-append)
+
+  pub landed_begun : landed (begun numbers firsts copy log) ≡ with_more numbers firsts copy log
+  landed_begun = grind arith
+
+module _ (numbers : List ℕ) (firsts : List (List ℕ)) (copy : List ℕ) (log : LogValue) where
+  -- it becomes durable, however many slots were free
+  pub rests_finished : RestsWithRoom log → 0 < length numbers → RestsWithRoom (finished_with true numbers firsts copy log)
+  rests_finished r some = search (rules, arith, finished_is, ready_more, ready_room)
+
+  pub headroom_finished : HasHeadroom log → HasHeadroom (finished_with true numbers firsts copy log)
+  headroom_finished head = grind (arith, nat_tests, head, rests_finished)
 
 -- ---- one flush a record
 
@@ -103,20 +83,13 @@ one_each numbers log head under_way = grind (arith, nat_tests, two_with_headroom
 -- both batches
 pub both_each : (frozen active : List ℕ) (log : LogValue) → HasHeadroom log → (0 < log.steps_left → 0 < length frozen)
     → both_flushes true frozen active log ≡ wants frozen + wants active
-both_each frozen active log head under_way =
-    let behind : LogValue = finished_with true frozen [] [] log in
-    let last = one_each active behind (headroom_finished frozen [] [] log head) in
-    grind (arith, one_each frozen log head under_way, last, idle_behind true frozen log)
+both_each frozen active log head under_way = grind (arith, one_each, headroom_finished, idle_behind)
 
 -- ---- a background step
 
--- a step of a record changes nothing of what it leaves, and one that is begun is one record more
+-- a step of a record changes nothing of what it leaves
 pub landed_stepped : (progress : Progress) (old new : LogValue) → 0 < old.steps_left → IsStepped progress old new → landed new ≡ landed old
 landed_stepped progress old new some stepped = grind arith
-
-pub landed_begun : (numbers : List ℕ) (firsts : List (List ℕ)) (copy : List ℕ) (log : LogValue)
-    → landed (begun numbers firsts copy log) ≡ with_more numbers firsts copy log
-landed_begun numbers firsts copy log = grind arith
 
 pub headroom_stepped : (before after : State) (old new : Cached) → IsBackgroundStep true before after old new → HasHeadroom old.log
     → is_dead new ≡ false → HasHeadroom new.log

@@ -1,27 +1,20 @@
 -- What is known of an image by the books for which it stands, and the store that a recovery starts.
-use Rattle.std.specs.Prelude.{Bool, true}
-use Rattle.std.proofs.Common.{◌≡◌, ◌≤◌, ◌<◌, ◌^◌, ℕ, ⊎_elim, arith, ◌∙◌, sym, ap, subst, refl, Bool, true, Option, None, Some, List}
-use Rattle.std.proofs.Common.{[], ◌∷◌, take, inl, rules}
-use Rattle.std.proofs.lemmas.Bool.{false≢true}
-use Rattle.medium.specs.{Medium.State, Medium.Image, Medium.IsSound, Moments.EachCut, Moments.IsFlushed, Moments.LeavesOnly}
-use Rattle.medium.proofs.Moments.{at_exit, only_image}
-use Rattle.spec.specs.{Blocks.Array, Blocks.Write, Blocks.apply, Blocks.after, Book.Book, Book.after_first, Book.opened, Book.with_write}
-use Rattle.journal.specs.{Places.Shape, Places.limit_of, declared.log_format.LogFormat.LogFormat, Formats.shape_of, Formats.CarriesBelow}
-use Rattle.journal.specs.{Sectors.IsSuper, declared.super_sector.Super.Super}
-use Rattle.journal.specs.Standing.{StandsFor, Stands, IsOurs, Keeps}
-use Rattle.journal.specs.Standing as image
-use Rattle.journal.proofs.StandingLaws.{StandsFor-one, HasFault-stands}
+use Rattle.std.{specs.Prelude.{Bool, true}, proofs.Common.{◌≡◌, ◌≤◌, ◌<◌, ◌^◌, ℕ, ⊎_elim, arith, ◌∙◌, sym, ap, subst, refl, Bool, true}}
+use Rattle.std.proofs.{Common.{Option, None, Some, List, [], ◌∷◌, rules}, lemmas.Bool.false≢true}
+use Rattle.medium.{specs.{Medium.{State, Image, IsSound}, Moments.{EachCut, IsFlushed, LeavesOnly}}, proofs.Moments.{at_exit, only_image}}
+use Rattle.spec.specs.{Blocks.{Array, Write, apply, after}, Book.{Book, after_first, opened, with_write}}
+use Rattle.journal.specs.{Places.{Shape, limit_of}, declared.log_format.LogFormat.LogFormat, Formats.{shape_of, CarriesBelow}}
+use Rattle.journal.{specs.Standing.{StandsFor, Stands, IsOurs, Keeps}, proofs.StandingLaws.{StandsFor-one, HasFault-stands}}
 use Rattle.cache.specs.Entries.{Entries}
-use Rattle.redo_log.specs.{Held.resting_view, Held.HasNoRecord, Held.HoldsView}
-use Rattle.redo_log.proofs.StoreFacts.{empty_holds}
-use Rattle.recovery.specs.{declared.start_fault.StartFault.StartFault, declared.recovered.Recovered.Recovered}
-use Rattle.recovery.specs.Recovered.{IsOursForSome, StandsForOneOf, IsRecoveredFrom}
+use Rattle.redo_log.{specs.Held.{resting_view, HasNoRecord, HoldsView}, proofs.StoreFacts.empty_holds}
+use Rattle.recovery.specs.{declared.{start_fault.StartFault.StartFault, recovered.Recovered.Recovered}, Recovered.IsOursForSome}
+use Rattle.recovery.specs.Recovered.{StandsForOneOf, IsRecoveredFrom}
+use Rattle.blocks.specs.{Book.Same, Finding.{StandsAs, MayFind, FoundWith}, Started.{IsStartCause, IsStartedBy, started_log, ring_by}}
+use Rattle.blocks.specs.{Started.keeps_by, Opening.{StandsForOpening, OpensOn, IsCauseFor}, declared.start.Keeping.Keeping}
+use Rattle.blocks.{specs.StoreValue.{Cached, layout_of, blocks_of, FitsBook}, proofs.BookTurns.{stands_as, apply_same, shows_book}}
+use Rattle.blocks.proofs.BookTurns.{may_find}
+use Rattle.journal.specs.Standing as image
 use Rattle.recovery.specs.Recovered as recovered
-use Rattle.blocks.specs.{Kept.Invariant, Ahead.may_go_by, Book.Same, Finding.StandsAs, Finding.MayFind, Finding.FoundWith}
-use Rattle.blocks.specs.Started.{IsStartCause, IsStartedBy, started_log, ring_by, keeps_by}
-use Rattle.blocks.specs.{Opening.StandsForOpening, Opening.OpensOn, Opening.IsCauseFor, declared.start.Keeping.Keeping}
-use Rattle.blocks.specs.StoreValue.{Cached, layout_of, blocks_of, FitsBook}
-use Rattle.blocks.proofs.BookTurns.{stands_as, apply_same, shows_book, may_find}
 
 -- ---- what an image stands for
 
@@ -41,8 +34,7 @@ found_ours size book (Some w) image m = ⊎_elim (may_find_ours size book image)
 
 -- every image that a cut may leave is ours, where the book says so
 pub each_ours : (m : State) (book : Book) → OpensOn m book → book.ours ≡ true → EachCut (IsOursForSome m.size) m
-each_ours m book on is_ours image cut =
-    let (blocks, array, next, is) = on.ours is_ours image cut in (is.0, array, next, is.2)
+each_ours m book on is_ours image cut = grind (arith)
 
 -- an image that is ours, and stands for the opening of a book, is ours for it
 pub ours_for_opening : (size : ℕ) (book : Book) (image : Image) → StandsForOpening size book image → IsOursForSome size image
@@ -67,11 +59,7 @@ stands_for_some size book image there = (there.0, book.opening, book.stamp, ther
 -- what fits a book fits one that opened with the same blocks
 reopened : (m : State) (s : Cached) (book : Book) (c : Array) → Same book.blocks book.opening c → FitsBook m s book
     → FitsBook m s (record book { opening = c })
-reopened m s book c same f =
-    let a = f.arrays in
-    let first = λ (k b : ℕ) (below : b < book.blocks). after_same (take k book.writes) book.opening c b (same b below) in
-    let all = λ (b : ℕ) (below : b < book.blocks). after_same book.writes book.opening c b (same b below) in
-    shows_book {k = f.floor_count} {n = f.middle_count} f s.active refl refl (grind (arith, a, first, all)) f.stamps
+reopened m s book c same f = grind (arith, ℕ, after_same, shows_book)
 
 -- a store that serves what the contents stood for fits each book with which a life may open over them
 pub serves : (before after : State) (s : Cached) (array : Array) (next : ℕ) → StandsFor before.size (layout_of s) before.content array next
@@ -109,8 +97,7 @@ module _ (before after : State) (sound : IsSound after) (size_stays : after.size
 
 module _ (before after : State) (book : Book) (on : OpensOn before book) where
   no_fault : (fault : image.ImageFault) → image.HasFault before.size before.content fault → ⊥
-  no_fault fault h =
-      HasFault-stands before.size before.content fault h (on.stands.0, book.opening, book.stamp, on.stands.2)
+  no_fault fault h = grind (arith, HasFault-stands)
 
   used_up : image.HasNoStampLeft before.size before.content → 2 ^ 63 ≤ book.stamp
   used_up (shape, array, next, stood, past) =
@@ -126,21 +113,12 @@ module _ (before after : State) (book : Book) (on : OpensOn before book) where
 -- the log of an image that was recovered is fresh
 fresh_log : (shape : Shape) (array : Array) (next : ℕ) (image : Image) → recovered.IsFresh shape array next image
     → HasNoRecord shape next array image
-fresh_log shape array next image f = record {
-  keeps = record { super = f.super; head_is = f.head; whole = λ j below. absurd (omega arith); blocks = f.home };
-  carries = λ slot o stamp low small c. omega (arith, f.carries slot o stamp low small c);
-}
+fresh_log shape array next image f = search (rules, arith, f)
 
 -- what was recovered is at home, with the head and no record
 found_home : (before after : State) (answer : Recovered) (from : IsRecoveredFrom before after answer)
     → Keeps (shape_of answer.sizes) after.content answer.next [] from.array
-found_home before after answer from = record {
-  super = subst (IsSuper (shape_of answer.sizes)) (sym (from.elsewhere 0 (λ e. omega arith)
-      (inl (omega (arith, from.stood.keeps.super.home_is.0))))) from.stood.keeps.super;
-  head_is = from.head;
-  whole = λ j below. absurd (omega arith);
-  blocks = from.home;
-}
+found_home before after answer from = grind (arith)
 
 -- an empty batch with room for as many blocks as a record of this format
 abbrev pub empty_batch : LogFormat → Entries
@@ -154,27 +132,11 @@ started keeping shape next = record {
   frozen = empty_batch shape.format;
 }
 
--- what is kept of a store is so where it goes ahead, if its log allows that
-pub with_policy : (size : ℕ) (sizes : Super) (s : Cached) (writing ahead b : Bool) → Invariant size sizes s writing ahead
-    → (b ≡ true → may_go_by s.log.shape.format s.log.ring ≡ true) → Invariant size sizes s writing b
-with_policy size sizes s writing ahead b k may = grind (arith, k, may)
-
 -- it fits a life that opens with the array that is at home
 opens : (keeping : Keeping) (shape : Shape) (array : Array) (next : ℕ) (ours : Bool) (m : State)
     → HoldsView (started_log keeping shape next) m (resting_view array ours)
     → FitsBook m (started keeping shape next) (opened shape.blocks array next ours)
-opens keeping shape array next ours m holds = record {
-  view = resting_view array ours;
-  holds = holds;
-  under_way = λ some. absurd (omega arith);
-  some = λ some. absurd (omega arith);
-  blocks = refl;
-  floor_count = 0;
-  middle_count = 0;
-  arrays = search (rules, arith);
-  stamps = omega arith;
-  ours = refl;
-}
+opens keeping shape array next ours m holds = grind (arith, resting_view)
 
 module _ (keeping : Keeping) (before after : State) (answer : Recovered) (from : IsRecoveredFrom before after answer)
     (sound : IsSound before) (sound_then : IsSound after)

@@ -1,25 +1,20 @@
 -- The turns of the store's own functions, from what the log's calls do.
-use Rattle.std.specs.Prelude.{Result, Ok, Err}
-use Rattle.std.proofs.{lemmas.Bool.cases_lt, lemmas.Bool.cases_Bool, lemmas.Bool.Decides.nat_tests, lemmas.List.nil_from_length}
+use Rattle.std.{specs.Prelude.{Result, Ok, Err}, proofs.lemmas.{Bool.{cases_lt, cases_Bool, Decides.nat_tests}, List.nil_from_length}}
 use Rattle.std.proofs.Common.{◌≡◌, ◌≤◌, ◌<◌, ℕ, ◌+◌, ◌-◌, ◌*◌, ◌^◌, inl, inr, arith, ◌∙◌, refl, ap, true, false, Bool, List, [], ◌∷◌}
 use Rattle.std.proofs.Common.{length, length-append}
-use Rattle.medium.specs.{Medium.State, Medium.IsSound, Moments.LeavesOnly}
-use Rattle.medium.proofs.{Moments.started, Moments.weaker, SparedSectors.spared_start}
-use Rattle.spec.specs.{Blocks.chunks, Blocks.Write, Book.Book}
+use Rattle.medium.{specs.{Medium.{State, IsSound}, Moments.LeavesOnly}, proofs.{Moments.{started, weaker}, SparedSectors.spared_start}}
+use Rattle.spec.specs.{Blocks.{chunks, Write}, Book.Book}
 use Rattle.journal.specs.{Places.sectors_of, declared.super_sector.Super.Super}
-use Rattle.cache.specs.{Blocks.with_range, Entries.Entries, Entries.map_of}
-use Rattle.redo_log.specs.{Held.View, Held.HoldsView, Held.stamps_of, declared.fault.LogFault.LogFault, declared.progress.Progress.Progress}
+use Rattle.cache.specs.{Blocks.with_range, Entries.{Entries, map_of}}
+use Rattle.redo_log.specs.{Held.{View, HoldsView, stamps_of}, declared.{fault.LogFault.LogFault, progress.Progress.Progress}}
 use Rattle.redo_log.specs.Value.{LogValue, Owes, CanPass, IsAway, IsSentHome, HasRoom, begun, died, IsCovered, IsRetireStepped, IsBatch}
-use Rattle.redo_log.specs.Value.{entries_of, pass_calls, ahead_calls, next_calls, next_sends, next_turn_flushes}
-use Rattle.redo_log.specs.Steps.{MakesTurns, MakesStep, CountsStep, LeavesLog}
-use Rattle.redo_log.specs.declared.progress.Progress.TheVariants.{More, Durable}
-use Rattle.redo_log.proofs.{HeldLog.many, StoreFacts.died_holds, StoreFacts.settled_holds, StoreFacts.begun_holds}
-use Rattle.blocks.specs.{Ahead.counted, Ahead.is_covered, Finding.MayFind, Finding.Found, Kept.Invariant, Passing.PassesOn}
-use Rattle.blocks.specs.{Passing.PassesPaid, Turns.GoesOn, Turns.IsTurn, Turns.IsWriteTurn}
-use Rattle.blocks.specs.StoreValue.{firsts_in, Cached, layout_of, steps_left, FitsBook, is_dead}
-use Rattle.blocks.specs.Background.{PassesHead, BringsHome, IsRetiring}
-use Rattle.blocks.proofs.BookTurns.{moves, wants_some, becomes_durable, freezes, appends, finds}
-use Rattle.blocks.proofs.TurnsJoined.{exits}
+use Rattle.redo_log.specs.{Value.{entries_of, pass_calls, ahead_calls, next_calls, next_sends, next_turn_flushes}, Steps.MakesTurns}
+use Rattle.redo_log.specs.{Steps.{MakesStep, CountsStep, LeavesLog}, declared.progress.Progress.TheVariants.{More, Durable}}
+use Rattle.redo_log.proofs.{HeldLog.many, StoreFacts.{died_holds, settled_holds, begun_holds}}
+use Rattle.blocks.specs.{Ahead.{counted, is_covered}, Finding.{MayFind, Found}, Kept.Invariant, Passing.{PassesOn, PassesPaid}}
+use Rattle.blocks.specs.{Turns.{GoesOn, IsTurn, IsWriteTurn}, StoreValue.{firsts_in, Cached, layout_of, steps_left, FitsBook, is_dead}}
+use Rattle.blocks.{specs.Background.{PassesHead, BringsHome, IsRetiring}, proofs.BookTurns.{moves, wants_some, becomes_durable, freezes}}
+use Rattle.blocks.proofs.{BookTurns.{appends, finds}, TurnsJoined.exits}
 
 -- ---- what stays of a log of which a record goes home, is flushed there, or is retired
 
@@ -113,8 +108,7 @@ module _ {M : Type 0} {state : M → State} {Follows : M → M → Type 0} {None
     pub passes_turn : {most : ℕ} → sends ≤ most
         → PassesOn state Follows IsTurn 2 most (record { medium = m; cached = s; goes_ahead = ahead })
         (record { medium = n; cached = record s { log = log' }; goes_ahead = ahead })
-    passes_turn few =
-        grind (arith, turn_made result called same stays, called.answers, called.passes, called.leaves.looks, few)
+    passes_turn few = grind (arith, nat_tests, turn_made)
 
     pub paid_turn : {most : ℕ} → sends ≤ most → count ≤ 2 * steps_left s
         → (Done → count + 2 * steps_left (record s { log = log' }) ≤ 2 * steps_left s)

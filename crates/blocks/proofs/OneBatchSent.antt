@@ -13,7 +13,4 @@ module _ (ahead : Bool) (before : State) (log : LogValue) where
   pub room_sent : (mid after : State) → sent mid ≤ sent before + most_retire_sends log.shape.format
       → (IsPrepared ahead log → sent mid ≡ sent before) → sent after ≤ sent mid + most_steps log.shape.format
       → SendsOneBatch ahead before after log
-  room_sent mid after room quiet few = record {
-    most = omega (arith, room, few);
-    prepared = λ prepared. let same = quiet prepared in omega (arith, same, few);
-  }
+  room_sent mid after room quiet few = grind (arith, room, few, quiet)

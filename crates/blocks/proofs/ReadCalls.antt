@@ -1,24 +1,19 @@
 -- What a read gives, and how many calls of the medium it makes.
-use Rattle.std.specs.Prelude.{Ok, Err, OnOk, Contains, true, get_or}
-use Rattle.std.proofs.{lemmas.List.length-drop, lemmas.List.length-take-le, lemmas.List.take_all, lemmas.Slice.take-put_mid}
-use Rattle.std.proofs.lemmas.Bool.{cases_Bool, false≢true, cases_eq, Decides.nat_tests}
-use Rattle.std.proofs.Common.{◌≡◌, ℕ, zero, suc, ◌+◌, ◌*◌, ◌≤◌, ◌<◌, List, [], ◌∷◌, ◌++◌, length, take, drop, None, sym, ◌∙◌, ap}
-use Rattle.std.proofs.Common.{arith, inl, inr, append_assoc, append-nil, add-zero, add-one, Result, false, refl, subst}
+use Rattle.std.proofs.Common.{rules, ◌≡◌, ℕ, zero, suc, ◌+◌, ◌*◌, ◌≤◌, ◌<◌, List, [], ◌∷◌, ◌++◌, length, take, drop, None, sym, ◌∙◌, ap}
+use Rattle.std.{proofs.Common.{arith, inl, inr, append_assoc, append-nil, add-zero, add-one, Result, false, refl}, specs.Prelude.{Ok, Err}}
+use Rattle.std.{specs.Prelude.{OnOk, Contains, true, get_or}, proofs.lemmas.List.{length-drop, length-take-le, take_all}}
+use Rattle.std.proofs.lemmas.{Slice.take-put_mid, Bool.{cases_Bool, false≢true, cases_eq, Decides.nat_tests}}
 use borrow.Rule.Slice.PartMut.{put_mid}
-use Rattle.medium.specs.{Medium.State, Medium.Passes, Medium.IsSound, Medium.LooksOnly, Medium.Stays, Medium.Within, Sent.SendsUpTo}
-use Rattle.medium.specs.declared.fault.MediumFault.{MediumFault}
-use Rattle.medium.specs.declared.fault.MediumFault.TheVariants.{Read}
-use Rattle.medium.proofs.{CallsSent.read_sends, Moments.quiet_joined, Moments.quiet_call, SectorsRead.one_look, SectorsRead.looks_wider}
+use Rattle.medium.specs.{Medium.{State, Passes, IsSound, LooksOnly, Stays, Within}, Sent.SendsUpTo, declared.fault.MediumFault.MediumFault}
+use Rattle.medium.{specs.declared.fault.MediumFault.TheVariants.Read, proofs.{CallsSent.read_sends, Moments.{quiet_joined, quiet_call}}}
+use Rattle.medium.proofs.{Moments.quiet_start, SectorsRead.{one_look, looks_wider}}
 use Rattle.journal.specs.Places.{first_home}
-use Rattle.redo_log.specs.{Steps.KeepsLog, Steps.ReadsCopy, Value.LogValue, Value.IsNewestCopy, Value.HasNoCopy}
-use Rattle.spec.specs.{Blocks.Array, Book.Book, Book.array_of, Book.blocks_at}
-use Rattle.cache.specs.{Blocks.is_listed, Blocks.Listed, Blocks.unlisted, Entries.map_of, Entries.Entries}
-use Rattle.cache.proofs.{Maps.listed_is, Arrays.unlisted_most}
-use Rattle.blocks.specs.{Reads.IsInBatch, Reads.IsInNone, Reads.ReadsBlock, Reads.told, Looks.IsReadFor}
-use Rattle.blocks.specs.StoreValue.{Cached, blocks_of, layout_of, FitsBook}
-use Rattle.blocks.specs.{StoreValue.StoreValue, Calls.block_reads, Calls.reads_of, Calls.is_logged, Calls.log_reads}
-use Rattle.blocks.specs.{Passing.KeepsStore, Turns.IsTurn}
-use Rattle.blocks.proofs.{SectorsRead.one_more, SectorsRead.fewer_read, TurnsJoined.quiet_turn, BookTurns.listed_at}
+use Rattle.redo_log.specs.{Steps.{KeepsLog, ReadsCopy}, Value.{LogValue, IsNewestCopy, HasNoCopy}}
+use Rattle.spec.specs.{Blocks.Array, Book.{Book, array_of, blocks_at}}
+use Rattle.cache.{specs.{Blocks.{is_listed, Listed, unlisted}, Entries.{map_of, Entries}}, proofs.{Maps.listed_is, Arrays.unlisted_most}}
+use Rattle.blocks.specs.{Reads.{IsInBatch, IsInNone, ReadsBlock, told}, Looks.IsReadFor, StoreValue.{Cached, blocks_of, layout_of}}
+use Rattle.blocks.specs.{StoreValue.{FitsBook, StoreValue}, Calls.{block_reads, reads_of, is_logged, log_reads}, Passing.KeepsStore}
+use Rattle.blocks.proofs.{SectorsRead.{one_more, fewer_read, none_read}, TurnsJoined.{quiet_turn, turns}, BookTurns.listed_at}
 
 -- ---- what a read gives
 
@@ -48,12 +43,7 @@ pub put_block : (array : Array) (address i at size end : ℕ) (to block : List �
     → end ≤ length to → length block ≡ length (take size (drop at to)) → take (512 * i) to ≡ blocks_at array address i
     → block ≡ array (address + i) → take end (put_mid at size to block) ≡ blocks_at array address (i + 1)
 put_block array address i at size end to block at_is size_is end_is inside alike so_far is =
-    let part : length (take size (drop at to)) ≡ size =
-    length-take-le size (drop at to) (omega (arith, length-drop at to, at_is, size_is, end_is, inside)) in
-    cc (
-      take-put_mid at size to block end (omega (arith, at_is, size_is, end_is, alike, part)) (omega (arith, at_is, end_is, inside)),
-      one_block array address i,
-    )
+    search (rules, arith, length-take-le, length-drop, take-put_mid, one_block)
 
 reads_suc : (s : Cached) (address i : ℕ) → reads_of s address (suc i) ≡ reads_of s address i + block_reads s (address + i)
 reads_suc s address zero = grind arith
@@ -88,8 +78,7 @@ logged_at (numbers ∷ records) (suc age) b below listed = grind (arith, logged_
 
 pub logged_newest : (log : LogValue) (b slot place : ℕ) → IsNewestCopy log b slot place → is_logged log.waiting b ≡ true
 logged_newest log b slot place copy =
-    let listed = listed_at (get_or log.waiting copy.age []) place 0 copy.inside in
-    logged_at log.waiting copy.age b copy.waits (rw copy.named at listed)
+    grind (arith, listed_at (get_or log.waiting copy.age []) place 0 copy.inside, copy, logged_at log.waiting copy.age b copy.waits)
 
 -- and in none where none does
 contains_listed : (numbers : List ℕ) (b : ℕ) → Listed numbers b → Contains numbers b
@@ -120,19 +109,23 @@ reads_few s address (suc count) = grind (arith, reads_few s (address + 1) count)
 
 module _ {M : Type 0} {state : M → State} {Follows : M → M → Type 0} {n : M} {old : StoreValue M} {block : ℕ} where
   -- it reads a copy in the log, or the sector at home
-  pub copy_keeps : KeepsLog state Follows old.cached.log old.medium n → KeepsStore state Follows block 1 old (record old { medium = n })
-  copy_keeps log =
-      grind (arith, log, looks_wider _ (IsReadFor old.cached block 1) (state old.medium) (state n) (λ x low. inl low) log.looks)
+  pub copy_keeps : IsSound (state old.medium) → KeepsLog state Follows old.cached.log old.medium n
+      → KeepsStore state Follows block 1 old (record old { medium = n })
+  copy_keeps sound log =
+      let looks = looks_wider _ (IsReadFor old.cached block 1) (state old.medium) (state n) (λ x low. inl low) log.looks in
+      grind (arith, log, looks, quiet_turn (state old.medium) (state n) old.cached sound log.quiet)
 
-  pub home_keeps : {call : Result (Unit {0}) MediumFault} (sector : ℕ) → sector ≡ first_home (layout_of old.cached) + block
+  pub home_keeps : IsSound (state old.medium) → {call : Result (Unit {0}) MediumFault} (sector : ℕ)
+      → sector ≡ first_home (layout_of old.cached) + block
       → Passes Read call (state old.medium) (state n) → Stays (state old.medium).content (state n).content
       → Within (state n).may_leave (state old.medium).may_leave
       → Follows old.medium n × LooksOnly (λ x. x ≡ sector) (state old.medium) (state n)
       → KeepsStore state Follows block 1 old (record old { medium = n })
-  home_keeps sector is passes content sets follows =
+  home_keeps sound sector is passes content sets follows =
       let quiet = quiet_call (state old.medium) (state n) passes content sets in
       let looks = one_look _ (state old.medium) (state n) sector (inr (omega (arith, is), omega (arith, is))) follows.1 in
-      record { stays = refl; quiet = quiet; follows = follows.0; looks = looks; policy = refl }
+      let turn = quiet_turn (state old.medium) (state n) old.cached sound quiet in
+      record { stays = refl; turn = turn; quiet = quiet; follows = follows.0; looks = looks; policy = refl }
 
   pub reads_one : {bytes : List ℕ} (call : Result (Unit {0}) MediumFault) → Passes Read call (state old.medium) (state n)
       → block < blocks_of old.cached → IsInNone old.cached block → log_reads old.cached.log.keeps old.cached.log.waiting block ≡ 1
@@ -190,10 +183,14 @@ pub record HasRead {M : Type 0} (state : M → State) (Follows : M → M → Typ
       → take (512 * count) bytes ≡ blocks_at (array_of book) address count
 
 module _ {M : Type 0} {state : M → State} {Follows : M → M → Type 0} {address : ℕ} {old : StoreValue M} where
-  pub keeps_turn : ((m : M) → IsSound (state m)) → {count : ℕ} {new : StoreValue M} → KeepsStore state Follows address count old new
-      → IsTurn (state old.medium) (state new.medium) old.cached new.cached
-  keeps_turn sound {new = new} keeps = subst (IsTurn (state old.medium) (state new.medium) old.cached) (sym keeps.stays)
-      (quiet_turn (state old.medium) (state new.medium) old.cached (sound old.medium) keeps.quiet)
+  -- none was
+  pub keeps_none : {count : ℕ} → IsSound (state old.medium) → Follows old.medium old.medium
+      → KeepsStore state Follows address count old old
+  keeps_none {count} sound itself = search (rules, arith, quiet_start, none_read, quiet_turn)
+
+  pub reads_none : {bytes : List ℕ} → IsSound (state old.medium) → Follows old.medium old.medium
+      → HasRead state Follows address 0 bytes old old
+  reads_none sound itself = grind (arith, keeps_none {count = 0} sound itself)
 
   -- all were
   pub all_read : {count : ℕ} {bytes : List ℕ} {new : StoreValue M} → HasRead state Follows address count bytes old new
@@ -205,12 +202,7 @@ module _ {M : Type 0} {state : M → State} {Follows : M → M → Type 0} {addr
     -- one more is, good or refused
     pub keeps_more : ((m n k : M) → Follows m n → Follows n k → Follows m k) → {count : ℕ} {new : StoreValue M} → i + 1 ≤ count
         → KeepsStore state Follows (address + i) 1 mid new → KeepsStore state Follows address count old new
-    keeps_more through {count} {new} more last =
-        let quiet = quiet_joined _ _ _ read.keeps.quiet last.quiet in
-        let looks = fewer_read (state old.medium) (state new.medium) old.cached address (i + 1) count more
-        (one_more (state old.medium) (state mid.medium) (state new.medium) old.cached mid.cached address i read.keeps.stays
-        read.keeps.looks last.looks) in
-        grind (arith, quiet, looks, through _ _ _ read.keeps.follows last.follows, read.keeps, last)
+    keeps_more through {count} {new} more last = search (rules, arith, quiet_joined, fewer_read, one_more, turns)
 
     pub calls_more : {count : ℕ} (new : StoreValue M) → i + 1 ≤ count
         → (state new.medium).calls ≤ (state mid.medium).calls + block_reads mid.cached (address + i)
@@ -219,15 +211,14 @@ module _ {M : Type 0} {state : M → State} {Follows : M → M → Type 0} {addr
         let same = ap (λ (s : Cached). block_reads s (address + i)) read.keeps.stays in
         omega (arith, read.reads, few, same, reads_more old.cached address i, reads_within old.cached address (i + 1) count more)
 
-    pub block_more : ((m : M) → IsSound (state m)) → ((m n k : M) → Follows m n → Follows n k → Follows m k) → {done : Unit {0}}
-        → {block : List ℕ} {new : StoreValue M} (at size : ℕ) → at ≡ 512 * i → size ≡ 512 → 512 * (i + 1) ≤ length bytes
-        → length block ≡ length (take size (drop at bytes))
+    pub block_more : ((m n k : M) → Follows m n → Follows n k → Follows m k) → {done : Unit {0}} → {block : List ℕ} {new : StoreValue M}
+        → (at size : ℕ) → at ≡ 512 * i → size ≡ 512 → 512 * (i + 1) ≤ length bytes → length block ≡ length (take size (drop at bytes))
         → ReadsBlock state Follows (Ok done) (address + i) block mid new
         → HasRead state Follows address (i + 1) (put_mid at size bytes block) old new
-    block_more sound through {block = block} at size at_is size_is inside alike one =
+    block_more through {block = block} at size at_is size_is inside alike one =
         let keeps = keeps_more through {count = i + 1} (omega arith) one.keeps in
         let same = ap (λ (s : Cached). block_reads s (address + i)) read.keeps.stays in
         let so_far = λ (book : Book) (fits : FitsBook (state old.medium) old.cached book).
         put_block (array_of book) address i at size (512 * (i + 1)) bytes block at_is size_is refl inside alike
-        (read.so_far book fits) (one.ok book ((keeps_turn sound read.keeps).fits book fits)) in
+        (read.so_far book fits) (one.ok book (read.keeps.turn.fits book fits)) in
         grind (arith, keeps, read, one, same, reads_more old.cached address i, so_far)

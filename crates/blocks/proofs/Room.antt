@@ -1,18 +1,16 @@
 -- How room is made in the ring, and what that and a batch that becomes durable cost: calls, writes and flushes.
-use Rattle.std.specs.Prelude.{ℕ, suc, zero, List, length, Bool, []}
-use Rattle.std.proofs.Common.{◌≡◌, ◌⊎◌, ◌<◌, ◌≤◌, ◌+◌, ◌-◌, arith, refl, inl, inr, []}
-use Rattle.std.proofs.lemmas.Bool.Decides.{nat_tests}
+use Rattle.std.{specs.Prelude.{ℕ, suc, zero, List, length, Bool, []}, proofs.Common.{◌≡◌, ◌⊎◌, ◌<◌, ◌≤◌, ◌+◌, ◌-◌, arith, refl, inl, inr}}
+use Rattle.std.proofs.{Common.{[], ◌∷◌, true, false}, lemmas.Bool.Decides.nat_tests}
 use Rattle.medium.specs.{Medium.State, Sent.sent, declared.fault.MediumFault.TheVariants.Flush}
 use Rattle.journal.specs.{declared.log_format.LogFormat.TheVariants.Two, Places.limit_of}
 use Rattle.redo_log.specs.Value.{LogValue, HasRoom, IsStepped, IsRetireStepped, of_oldest, steps_of, turn_calls, turns_calls, turn_sends}
 use Rattle.redo_log.specs.Value.{turns_sends, turn_flushes, turns_flushes, next_step_flushes, steps_flushes, AllFirsts, begun, IsAway}
 use Rattle.redo_log.specs.Value.{IsSentHome, behind_oldest, ahead_of, next_calls, next_sends, sends_of_oldest, most_retire_sends}
 use Rattle.redo_log.specs.declared.progress.Progress.{Progress}
-use Rattle.blocks.specs.{Prepared.NeedsNoneAhead, StoreValue.wants}
-use Rattle.blocks.specs.Flushing.{left_flushes, room_flushes, finish_flushes, both_flushes}
-use Rattle.blocks.specs.Retiring.{oldest_retired, with_room, written_out, finished_with, finish_calls, ready_calls, HasSlots, made_ready}
-use Rattle.blocks.specs.Retiring.{both_calls, record_calls, calls_from, to_begin, with_spare, room_calls}
-use Rattle.blocks.specs.Ahead.{passed, sent_home, passed_calls, sent_calls, ahead_room, ahead_room_calls, gone_home, going_calls}
+use Rattle.blocks.specs.{Prepared.NeedsNoneAhead, StoreValue.wants, Flushing.{left_flushes, room_flushes, finish_flushes, both_flushes}}
+use Rattle.blocks.specs.Retiring.{oldest_retired, with_room, written_out, finished_from, finished_with, finish_calls, ready_calls, HasSlots}
+use Rattle.blocks.specs.{Retiring.{made_ready, both_calls, record_calls, calls_from, to_begin, with_spare, room_calls}, Ahead.passed}
+use Rattle.blocks.specs.Ahead.{sent_home, passed_calls, sent_calls, ahead_room, ahead_room_calls, gone_home, going_calls}
 
 -- ---- a count of calls, by how many each step makes
 
@@ -40,25 +38,16 @@ pub record IsFull (old mid : LogValue) : Type 0 where
   pub some : 1 ≤ old.ring
 
 module _ {old mid : LogValue} {before between : State} (f : IsFull old mid) (made : Retires old mid before between) where
-  -- its oldest record is not retired
-  still_full : (mid ≡ record old { retire_steps_left = mid.retire_steps_left; ahead = mid.ahead })
-      × Spends old.keeps (of_oldest mid) (of_oldest old) before between
-  still_full = grind (arith, f, made.so_far)
-
   -- one step more, good or refused
   pub retires_more : {new : LogValue} {after : State} → IsRetireStepped mid new
       → after.calls ≡ between.calls + turn_calls mid.keeps (of_oldest mid)
       → sent after ≤ sent between + turn_sends (of_oldest mid) → after.made Flush ≡ between.made Flush + turn_flushes (of_oldest mid)
       → Retires old new before after
-  retires_more {after = after} stepped calls sends flushes =
-      let so_far = still_full in
-      let spent : Spends old.keeps (of_oldest mid - 1) (of_oldest old) before after =
-      grind (arith, nat_tests, so_far.1, stepped.some, calls, sends, flushes) in
-      grind (arith, nat_tests, so_far.0, stepped, spent)
+  retires_more {after = after} stepped calls sends flushes = grind (arith, nat_tests, stepped, calls, sends, flushes)
 
   pub retires_refused : (after : State) → sent after ≤ sent between + turn_sends (of_oldest mid)
       → sent after ≤ sent before + turns_sends (of_oldest old)
-  retires_refused after sends = grind (arith, still_full, sends)
+  retires_refused after sends = grind (arith, sends)
 
 -- then there is room for one record: none is retired where a slot was free, and else the oldest
 pub retires_room : {old new : LogValue} {before after : State} → (HasRoom old → (new ≡ old) × (after ≡ before)) → HasRoom new
@@ -69,25 +58,17 @@ retires_room stays room made = grind (arith, nat_tests, stays, room, made.so_far
 -- ---- a record is written out
 
 -- one step more of the record under way, which is not its last, or is
-pub writes_more : (old mid new : LogValue) (progress : Progress) → IsStepped progress mid new → 0 < new.steps_left
+pub writes_on : (old : LogValue) {mid new : LogValue} (progress : Progress) → 0 < mid.steps_left → IsStepped progress mid new
     → mid ≡ record old { steps_left = mid.steps_left }
-    → (new ≡ record old { steps_left = new.steps_left }) × (new.steps_left + 1 ≡ mid.steps_left)
-writes_more old mid new progress stepped more same = grind (arith, nat_tests)
-
-pub writes_last : (old mid new : LogValue) (progress : Progress) → IsStepped progress mid new → new.steps_left ≡ 0
-    → mid ≡ record old { steps_left = mid.steps_left } → (new ≡ written_out old) × (mid.steps_left ≡ 1)
-writes_last old mid new progress stepped none same = grind (arith, nat_tests)
+    → (0 < new.steps_left → (new ≡ record old { steps_left = new.steps_left }) × (new.steps_left + 1 ≡ mid.steps_left))
+    × (new.steps_left ≡ 0 → (new ≡ written_out old) × (mid.steps_left ≡ 1)) × (left_flushes mid ≡ next_step_flushes mid + left_flushes new)
+writes_on old progress some stepped same = grind (arith, nat_tests, some, stepped, same)
 
 -- in format 2 the last step alone is a flush
 pub steps_once : (left : ℕ) → 0 < left → steps_flushes Two left ≡ 1
 steps_once zero some = absurd (omega (arith, some))
 steps_once (suc zero) some = refl
 steps_once (suc (suc left)) some = grind (arith, nat_tests, steps_once (suc left))
-
--- one step more
-pub flushes_step : (progress : Progress) (old new : LogValue) → 0 < old.steps_left → IsStepped progress old new
-    → left_flushes old ≡ next_step_flushes old + left_flushes new
-flushes_step progress old new some stepped = grind (arith, nat_tests)
 
 -- ---- a batch is durable
 
@@ -96,43 +77,33 @@ pub finishes_under_way : (ahead : Bool) (numbers : List ℕ) (firsts : List (Lis
     → written_out log ≡ finished_with ahead numbers firsts copy log
 finishes_under_way ahead numbers firsts copy log some = grind (arith, nat_tests)
 
--- with which bytes its blocks begin is told by what is kept of them alone
-pub but_firsts : (ahead : Bool) (numbers : List ℕ) (firsts : List (List ℕ)) (copy : List ℕ) (log : LogValue)
-    → finished_with ahead numbers firsts copy log
-    ≡ record (finished_with ahead numbers [] [] log) {
-      firsts = (finished_with ahead numbers firsts copy log).firsts;
-      copies = (finished_with ahead numbers firsts copy log).copies;
-    }
-but_firsts ahead numbers firsts copy log = grind (arith, nat_tests)
-
-pub finish_begun : (ahead : Bool) (numbers : List ℕ) (log : LogValue) → log.steps_left ≡ 0 → 0 < length numbers
-    → finish_calls ahead numbers log ≡ ready_calls ahead log + steps_of log.shape.format numbers
-finish_begun ahead numbers log idle some = grind (arith, nat_tests)
-
-pub flushes_begun : (numbers : List ℕ) (log : LogValue) → log.steps_left ≡ 0 → 0 < length numbers
-    → finish_flushes numbers log ≡ room_flushes log + steps_flushes log.shape.format (steps_of log.shape.format numbers)
-flushes_begun numbers log idle some = grind (arith, nat_tests)
-
-pub flushes_of : (ahead : Bool) (frozen active : List ℕ) (firsts : List (List ℕ)) (copy : List ℕ) (old mid : LogValue)
-    → mid ≡ finished_with ahead frozen firsts copy old
-    → finish_flushes active mid ≡ finish_flushes active (finished_with ahead frozen [] [] old)
-flushes_of ahead frozen active firsts copy old mid is = grind (arith, nat_tests)
+-- what that of a batch costs whose record is to be begun
+pub begun_costs : (ahead : Bool) (numbers : List ℕ) (log : LogValue) → log.steps_left ≡ 0 → 0 < length numbers
+    → (finish_calls ahead numbers log ≡ ready_calls ahead log + steps_of log.shape.format numbers)
+    × (finish_flushes numbers log ≡ room_flushes log + steps_flushes log.shape.format (steps_of log.shape.format numbers))
+begun_costs ahead numbers log idle some = grind (arith, nat_tests)
 
 -- where a slot is free a sync of one batch flushes once
 pub once : (ahead : Bool) (frozen active : List ℕ) (log : LogValue) → log.shape.format ≡ Two → HasRoom log → frozen ≡ []
     → 0 < length active → both_flushes ahead frozen active log ≡ 1
 once ahead frozen active log two room none some = grind (arith, nat_tests, steps_once)
 
--- ---- the calls of a batch do not depend on the bytes of the one before it, and none is made for room where slots are free
+-- ---- what a batch costs does not depend on the bytes of the one before it, and room costs nothing where slots are free
 
-calls_one : (ahead : Bool) (numbers : List ℕ) (log : LogValue) (k : AllFirsts) (c : List (List ℕ))
-    → finish_calls ahead numbers (record log { firsts = k; copies = c }) ≡ finish_calls ahead numbers log
-calls_one ahead numbers log k c = grind (arith, nat_tests)
+calls_one : (numbers : List ℕ) (log : LogValue) (k : AllFirsts) (c : List (List ℕ))
+    → finish_calls true numbers (record log { firsts = k; copies = c }) ≡ finish_calls true numbers log
+calls_one numbers log k c = grind (arith, nat_tests)
 
-pub calls_of : (ahead : Bool) (frozen active : List ℕ) (firsts : List (List ℕ)) (copy : List ℕ) (old mid : LogValue)
-    → mid ≡ finished_with ahead frozen firsts copy old
-    → finish_calls ahead active mid ≡ finish_calls ahead active (finished_with ahead frozen [] [] old)
-calls_of ahead frozen active firsts copy old mid is = grind (arith, nat_tests, but_firsts, calls_one)
+pub costs_behind : (ahead : Bool) (steps : ℕ) (frozen active : List ℕ) (firsts : List (List ℕ)) (copy : List ℕ) (log : LogValue)
+    → (finish_calls ahead active (finished_from ahead steps frozen firsts copy log)
+    ≡ finish_calls ahead active (finished_from ahead steps frozen [] [] log))
+    × (finish_flushes active (finished_from ahead steps frozen firsts copy log)
+    ≡ finish_flushes active (finished_from ahead steps frozen [] [] log))
+costs_behind true zero (n ∷ frozen) (m ∷ active) firsts copy log =
+    let new : LogValue = finished_from true 0 (n ∷ frozen) firsts copy log in
+    (calls_one (m ∷ active) (finished_from true 0 (n ∷ frozen) [] [] log) new.firsts new.copies, refl)
+costs_behind false zero (n ∷ frozen) (m ∷ active) firsts copy log = (refl, refl)
+costs_behind ahead steps frozen active firsts copy log = (refl, refl)
 
 -- the record of a batch is written behind a log that has room
 pub made_finished : (ahead : Bool) (numbers : List ℕ) (firsts : List (List ℕ)) (copy : List ℕ) (old mid new : LogValue) → old.steps_left ≡ 0
@@ -152,14 +123,10 @@ roomy_both ahead frozen active log slots = grind (arith, nat_tests)
 
 -- ---- room for a record, as a store makes it that goes ahead
 
--- what has room still has it
-pub still_room : (log : LogValue) → HasRoom log → HasRoom (sent_home (passed log))
-still_room log room = grind (arith, nat_tests)
-
--- a slot is free, or none is
-pub free_is : (log : LogValue) → log.next - log.head < log.ring → (ahead_room log ≡ sent_home (passed log))
+-- a slot is free, and so still, or none is
+pub free_is : (log : LogValue) → HasRoom log → HasRoom (sent_home (passed log)) × (ahead_room log ≡ sent_home (passed log))
     × (ahead_room_calls log ≡ passed_calls log + sent_calls (passed log)) × (room_flushes log ≡ 0)
-free_is log free = grind (arith, nat_tests)
+free_is log room = grind (arith, nat_tests)
 
 pub full_is : (log : LogValue) → (log.next - log.head < log.ring → ⊥) → (with_room log ≡ ahead_room log)
     × (room_calls log ≡ ahead_room_calls log)

@@ -1,17 +1,14 @@
 -- How records alone fill the ring of a store that goes ahead, how it stays steady, and what a record costs then.
-use Rattle.std.proofs.{lemmas.Bool.Decides.nat_tests, lemmas.List.Sums.sum_by-cons, lemmas.List.Sums.sum_by_push}
-use Rattle.std.proofs.Common.{◌≡◌, ◌⊎◌, ◌<◌, ◌≤◌, ◌+◌, ◌-◌, ◌*◌, arith, length-append}
-use Rattle.std.proofs.lemmas.List.Elements.{All-append, All-cons}
-use Rattle.std.specs.Prelude.{ℕ, zero, suc, List, [], ◌∷◌, ◌++◌, length, get_or, drop, sum_by, All, true, false, Bool}
+use Rattle.std.proofs.{Common.{rules, ◌≡◌, ◌⊎◌, ◌<◌, ◌≤◌, ◌+◌, ◌-◌, ◌*◌, arith, length-append}, lemmas.Bool.Decides.nat_tests}
+use Rattle.std.{proofs.lemmas.List.{Sums.{sum_by-cons, sum_by_push}, Elements.{All-append, All-cons}}, specs.Prelude.{ℕ, zero, suc, List}}
+use Rattle.std.specs.Prelude.{[], ◌∷◌, ◌++◌, length, drop, sum_by, All, true, false, Bool}
 use Rattle.medium.specs.Medium.{State}
 use Rattle.cache.specs.Entries.{Entries}
-use Rattle.redo_log.specs.Value.{LogValue, HasRoom, behind_oldest, of_oldest, ahead_of, home_calls, retire_steps_of, settled, begun}
-use Rattle.redo_log.specs.Value.{turns_calls}
-use Rattle.blocks.specs.{Started.IsStartedBy, StoreValue.Cached, StoreValue.firsts_in, declared.start.Keeping.Keeping}
-use Rattle.blocks.specs.Ahead.{oldest_retired, ahead_room, ahead_room_calls, may_go_by}
-use Rattle.blocks.specs.Retiring.{written_out, finished_with, finished, both_calls}
+use Rattle.redo_log.specs.Value.{LogValue, behind_oldest, of_oldest, ahead_of, home_calls, retire_steps_of, settled, begun, turns_calls}
+use Rattle.blocks.specs.{Started.IsStartedBy, StoreValue.{Cached, firsts_in}, declared.start.Keeping.Keeping, Ahead.oldest_retired}
+use Rattle.blocks.specs.{Ahead.{ahead_room, ahead_room_calls, may_go_by}, Retiring.{written_out, finished_with, finished, both_calls}}
 use Rattle.blocks.specs.Steady.{IsSteady, IsFilling, IsFuller, finished_each, ReachesSteady, second_of, steady_calls}
-use Rattle.blocks.proofs.Room.{finish_begun}
+use Rattle.blocks.proofs.Room.{begun_costs}
 
 -- ---- the records
 
@@ -41,11 +38,6 @@ pub behind_more : (w : List (List ℕ)) (numbers : List ℕ) → 0 < length w
 behind_more [] numbers some = absurd (omega (arith, some))
 behind_more (a ∷ rest) numbers some = sum_by_push retire_steps_of rest numbers
 
--- those of the next one, and those behind that
-second_owed : (w : List (List ℕ)) → 0 < length (get_or w 1 [])
-    → sum_by retire_steps_of (drop 1 w) ≡ (length (get_or w 1 []) + 2) + sum_by retire_steps_of (drop 1 (drop 1 w))
-second_owed w some = grind (arith, sum_by-cons retire_steps_of)
-
 -- ---- one record more
 
 -- the log with one record more, and the same log whose oldest record is home
@@ -63,9 +55,7 @@ finished_is numbers firsts copy log idle some = grind (arith, nat_tests)
 then_steady : (numbers : List ℕ) (firsts : List (List ℕ)) (copy : List ℕ) (log : LogValue) → log.under_way ≡ [] → 0 < length log.waiting
     → HaveBlocks log.waiting → 0 < length numbers → ((log.next + 1) - log.head) + 1 ≡ log.ring
     → IsSteady (with_more numbers firsts copy (home_of log))
-then_steady numbers firsts copy log under_way waits each some one_free =
-    let second = blocks_more log.waiting numbers each some 1 [] in
-    grind (arith, nat_tests, length-append log.waiting (numbers ∷ []), behind_more log.waiting numbers waits, second)
+then_steady numbers firsts copy log under_way waits each some one_free = grind (arith, nat_tests, length-append, behind_more, blocks_more)
 
 -- ---- a ring that fills
 
@@ -80,16 +70,13 @@ pub fills : (numbers : List ℕ) (firsts : List (List ℕ)) (copy : List ℕ) (l
     → 0 < length numbers → IsFuller log (finished_with true numbers firsts copy log)
     × HaveBlocks (finished_with true numbers firsts copy log).waiting × ((finished_with true numbers firsts copy log).ring ≡ log.ring)
 fills numbers firsts copy log f each some =
-    let is = finished_is numbers firsts copy log f.idle some in
-    let blocks = blocks_more log.waiting numbers each some in
-    let sum = sum_by_push retire_steps_of log.waiting numbers in
-    grind (arith, f, length-append log.waiting (numbers ∷ []), fills_room log f each, then_steady numbers firsts copy log f.none_under_way)
+    search (rules, arith, length-append, fills_room, then_steady, finished_is, blocks_more, sum_by_push)
 
 -- ---- a steady ring
 
 -- how many steps the next record still needs, once the oldest one is passed
 steady_left : (log : LogValue) → IsSteady log → of_oldest (oldest_retired (settled log)) ≡ length (second_of log) + 2
-steady_left log s = grind (arith, second_owed log.waiting)
+steady_left log s = grind (arith, sum_by-cons retire_steps_of)
 
 pub keeps_on : (numbers : List ℕ) (firsts : List (List ℕ)) (copy : List ℕ) (log : LogValue) → IsSteady log → HaveBlocks log.waiting
     → 0 < length numbers
@@ -101,11 +88,6 @@ keeps_on numbers firsts copy log s each some =
     (omega (arith, s.one_free)) in
     rw (finished_is numbers firsts copy log s.idle some, is) (steady, blocks_more (drop 1 log.waiting) numbers rest some)
 
--- whatever a batch is, it stays steady
-pub stays_on : (numbers : List ℕ) (firsts : List (List ℕ)) (copy : List ℕ) (log : LogValue) → IsSteady log → HaveBlocks log.waiting
-    → IsSteady (finished_with true numbers firsts copy log)
-stays_on numbers firsts copy log s each = grind (arith, keeps_on numbers firsts copy log s each)
-
 -- all steps of a record of count blocks
 all_calls : (keeps : Bool) (count : ℕ) → turns_calls keeps (count + 2) ≡ home_calls keeps * count + 3
 all_calls keeps zero = omega arith
@@ -114,15 +96,12 @@ all_calls true (suc count) = grind (arith, all_calls true count)
 
 -- room for the next record: the head, and one record's way home
 steady_room : (log : LogValue) → IsSteady log → ahead_room_calls log ≡ 1 + home_calls log.keeps * length (second_of log)
-steady_room log s = let left = steady_left log s in grind (arith, nat_tests, left, all_calls log.keeps (length (second_of log)))
-
-pub steady_roomy : (log : LogValue) → IsSteady log → HasRoom log
-steady_roomy log s = grind arith
+steady_room log s = grind (arith, nat_tests, steady_left, all_calls)
 
 -- a sync of one batch
 pub steady_sync : (numbers active : List ℕ) (log : LogValue) → IsSteady log → numbers ≡ [] → 0 < length active
     → both_calls true numbers active log ≡ steady_calls active log
-steady_sync numbers active log s none some = grind (arith, nat_tests, finish_begun true active log, steady_room log)
+steady_sync numbers active log s none some = grind (arith, nat_tests, begun_costs true active log, steady_room log)
 
 -- ---- many records
 
@@ -149,19 +128,12 @@ fills_each (batch ∷ batches) log f each blocks enough =
     keeps_each batches (finished true batch log) (one.0.full two) one.1 rest in
     grind (arith, f.two_free, fill, keep, one.0.one_more, one.2)
 
--- a ring that fills becomes steady, and stays so
-pub reaches : (log : LogValue) → IsFilling log → HaveBlocks log.waiting → log.waiting ≡ [] → ReachesSteady log
-reaches log f each empty batches blocks enough = grind (arith, fills_each batches log f each blocks)
-
 -- ---- a store that starts
 
 pub starts_filling : {keeping : Keeping} {before after : State} {s : Cached} → IsStartedBy keeping before after s
     → may_go_by s.log.shape.format s.log.ring ≡ true → IsFilling s.log
-starts_filling started may =
-    let some : 0 < started.next = omega (arith, started.stood.next_is) in grind (arith, nat_tests, started.log, may, some)
+starts_filling started may = grind (arith, nat_tests, started.log, may, started.stood.next_is)
 
 pub starts_reaching : {keeping : Keeping} {before after : State} {s : Cached} → IsStartedBy keeping before after s
     → may_go_by s.log.shape.format s.log.ring ≡ true → ReachesSteady s.log
-starts_reaching {s = s} started may =
-    let empty : s.log.waiting ≡ [] = grind (arith, started.log) in
-    reaches s.log (starts_filling started may) (rw empty (λ j d below. absurd (omega arith))) empty
+starts_reaching {s = s} started may batches blocks enough = grind (arith, nat_tests, HaveBlocks, fills_each, starts_filling)

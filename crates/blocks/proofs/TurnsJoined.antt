@@ -1,17 +1,15 @@
 -- Turns of a store follow one another, and what its calls pass on of them.
-use Rattle.std.proofs.Common.{◌≡◌, ℕ, inl, arith, ◌∙◌, refl, subst, Bool, true, false, ◌<◌, ◌+◌, ◌≤◌, ◌*◌, ap}
-use Rattle.std.proofs.lemmas.Bool.{cases_Bool}
-use Rattle.medium.specs.{Medium.State, Medium.IsSound, Sent.sent, Sent.SendsUpTo}
-use Rattle.medium.specs.Moments.{EachCut, LeavesOnly, IsQuiet, IsUnchanged, SparesFrom}
+use Rattle.std.proofs.Common.{rules}
+use Rattle.std.proofs.{Common.{◌≡◌, ℕ, inl, arith, ◌∙◌, refl, subst, Bool, true, false, ◌<◌, ◌+◌, ◌≤◌, ◌*◌, ap}, lemmas.Bool.cases_Bool}
+use Rattle.medium.specs.{Medium.{State, IsSound}, Sent.{sent, SendsUpTo}, Moments.{EachCut, LeavesOnly, IsQuiet, IsUnchanged}}
+use Rattle.medium.proofs.{Moments.{joined_same, weaker, quiet_leaves, quiet_start, unchanged_quiet}, SparedSectors.spared_joined}
+use Rattle.medium.proofs.SparedSectors.{spared_quiet}
 use Rattle.spec.specs.{Blocks.Write, Book.Book}
-use Rattle.medium.proofs.Moments.{joined_same, weaker, quiet_leaves, quiet_start, unchanged_quiet}
-use Rattle.medium.proofs.SparedSectors.{spared_joined, spared_quiet}
-use Rattle.journal.specs.Places.{Shape, sectors_of}
+use Rattle.journal.specs.Places.{sectors_of}
 use Rattle.redo_log.proofs.StoreFacts.{quiet_held}
-use Rattle.blocks.specs.{Finding.MayFind, Finding.Found, Turns.GoesOn, Turns.IsTurn, Turns.IsWriteTurn}
-use Rattle.blocks.specs.Passing.{IsUntouched, PassesOn, PassesPaid, KeepsMedium}
-use Rattle.blocks.specs.StoreValue.{Cached, layout_of, is_dead, FitsBook, steps_left, StoreValue}
-use Rattle.blocks.proofs.{BookTurns.moves, BookTurns.finds, SectorsRead.none, SectorsRead.looks_on}
+use Rattle.blocks.specs.{Finding.{MayFind, Found}, Turns.{GoesOn, IsTurn, IsWriteTurn}, Passing.{IsUntouched, PassesOn, PassesPaid}}
+use Rattle.blocks.specs.{Passing.KeepsMedium, StoreValue.{Cached, layout_of, is_dead, FitsBook, steps_left, StoreValue}}
+use Rattle.blocks.proofs.{BookTurns.{moves, finds}, SectorsRead.{none, looks_on}}
 
 -- what a cut leaves between two calls may be found
 pub exits : (m : State) (s : Cached) (book : Book) → FitsBook m s book → book.ours ≡ true → EachCut (MayFind m.size book) m
@@ -20,10 +18,7 @@ exits m s book f ours image cut = finds m s book f image (f.holds.leaves (f.ours
 -- what goes on twice goes on
 pub went_on : (before mid after : State) (old then new : Cached) → ((book : Book) → FitsBook before old book → FitsBook mid then book)
     → GoesOn before mid old then → GoesOn mid after then new → GoesOn before after old new
-went_on before mid after old then new fits first second =
-    let spares = spared_joined (sectors_of (layout_of old)) before mid after first.spares
-    (subst (λ (shape : Shape). SparesFrom (sectors_of shape) mid after) first.layout_stays second.spares) in
-    grind (arith, first, second, spares, fits, cases_Bool (is_dead then))
+went_on before mid after old then new fits first second = grind (arith, spared_joined, cases_Bool)
 
 -- one turn after another
 pub turns : (before mid after : State) (old then new : Cached) → IsTurn before mid old then → IsTurn mid after then new
@@ -52,15 +47,7 @@ stays m s sound = quiet_turn m m s sound (quiet_start m)
 pub untouched : {M : Type 0} {state : M → State} {m n : M} {s : Cached} {ahead : Bool} → IsSound (state m)
     → IsUnchanged (state m) (state n) → IsUntouched state (record { medium = m; cached = s; goes_ahead = ahead })
     (record { medium = n; cached = s; goes_ahead = ahead })
-untouched sound same =
-    record { unchanged = same; cached = refl; policy = refl; turn = quiet_turn _ _ _ sound (unchanged_quiet _ _ same) }
-
--- a turn that accepts no write
-pub not_written : (w : Write) (before after : State) (old new : Cached) → IsTurn before after old new
-    → IsWriteTurn w false before after old new
-not_written w before after old new turn =
-    let wider = λ (book : Book). weaker (MayFind before.size book) (Found before.size book w) before after (λ image found. inl found) in
-    record { fits = turn.fits; cuts = λ book f ours. wider book (turn.cuts book f ours); goes_on = turn.goes_on }
+untouched sound same = search (rules, arith, quiet_turn, unchanged_quiet)
 
 -- a turn, and then one that accepts a write
 pub then_written : (w : Write) (before mid after : State) (old then new : Cached) → IsTurn before mid old then
@@ -88,25 +75,18 @@ kept turn = record { turn = turn; medium = refl; policy = refl }
 -- one turn without a call, and then one that accepts a write
 pub written_on : {M : Type 0} {state : M → State} {w : Write} {old mid new : StoreValue M} → KeepsMedium state IsTurn old mid
     → KeepsMedium state (IsWriteTurn w true) mid new → KeepsMedium state (IsWriteTurn w true) old new
-written_on first last = let turn = then_written _ _ _ _ _ _ _ first.turn last.turn in grind (arith, turn, first, last)
-
--- both batches change places where no record is under way, and as many steps are left
-pub swapped_steps : (s : Cached) → s.log.steps_left ≡ 0 → steps_left (record s { active = s.frozen; frozen = s.active }) ≤ steps_left s
-swapped_steps s idle = grind (arith, idle)
+written_on first last = grind (arith, then_written, first, last)
 
 module _ {M : Type 0} {state : M → State} {Follows : M → M → Type 0} where
   -- no call was made
   pub kept_on : {Turn : State → State → Cached → Cached → Type 0} {most sends : ℕ} {old new : StoreValue M} → ((m : M) → Follows m m)
       → KeepsMedium state Turn old new → PassesOn state Follows Turn most sends old new
-  kept_on {old = old} {new = new} itself keeps =
-      let looks = none (state old.medium) (state new.medium) old.cached (ap (λ m. (state m).looked) keeps.medium) in
-      grind (arith, keeps, itself old.medium, looks)
+  kept_on {old = old} {new = new} itself keeps = grind (arith, none)
 
   -- and no step more is left
   pub kept_paid : {sends : ℕ} {old new : StoreValue M} → ((m : M) → Follows m m) → KeepsMedium state IsTurn old new
       → (is_dead new.cached ≡ false → steps_left new.cached ≤ steps_left old.cached) → PassesPaid state Follows sends old new
-  kept_paid {sends = sends} {old = old} {new = new} itself keeps fewer =
-      let on : PassesOn state Follows IsTurn 0 sends old new = kept_on itself keeps in grind (arith, on, fewer)
+  kept_paid {sends = sends} {old = old} {new = new} itself keeps fewer = search (rules, arith, kept_on)
 
   -- and then others were
   pub kept_then : {most sends : ℕ} {old mid new : StoreValue M} → KeepsMedium state IsTurn old mid
@@ -129,16 +109,20 @@ module _ {M : Type 0} {state : M → State} {Follows : M → M → Type 0} where
   pub paid_then : {first last all : ℕ} {old mid new : StoreValue M} → ((m n k : M) → Follows m n → Follows n k → Follows m k)
       → PassesPaid state Follows first old mid → is_dead mid.cached ≡ false → PassesPaid state Follows last mid new
       → SendsUpTo all (state old.medium) (state new.medium) → PassesPaid state Follows all old new
-  paid_then {old = old} {mid = mid} {new = new} through one live two sent =
-      let turn = turns _ _ _ _ _ _ one.turn two.turn in
-      let looks = looks_on _ _ _ old.cached mid.cached one.turn.goes_on one.looks two.looks in
-      grind (arith, turn, looks, through _ _ _ one.follows two.follows, one, live, two, sent)
+  paid_then {old = old} {mid = mid} {new = new} through one live two sent = search (rules, arith, turns, looks_on)
 
   -- as a write that is refused tells it, and one that takes place without a call
   pub paid_refused : {w : Write} {sends : ℕ} {old new : StoreValue M} → PassesPaid state Follows sends old new
       → PassesOn state Follows (IsWriteTurn w false) (2 * steps_left old.cached) sends old new
   paid_refused {w = w} {old = old} {new = new} paid =
-      let turn = not_written w (state old.medium) (state new.medium) old.cached new.cached paid.turn in grind (arith, paid, turn)
+      let before = state old.medium in
+      let after = state new.medium in
+      let wider = λ (book : Book). weaker (MayFind before.size book) (Found before.size book w) before after (λ image found. inl found) in
+      let turn : IsWriteTurn w false before after old.cached new.cached = record {
+        fits = paid.turn.fits;
+        cuts = λ book f ours. wider book (paid.turn.cuts book f ours);
+        goes_on = paid.turn.goes_on;
+      } in grind (arith, paid, turn)
 
   pub paid_written : {w : Write} {sends : ℕ} {old mid new : StoreValue M} → PassesPaid state Follows sends old mid
       → is_dead mid.cached ≡ false → KeepsMedium state (IsWriteTurn w true) mid new

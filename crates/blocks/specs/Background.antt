@@ -6,14 +6,12 @@ use Rattle.medium.specs.declared.fault.MediumFault.TheVariants.{Flush}
 use Rattle.cache.specs.Entries.{Entries}
 use Rattle.redo_log.specs.Value.{begun, died, IsStepped, IsRetireStepped, next_calls, next_sends}
 use Rattle.redo_log.specs.Value.{next_step_flushes, next_turn_flushes, LogValue, IsSentHome}
-use Rattle.redo_log.specs.Value.{pass_calls, HasRoom}
-use Rattle.redo_log.specs.declared.progress.Progress.{Progress}
-use Rattle.redo_log.specs.declared.progress.Progress.TheVariants.{More, Durable}
-use Rattle.blocks.specs.{Retiring.IsRoomy, Turns.IsTurn, Ahead.counted, Ahead.past}
-use Rattle.blocks.specs.declared.fault.StoreFault.{StoreFault}
-use Rattle.blocks.specs.StoreValue.{Cached, StoreValue, is_dead, active_of, unwritten, steps_left}
-use Rattle.blocks.specs.StoreValue.{firsts_in}
-use Rattle.blocks.specs.Passing.{PassesOn, KeepsMedium, TellsLife, MayEmpty, PassesPaid}
+use Rattle.redo_log.specs.Value.{pass_calls, HasRoom, most_steps}
+use Rattle.redo_log.specs.declared.progress.Progress.{Progress, TheVariants.{More, Durable}}
+use Rattle.blocks.specs.{Retiring.IsRoomy, Turns.IsTurn, Ahead.{counted, past}}
+use Rattle.blocks.specs.{declared.fault.StoreFault.StoreFault, StoreValue.{Cached, StoreValue}}
+use Rattle.blocks.specs.StoreValue.{layout_of, is_dead, unwritten, steps_left, firsts_in}
+use Rattle.blocks.specs.Passing.{PassesOn, KeepsMedium, TellsLife, PassesPaid}
 
 -- The medium refused one call, and the log is dead. The batches are as they were.
 pub record HasDied (before after : State) (old new : Cached) : Type 0 where
@@ -38,14 +36,6 @@ pub record IsRecordStep (before after : State) (old new : Cached) : Type 0 where
   pub live : is_dead new ≡ false
       → (after.failures ≡ before.failures) × (progress : Progress) × HasGoneOn progress old new
   pub dies : is_dead new ≡ true → HasDied before after old new
-
--- A step of the record under way leaves fewer of them, and that record has to be retired later. No
--- record is retired, and the active batch stays.
-pub record WritesOn (old new : Cached) : Type 0 where
-  pub falls : is_dead new ≡ false → steps_left new < steps_left old
-  pub waits : 0 < new.log.retire_steps_left
-  pub head : new.log.head ≡ old.log.head
-  pub active : new.active ≡ old.active
 
 -- The frozen batch comes first: the batches stay as they are. Where it is empty the active batch
 -- takes its place.
@@ -112,18 +102,11 @@ abbrev pub LeavesFewer : Cached → Cached → Type 0
 LeavesFewer old new =
     is_dead new ≡ false → (steps_left new < steps_left old) ⊎ (steps_left old ≡ 0)
 
--- each step leaves fewer of them, and where none is left, or the store is dead, nothing happens
-pub record CountsDown {M : Type 0} (old new : StoreValue M) : Type 0 where
-  pub left : LeavesFewer old.cached new.cached
-  pub rests : steps_left old.cached ≡ 0 → new ≡ old
-  pub dead : is_dead old.cached ≡ true → new ≡ old
-
 -- the active batch becomes the frozen one
 pub record Freezes {M : Type 0} (state : M → State) (old new : StoreValue M) : Type 0 where
   pub keeps : KeepsMedium state IsTurn old new
-  pub swapped : new.cached ≡ record old.cached {
-    active = old.cached.frozen;
-    frozen = old.cached.active;
+  pub is : new ≡ record old {
+    cached = record old.cached { active = old.cached.frozen; frozen = old.cached.active };
   }
 
 -- The record of the frozen batch is begun, which leaves fewer steps, and some of its own, or, where
@@ -142,26 +125,22 @@ pub record Begins {M : Type 0} (state : M → State) (result : Result (Unit {0})
   pub active : new.cached.active ≡ old.cached.active
   pub frozen : new.cached.frozen ≡ old.cached.frozen
   pub answer : TellsLife result new.cached
-  pub begun : OnOk result (0 < new.cached.log.steps_left)
-
--- the record of the next batch is begun, which leaves fewer steps
-pub record BeginsNext {M : Type 0} (state : M → State) (old new : StoreValue M) : Type 0 where
-  pub keeps : KeepsMedium state IsTurn old new
-  pub beginning : IsBeginning (state old.medium) (state new.medium) old.cached new.cached
-  pub falls : is_dead new.cached ≡ false → steps_left new.cached < steps_left old.cached
-  pub active : MayEmpty (active_of old.cached) (active_of new.cached)
+  pub begun : OnOk result ((0 < new.cached.log.steps_left)
+      × (new.cached.log.steps_left ≤ most_steps (layout_of old.cached).format))
 
 -- One step of the record under way is made, and told. Told that more are needed, some are left;
--- told durable, none is, and the batch is empty.
-pub record StepsOn {M : Type 0} (state : M → State) (Follows : M → M → Type 0)
-    (result : Result Progress StoreFault) (old new : StoreValue M) : Type 0 where
-  pub passes : PassesOn state Follows IsTurn 1 1 old new
-  pub record_step : IsRecordStep (state old.medium) (state new.medium) old.cached new.cached
-  pub answer : TellsLife result new.cached
-  pub more : result ≡ Ok More → 0 < new.cached.log.steps_left
-  pub durable : result ≡ Ok Durable
-      → (new.cached.log.steps_left ≡ 0) × (new.cached.frozen.numbers ≡ [])
-  pub writes : WritesOn old.cached new.cached
+-- told durable, none is, and the batch is empty. The step leaves fewer, and that record has to be
+-- retired later. No record is retired, and the active batch stays.
+pub record StepsOn (result : Result Progress StoreFault) (before after : State) (old new : Cached)
+    : Type 0 where
+  pub record_step : IsRecordStep before after old new
+  pub answer : TellsLife result new
+  pub more : result ≡ Ok More → 0 < new.log.steps_left
+  pub durable : result ≡ Ok Durable → (new.log.steps_left ≡ 0) × (new.frozen.numbers ≡ [])
+  pub falls : is_dead new ≡ false → steps_left new < steps_left old
+  pub waits : 0 < new.log.retire_steps_left
+  pub head : new.log.head ≡ old.log.head
+  pub active : new.active ≡ old.active
 
 -- One step of retiring is made, and told. Where no record waits it does nothing, and else it leaves
 -- fewer. No record is under way.
@@ -174,15 +153,6 @@ pub record RetiresOn {M : Type 0} (state : M → State) (Follows : M → M → T
   pub falls : 0 < length old.cached.log.waiting → is_dead new.cached ≡ false
       → steps_left new.cached < steps_left old.cached
   pub idle : new.cached.log.steps_left ≡ 0
-
--- one background step of a live store is made
-pub record WorksOn {M : Type 0} (state : M → State) (Follows : M → M → Type 0)
-    (old new : StoreValue M) : Type 0 where
-  pub passes : PassesOn state Follows IsTurn 2 2 old new
-  pub order : IsBackgroundStep old.goes_ahead (state old.medium) (state new.medium)
-      old.cached new.cached
-  pub left : LeavesFewer old.cached new.cached
-  pub active : MayEmpty (active_of old.cached) (active_of new.cached)
 
 -- ---- what the calls of a store do that make it go ahead
 
@@ -226,11 +196,15 @@ pub record GoesAhead (result : Result (Unit {0}) StoreFault) (is : LogValue) (co
   pub head : new.log.head ≤ old.log.head + most
   pub answer : TellsLife result new
 
+-- The flush of a record that became durable counts for the oldest one, where it covers that.
+abbrev pub with_counted : Cached → Cached
+with_counted s = record s { log = counted s.log }
+
 -- a flush is counted where it covers the oldest record, which leaves the medium and the life of the
 -- store as they are
 pub record SettlesFlush {M : Type 0} (state : M → State) (old new : StoreValue M) : Type 0 where
   pub keeps : KeepsMedium state IsTurn old new
-  pub log : new.cached.log ≡ counted old.cached.log
+  pub is : new ≡ record old { cached = with_counted old.cached }
   pub fewer : steps_left new.cached ≤ steps_left old.cached
   pub head : new.cached.log.head ≡ old.cached.log.head
   pub stays : StaysIdle old.cached new.cached

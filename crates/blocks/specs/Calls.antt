@@ -3,12 +3,11 @@ use Rattle.std.specs.Prelude.{◌≡◌, ℕ, ◌+◌, ◌*◌, ◌/◌, zero, s
 use Rattle.std.specs.Prelude.{◌≤◌, if◌then◌else◌, Result, OnOk, is_ok, IsOk}
 use Rattle.medium.specs.{Medium.State, Sent.SendsUpTo, declared.fault.MediumFault.TheVariants.Flush}
 use Rattle.cache.specs.Blocks.{is_listed}
-use Rattle.blocks.specs.{Book.IsTransfer, Retiring.finished, Retiring.finish_calls}
-use Rattle.blocks.specs.Flushing.{finish_flushes}
-use Rattle.blocks.specs.{Steady.IsSteady, declared.fault.StoreFault.StoreFault}
-use Rattle.blocks.specs.{OneBatch.SendsOneBatch, Sent.batch_sends, Turns.IsWriteTurn}
-use Rattle.blocks.specs.Headroom.{HasHeadroom, FlushesOnce}
-use Rattle.blocks.specs.Passing.{PassesOn, Answers}
+use Rattle.blocks.specs.{Book.IsTransfer, Retiring.{finished, finish_calls}}
+use Rattle.blocks.specs.{Flushing.finish_flushes, Steady.IsSteady}
+use Rattle.blocks.specs.{declared.fault.StoreFault.StoreFault, OneBatch.SendsOneBatch}
+use Rattle.blocks.specs.{Sent.batch_sends, Turns.IsWriteTurn, Headroom.{HasHeadroom, FlushesOnce}}
+use Rattle.blocks.specs.{Passing.{PassesOn, TellsLife}, Prepared.IsTakenAtOnce}
 use Rattle.blocks.specs.StoreValue.{Cached, StoreValue, FitsBeside, TakesRange, transfer_limit}
 use Rattle.blocks.specs.StoreValue.{active_of, blocks_of, batch_steps, steps_left, is_dead, wants}
 use Rattle.spec.specs.Blocks.{Write}
@@ -87,6 +86,15 @@ pub record WritesRange {A E : Type 0} (ahead : Bool) (result : Result A E) (addr
   -- and one with headroom keeps it
   pub headroom : ahead ≡ true → HasHeadroom old.log → OnOk result (HasHeadroom new.log)
 
+-- how a write of count blocks from this address on answers: as any, and, where its range is taken
+-- at once, by no call of the medium, and with Ok if the store is live
+pub record AnswersWrite {M A : Type 0} (result : Result A StoreFault) (address count : ℕ)
+    (old new : StoreValue M) : Type 0 where
+  pub answer : TellsLife result new.cached
+  pub dead : is_dead old.cached ≡ true → new ≡ old
+  pub quiet : IsTakenAtOnce old.cached address count
+      → (new.medium ≡ old.medium) × (is_dead old.cached ≡ false → IsOk result)
+
 -- A write whose range does not fit beside the active batch: the batch before that is made durable,
 -- the active one takes its place, and the range has one of its own.
 pub record WritesAlone {M A : Type 0} (state : M → State) (Follows : M → M → Type 0)
@@ -94,8 +102,7 @@ pub record WritesAlone {M A : Type 0} (state : M → State) (Follows : M → M �
     : Type 0 where
   pub passes : PassesOn state Follows (IsWriteTurn write (is_ok result)) (2 * steps_left old.cached)
       (batch_sends old.cached) old new
-  pub quiet : old.cached.frozen.numbers ≡ [] → (new.medium ≡ old.medium) × IsOk result
-  pub answers : Answers result old new
+  pub answers : AnswersWrite result address count old new
   pub batches : WritesRange old.goes_ahead result address count old.cached new.cached
   pub cost : CostsWrite old.goes_ahead result address count (state old.medium) (state new.medium)
       old.cached new.cached

@@ -5,14 +5,12 @@ use Rattle.medium.specs.{Medium.State, declared.fault.MediumFault.TheVariants.Fl
 use Rattle.journal.specs.declared.log_format.LogFormat.TheVariants.{Two}
 use Rattle.redo_log.specs.Value.{HasRoom, most_retire_sends}
 use Rattle.blocks.specs.{OneBatch.SendsOneBatch, Prepared.IsPrepared}
-use Rattle.blocks.specs.declared.fault.StoreFault.{StoreFault}
-use Rattle.blocks.specs.StoreValue.{Cached, StoreValue, layout_of, active_of, unwritten, wants}
-use Rattle.blocks.specs.StoreValue.{steps_left}
+use Rattle.blocks.specs.{declared.fault.StoreFault.StoreFault, StoreValue.{Cached, StoreValue}}
+use Rattle.blocks.specs.StoreValue.{layout_of, active_of, unwritten, wants, steps_left}
 use Rattle.blocks.specs.Passing.{MayEmpty, PassesPaid, TellsLife, Answers}
 use Rattle.blocks.specs.Retiring.{RetiresForRoom, finished, made_ready, written_out, HasSlots}
 use Rattle.blocks.specs.Retiring.{with_spare, to_begin, record_calls, calls_from, both_calls}
-use Rattle.blocks.specs.Retiring.{ready_calls}
-use Rattle.blocks.specs.Steady.{IsSteady, IsFilling, IsFuller, steady_calls}
+use Rattle.blocks.specs.{Retiring.ready_calls, Steady.{IsSteady, IsFilling, IsFuller, steady_calls}}
 use Rattle.blocks.specs.Headroom.{HasHeadroom, KeepsHeadroom, FlushesOnce, records_of}
 use Rattle.blocks.specs.Flushing.{left_flushes, room_flushes, both_flushes}
 
@@ -20,45 +18,37 @@ use Rattle.blocks.specs.Flushing.{left_flushes, room_flushes, both_flushes}
 abbrev pub Answer : Type 0
 Answer = Result (Unit {0}) StoreFault
 
--- Where Ok: the record under way is durable, and the frozen batch is empty. A record has to be
--- retired later, none is, and the active batch stays.
-pub record WritesOut (result : Answer) (old new : Cached) : Type 0 where
-  pub done : OnOk result ((new.log.steps_left ≡ 0) × (new.frozen.numbers ≡ []))
-  pub written : OnOk result (new.log ≡ written_out old.log)
-  pub waits : 0 < new.log.retire_steps_left
-  pub head : new.log.head ≡ old.log.head
-  pub active : new.active ≡ old.active
-
 -- The record under way is written out, by exactly the calls of its steps, and the flushes of these,
--- and that is told.
+-- and that is told. Where Ok it is durable, and the frozen batch is empty. A record has to be
+-- retired later, none is, and the active batch stays.
 pub record WritesRecord {M : Type 0} (state : M → State) (Follows : M → M → Type 0)
     (result : Answer) (old new : StoreValue M) : Type 0 where
   pub passes : PassesPaid state Follows old.cached.log.steps_left old new
   pub answer : TellsLife result new.cached
-  pub batch : WritesOut result old.cached new.cached
+  pub done : OnOk result ((new.cached.log.steps_left ≡ 0) × (new.cached.frozen.numbers ≡ []))
+  pub written : OnOk result (new.cached.log ≡ written_out old.cached.log)
+  pub waits : 0 < new.cached.log.retire_steps_left
+  pub head : new.cached.log.head ≡ old.cached.log.head
+  pub active : new.cached.active ≡ old.cached.active
   pub exactly : OnOk result ((state new.medium).calls
       ≡ (state old.medium).calls + old.cached.log.steps_left)
   pub flushes : OnOk result ((state new.medium).made Flush
       ≡ (state old.medium).made Flush + left_flushes old.cached.log)
 
--- Where Ok the log has room: nothing is retired for it but the oldest record, and that only where
--- there was none, or where the store goes ahead. Both batches stay.
-pub record MakesRoom {M : Type 0} (ahead : Bool) (result : Answer) (old new : StoreValue M)
-    : Type 0 where
+-- Room is made, by retiring alone or as a store does that goes ahead, by exactly the calls and the
+-- flushes for that, with all that a turn promises, and that is told. Nothing is retired for it but
+-- the oldest record, and that only where there was none, or where the store goes ahead. Both
+-- batches stay.
+pub record MakesReady {M : Type 0} (state : M → State) (Follows : M → M → Type 0) (ahead : Bool)
+    (result : Answer) (old new : StoreValue M) : Type 0 where
+  pub passes : PassesPaid state Follows (most_retire_sends (layout_of old.cached).format) old new
+  pub answer : TellsLife result new.cached
   pub retires : RetiresForRoom ahead old.cached.log new.cached.log
   pub room : OnOk result (HasRoom new.cached.log)
   pub made : OnOk result (new.cached.log ≡ made_ready ahead old.cached.log)
   pub quiet : IsPrepared ahead old.cached.log → new.medium ≡ old.medium
   pub active : new.cached.active ≡ old.cached.active
   pub frozen : new.cached.frozen ≡ old.cached.frozen
-
--- Room is made, by retiring alone or as a store does that goes ahead, by exactly the calls and the
--- flushes for that, with all that a turn promises, and that is told.
-pub record MakesReady {M : Type 0} (state : M → State) (Follows : M → M → Type 0) (ahead : Bool)
-    (result : Answer) (old new : StoreValue M) : Type 0 where
-  pub passes : PassesPaid state Follows (most_retire_sends (layout_of old.cached).format) old new
-  pub answer : TellsLife result new.cached
-  pub room : MakesRoom ahead result old new
   pub cost : OnOk result ((state new.medium).calls
       ≡ (state old.medium).calls + ready_calls ahead old.cached.log)
   pub flushed : OnOk result ((state new.medium).made Flush

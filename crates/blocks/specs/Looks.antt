@@ -13,11 +13,7 @@ LooksAtLog before after s = LooksOnly (IsReadBack s.log) before after
 abbrev pub IsHomeOf : ℕ → ℕ → ℕ → ℕ → Type 0
 IsHomeOf home address count sector = (home + address ≤ sector) × (sector < home + address + count)
 
--- a sector of the log, or such a home
-abbrev pub IsLogOrHome : ℕ → ℕ → ℕ → ℕ → Type 0
-IsLogOrHome home address count sector = (sector < home) ⊎ IsHomeOf home address count sector
-
--- the same of a store that reads its log back, and such a home alone where it keeps
+-- a sector of the log where that is read back, or such a home
 abbrev pub IsReadFor : Cached → ℕ → ℕ → ℕ → Type 0
 IsReadFor s address count sector =
     IsReadBack s.log sector ⊎ IsHomeOf (first_home (layout_of s)) address count sector

@@ -2,10 +2,9 @@
 -- answer.
 use Rattle.std.specs.Prelude.{◌≡◌, ◌⊎◌, ℕ, ◌+◌, ◌≤◌, true, false, List, [], Result, Err, IfErr}
 use Rattle.std.specs.Prelude.{MatchResult}
-use Rattle.medium.specs.{Medium.State, Moments.IsQuiet, Moments.IsUnchanged, Sent.SendsUpTo}
-use Rattle.blocks.specs.{declared.fault.StoreFault.StoreFault}
-use Rattle.blocks.specs.{declared.fault.StoreFault.TheVariants.Dead, Looks.LooksAtLog}
-use Rattle.blocks.specs.{Looks.LooksAtBlocks, Turns.IsTurn, Turns.IsReadCause, Turns.IsPaid}
+use Rattle.medium.specs.{Medium.State, Moments.{IsQuiet, IsUnchanged}, Sent.SendsUpTo}
+use Rattle.blocks.specs.{declared.fault.StoreFault.{StoreFault, TheVariants.Dead}, Looks.LooksAtLog}
+use Rattle.blocks.specs.{Looks.LooksAtBlocks, Turns.{IsTurn, IsReadCause, IsPaid}}
 use Rattle.blocks.specs.StoreValue.{Cached, StoreValue, is_dead}
 
 -- A call makes a turn of this kind, and at most `most` calls of the medium, with at most `sends`
@@ -52,11 +51,13 @@ TellsLife result s =
     MatchResult result (λ _. is_dead s ≡ false) (λ fault. (fault ≡ Dead) × (is_dead s ≡ true))
 
 -- A call writes nothing: what the store keeps stays, no content changes, and nothing else may be
--- left by a cut. The medium comes after what it was, by calls alone, of which each read names a
--- sector of the log where that is read back, or the home of one of count blocks from an address on.
+-- left by a cut. It is a turn. The medium comes after what it was, by calls alone, of which each
+-- read names a sector of the log where that is read back, or the home of one of count blocks from
+-- an address on.
 pub record KeepsStore {M : Type 0} (state : M → State) (Follows : M → M → Type 0)
     (address count : ℕ) (old new : StoreValue M) : Type 0 where
   pub stays : new.cached ≡ old.cached
+  pub turn : IsTurn (state old.medium) (state new.medium) old.cached new.cached
   pub quiet : IsQuiet (state old.medium) (state new.medium)
   pub follows : Follows old.medium new.medium
   pub looks : LooksAtBlocks (state old.medium) (state new.medium) old.cached address count

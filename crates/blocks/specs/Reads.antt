@@ -1,15 +1,14 @@
 -- What the calls of a store do that read blocks for a caller.
-use Rattle.std.specs.Prelude.{◌≡◌, ◌⊎◌, ◌≤◌, ◌+◌, ◌*◌, ◌^◌, ℕ, false, List, [], length}
-use Rattle.std.specs.Prelude.{Option, Some, None, Result, Ok, Err, OnOk, IfErr, IfSome, IsNone}
-use Rattle.std.specs.Borrow.{Bor}
+use Rattle.std.specs.Prelude.{◌≡◌, ◌⊎◌, ◌≤◌, ◌+◌, ◌*◌, ◌^◌, ℕ, false, List, [], Some, None, Result}
+use Rattle.std.specs.Prelude.{Ok, Err, OnOk, IfErr}
 use Rattle.medium.specs.{Medium.State, declared.fault.MediumFault.MediumFault}
 use Rattle.redo_log.specs.Value.{HasNoCopy}
 use Rattle.cache.specs.{Blocks.unlisted, Entries.map_of, Places.HasPlace}
 use Rattle.spec.specs.Book.{Book, array_of, blocks_at}
-use Rattle.blocks.specs.{declared.fault.StoreFault.StoreFault, Calls.block_reads, Calls.reads_of}
-use Rattle.blocks.specs.declared.fault.StoreFault.TheVariants.{ReadFault}
-use Rattle.blocks.specs.{Calls.CostsReads, Passing.KeepsStore, Turns.IsTurn, Turns.IsReadCause}
-use Rattle.blocks.specs.StoreValue.{Cached, StoreValue, blocks_of, is_dead, FitsBook}
+use Rattle.blocks.specs.{declared.fault.StoreFault.StoreFault, Calls.{block_reads, reads_of}}
+use Rattle.blocks.specs.{Calls.CostsReads, declared.fault.StoreFault.TheVariants.ReadFault}
+use Rattle.blocks.specs.{Passing.KeepsStore, Turns.IsReadCause, StoreValue.{Cached, StoreValue}}
+use Rattle.blocks.specs.StoreValue.{blocks_of, is_dead, FitsBook}
 
 -- the store is live, and has count blocks from an address on, which have so many bytes
 pub record AreReadable (s : Cached) (address count bytes : ℕ) : Type 0 where
@@ -31,13 +30,6 @@ IsInBatch s block bytes = (map_of s.active block ≡ Some bytes)
 -- no batch has the block
 abbrev pub IsInNone : Cached → ℕ → Type 0
 IsInNone s block = (map_of s.active block ≡ None) × (map_of s.frozen block ≡ None)
-
--- a look into the batches gives the 512 bytes of a block, the newest ones, or none where no batch
--- has it
-pub record GetsNewest (s : Cached) (block : ℕ) (result : Option (Bor (List ℕ))) : Type 0 where
-  pub some : IfSome result (λ bytes. IsInBatch s block bytes.now)
-  pub size : IfSome result (λ bytes. length bytes.now ≡ 512)
-  pub none : IsNone result → IsInNone s block
 
 -- the block is at home alone: no batch has it, nor a record that waits to be retired
 pub record IsAtHome (s : Cached) (block : ℕ) : Type 0 where
@@ -84,6 +76,5 @@ pub record ReadsBlocks {M : Type 0} (state : M → State) (Follows : M → M →
   pub err : IfErr result (λ fault. IsReadCause (state old.medium) (state new.medium)
       old.cached fault)
   pub keeps : KeepsStore state Follows address count old new
-  pub turn : IsTurn (state old.medium) (state new.medium) old.cached new.cached
   pub cost : CostsReads result count (reads_of old.cached address count)
       (state old.medium) (state new.medium)

@@ -1,26 +1,22 @@
 -- How a store starts.
 use Rattle.std.specs.Prelude.{◌≡◌, ◌⊎◌, ℕ, ◌+◌, ◌*◌, ◌^◌, ◌<◌, ◌≤◌, Bool, true, false, [], min, max}
 use Rattle.std.specs.Prelude.{◌&&◌}
-use Rattle.medium.specs.Medium.{State, Image}
-use Rattle.medium.specs.Moments.{EachCut, LeavesOnly, IsFlushed}
-use Rattle.spec.specs.{Blocks.Array, Book.Book, Book.opened}
-use Rattle.journal.specs.{Places.Shape, declared.super_sector.Super.Super}
-use Rattle.journal.specs.Standing.{StandsFor, IsOurs, HasShape}
-use Rattle.recovery.specs.{Causes.IsCause, Causes.IsDeviceFault, Calls.most_start_of}
+use Rattle.medium.specs.{Medium.{State, Image}, Moments.{EachCut, LeavesOnly, IsFlushed}}
+use Rattle.spec.specs.{Blocks.Array, Book.{Book, opened}}
+use Rattle.journal.specs.{Places.Shape, declared.super_sector.Super.Super, Standing.StandsFor}
+use Rattle.journal.specs.Standing.{IsOurs, HasShape}
+use Rattle.recovery.specs.{Causes.{IsCause, IsDeviceFault}, Calls.most_start_of}
 use Rattle.recovery.specs.Recovered.{IsRecoveredFrom, IsOursForSome, IsOursWithNext, StandsForOneOf}
 use Rattle.recovery.specs.Recovered.{RecoverySends, SparesTheRest}
 use Rattle.recovery.specs.declared.recovered.Recovered.{Recovered}
-use Rattle.recovery.specs.declared.start_fault.StartFault.{StartFault}
-use Rattle.recovery.specs.declared.start_fault.StartFault.TheVariants.{NoMemory}
-use Rattle.recovery.specs.Calls as recovery
+use Rattle.recovery.specs.declared.start_fault.StartFault.{StartFault, TheVariants.NoMemory}
 use Rattle.redo_log.specs.Value.{LogValue, empty_from}
-use Rattle.blocks.specs.declared.start.Keeping.{Keeping}
-use Rattle.blocks.specs.declared.start.Keeping.TheVariants.{ReadBack, Kept}
-use Rattle.blocks.specs.{Ahead.may_go_ahead, Ahead.may_go_by, Headroom.HasHeadroom}
-use Rattle.blocks.specs.{Steady.IsFilling, Steady.ReachesSteady, Finding.MayFind}
-use Rattle.blocks.specs.{Kept.Invariant, Opening.OpensOn}
+use Rattle.blocks.specs.declared.start.Keeping.{Keeping, TheVariants.{ReadBack, Kept}}
+use Rattle.blocks.specs.{Ahead.{may_go_ahead, may_go_by}, Headroom.HasHeadroom, Steady.IsFilling}
+use Rattle.blocks.specs.{Steady.ReachesSteady, Finding.MayFind, Kept.Invariant, Opening.OpensOn}
 use Rattle.blocks.specs.StoreValue.{Cached, layout_of, blocks_of, is_dead, active_of, steps_left}
 use Rattle.blocks.specs.StoreValue.{FitsBook, StoreValue, slots_of}
+use Rattle.recovery.specs.Calls as recovery
 
 -- how many records may stand at once in a log of so many slots, one at least, and whether their
 -- blocks are kept

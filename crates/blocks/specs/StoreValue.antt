@@ -2,12 +2,11 @@
 use Rattle.std.specs.Prelude.{◌≡◌, ◌⊎◌, ◌↔◌, ℕ, ◌+◌, ◌*◌, ◌^◌, ◌≤◌, ◌<◌, zero, suc, Bool, List, []}
 use Rattle.std.specs.Prelude.{◌∷◌, length}
 use Rattle.medium.specs.Medium.{State}
-use Rattle.cache.specs.Blocks.{over, Listed, unlisted, InRange}
-use Rattle.cache.specs.Entries.{Entries, map_of}
-use Rattle.journal.specs.{Places.Shape, Places.limit_of, Format2.firsts_of}
-use Rattle.redo_log.specs.Value.{LogValue, most_steps, most_retire_steps, entries_of}
-use Rattle.redo_log.specs.Held.{View, HoldsView}
-use Rattle.spec.specs.{Blocks.Array, Book.Book, Book.after_first, Book.array_of}
+use Rattle.cache.specs.{Blocks.{over, Listed, unlisted, InRange}, Entries.{Entries, map_of}}
+use Rattle.journal.specs.{Places.{Shape, limit_of}, Format2.firsts_of}
+use Rattle.redo_log.specs.{Value.{LogValue, most_steps, most_retire_steps, entries_of}, Held.View}
+use Rattle.redo_log.specs.Held.{HoldsView}
+use Rattle.spec.specs.{Blocks.Array, Book.{Book, after_first, array_of}}
 use Rattle.blocks.specs.Book.{Same}
 
 -- what a store keeps in memory

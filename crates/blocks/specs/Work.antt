@@ -3,18 +3,14 @@ use Rattle.std.specs.Prelude.{◌≡◌, ◌⊎◌, ◌<◌, ◌≤◌, Bool, tr
 use Rattle.medium.specs.{Medium.State, Moments.IsUnchanged}
 use Rattle.medium.specs.declared.fault.MediumFault.TheVariants.{Flush}
 use Rattle.redo_log.specs.Value.{LogValue, HasRoom, CanPass, IsAway}
-use Rattle.blocks.specs.{declared.work.Work.Work, declared.fault.StoreFault.StoreFault}
-use Rattle.blocks.specs.{Ahead.counted, Turns.IsTurn, Retiring.HasSlots, Written.IsWritten}
+use Rattle.blocks.specs.declared.{work.Work.Work, fault.StoreFault.StoreFault}
+use Rattle.blocks.specs.Background.{with_counted, IsBackgroundStep, HasDied, LeavesFewer, MayBegin}
+use Rattle.blocks.specs.Background.{IsBeginning, IsRecordStep, IsRetiring, PassesHead, BringsHome}
+use Rattle.blocks.specs.{Turns.IsTurn, Retiring.HasSlots, Written.IsWritten}
 use Rattle.blocks.specs.declared.work.Work.TheVariants.{Settle, Ahead, WriteBack}
-use Rattle.blocks.specs.Background.{IsBackgroundStep, HasDied, LeavesFewer, MayBegin, IsBeginning}
-use Rattle.blocks.specs.Background.{IsRecordStep, IsRetiring, PassesHead, BringsHome}
-use Rattle.blocks.specs.Headroom.{KeepsHeadroom, FlushesOnce}
-use Rattle.blocks.specs.Passing.{PassesOn, TellsLife, MayEmpty}
-use Rattle.blocks.specs.StoreValue.{Cached, StoreValue, is_dead, active_of, steps_left}
-
--- The flush of a record that became durable counts for the oldest one, where it covers that.
-abbrev pub with_counted : Cached → Cached
-with_counted s = record s { log = counted s.log }
+use Rattle.blocks.specs.{Headroom.{KeepsHeadroom, FlushesOnce}, Passing.{PassesOn, TellsLife}}
+use Rattle.blocks.specs.{Passing.MayEmpty, StoreValue.{Cached, StoreValue, is_dead, active_of}}
+use Rattle.blocks.specs.StoreValue.{steps_left}
 
 -- What a step ahead does once a flush is counted. Where the head may go past the oldest record it
 -- does, by one write; where blocks of that record are away, one more goes home; and else nothing is
@@ -98,6 +94,10 @@ pub record CountsBy {M : Type 0} (work : Work) (old new : StoreValue M) : Type 0
   pub left : LeavesBy work old.cached new.cached
   pub rests : steps_left old.cached ≡ 0 → new ≡ old
   pub dead : is_dead old.cached ≡ true → new ≡ old
+
+-- so does a step towards rest
+abbrev pub CountsDown : {M : Type 0} → StoreValue M → StoreValue M → Type 0
+CountsDown old new = CountsBy Settle old new
 
 -- the store is live, and no record is under way
 pub record IsIdle (s : Cached) : Type 0 where

@@ -1,15 +1,18 @@
 //! The background work, one step at a time.
 ghost use Rattle.std.specs.Prelude.{◌≡◌, ◌⊎◌, ◌↔◌, ◌<◌, ◌≤◌, true, false, [], length, IsTrue};
 ghost use Rattle.blocks.specs.StoreValue.{is_dead, active_of, unwritten, steps_left};
+ghost use Rattle.blocks.specs.StoreValue.{layout_of};
+ghost use Rattle.redo_log.specs.Value.{most_steps};
 ghost use Rattle.blocks.specs.Headroom.{KeepsHeadroom};
 ghost use Rattle.blocks.specs.Retiring.{HasSpare};
 ghost use Rattle.blocks.specs.Turns.{IsTurn};
-ghost use Rattle.blocks.specs.Passing.{PassesOn, MayEmpty};
-ghost use Rattle.blocks.specs.Background.{IsBackgroundStep, CountsDown, WorksOn, BeginsNext};
+ghost use Rattle.blocks.specs.Passing.{PassesOn, MayEmpty, KeepsMedium};
+ghost use Rattle.blocks.specs.Background.{IsBackgroundStep, IsBeginning};
 ghost use Rattle.blocks.specs.Background.{Freezes, Begins, StepsOn, RetiresOn, MayBegin};
 ghost use Rattle.blocks.specs.Background.{MayBeginNow, IsUnderWay};
 ghost use Rattle.blocks.specs.Calls.{CanBegin};
-ghost use Rattle.blocks.specs.Work.{IsIdle};
+ghost use Rattle.blocks.specs.Work.{IsIdle, CountsDown, WorksBy};
+ghost use Rattle.blocks.specs.declared.work.Work.TheVariants.{Settle};
 
 use crate::{Store, StoreFault};
 use medium::Medium;
@@ -39,9 +42,10 @@ impl<M: Medium> Store<M> {
     #[inline(never)]
     fn go_on(&mut self)
         requires live { is_dead self.old.cached ≡ false }
-        ensures { WorksOn M.state M.follows self.old self.new }
+        requires some { 0 < steps_left self.old.cached }
+        ensures { WorksBy M.state M.follows Settle self.old self.new }
     {
-        if self.writing {
+        if self.is_writing() {
             let _ = self.step();
             return;
         }
@@ -50,6 +54,17 @@ impl<M: Medium> Store<M> {
             return;
         }
         let _ = self.retire();
+    }
+
+    /// Whether the record of the frozen batch is under way. Of a dead store it is not told.
+    pub(crate) fn is_writing(&self) -> bool
+        ensures begun { is_dead self.now.cached ≡ false → result ≡ true
+            → (0 < self.now.cached.log.steps_left) × (0 < length self.now.cached.frozen.numbers)
+            × (self.now.cached.log.steps_left ≤ most_steps (layout_of self.now.cached).format) }
+        ensures rests { is_dead self.now.cached ≡ false → result ≡ false
+            → self.now.cached.log.steps_left ≡ 0 }
+    {
+        self.writing
     }
 
     // Whether a record may be begun: the log has room, and a batch holds blocks. A store that goes
@@ -77,7 +92,11 @@ impl<M: Medium> Store<M> {
     /// Begins the frozen batch, or the active one in its place.
     pub(crate) fn begin_next(&mut self) -> Result<(), StoreFault>
         requires { MayBeginNow self.old.cached (unwritten self.old.cached) }
-        ensures { BeginsNext M.state self.old self.new }
+        ensures keeps { KeepsMedium M.state IsTurn self.old self.new }
+        ensures beginning { IsBeginning (M.state self.old.medium) (M.state self.new.medium)
+            self.old.cached self.new.cached }
+        ensures falls { is_dead self.new.cached ≡ false
+            → steps_left self.new.cached < steps_left self.old.cached }
     {
         if self.frozen.is_empty() {
             self.freeze();
@@ -111,7 +130,9 @@ impl<M: Medium> Store<M> {
     /// Makes one step of the record under way.
     pub(crate) fn step(&mut self) -> Result<Progress, StoreFault>
         requires { IsUnderWay self.old.cached }
-        ensures { StepsOn M.state M.follows result self.old self.new }
+        ensures passes { PassesOn M.state M.follows IsTurn 1 1 self.old self.new }
+        ensures steps { StepsOn result (M.state self.old.medium) (M.state self.new.medium)
+            self.old.cached self.new.cached }
     {
         let numbers = self.frozen.numbers();
         match self

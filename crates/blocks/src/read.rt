@@ -1,13 +1,14 @@
 //! How blocks are read.
 ghost use Rattle.std.specs.Prelude.{◌≡◌, ◌+◌, ◌*◌, ◌/◌, ◌^◌, ◌≤◌, length, IsTrue, OnOk};
+ghost use Rattle.std.specs.Prelude.{IfSome, IsNone};
 ghost use Rattle.spec.specs.Book.{Book, array_of, blocks_at};
 ghost use Rattle.blocks.specs.Book.{IsTransfer};
 ghost use Rattle.blocks.specs.StoreValue.{blocks_of, transfer_limit, FitsBook};
-ghost use Rattle.blocks.specs.Turns.{IsTurn};
 ghost use Rattle.blocks.specs.Passing.{KeepsStore, RefusesRead};
 ghost use Rattle.blocks.specs.Calls.{reads_of, CostsReads};
 ghost use Rattle.blocks.specs.Reads.{AreReadable, HasPlaces, IsAtHome, AreAtHome};
-ghost use Rattle.blocks.specs.Reads.{ReadsBlock, ReadsNext, ReadsBlocks, GetsNewest, told};
+ghost use Rattle.blocks.specs.Reads.{ReadsBlock, ReadsNext, ReadsBlocks, IsInBatch, IsInNone};
+ghost use Rattle.blocks.specs.Reads.{told};
 
 use crate::{Store, StoreFault};
 use cache::BLOCK;
@@ -29,8 +30,6 @@ impl<M: Medium> Store<M> {
         ensures refuses { RefusesRead M.state result self.old self.new }
         ensures keeps { KeepsStore M.state M.follows address (length to.old / 512)
             self.old self.new }
-        ensures turn { IsTurn (M.state self.old.medium) (M.state self.new.medium)
-            self.old.cached self.new.cached }
         // It reads no block twice, and makes no call for a block that a batch has, or that the log
         // keeps.
         ensures cost { CostsReads result (2 * (length to.old / 512))
@@ -94,7 +93,9 @@ impl<M: Medium> Store<M> {
     #[inline]
     fn get_newest(&self, block: u64, active: &mut usize, frozen: &mut usize) -> Option<&[u8]>
         requires { HasPlaces self.now.cached block active.old frozen.old }
-        ensures gets { GetsNewest self.now.cached block result }
+        ensures some { IfSome result (λ bytes. IsInBatch self.now.cached block bytes.now) }
+        ensures size { IfSome result (λ bytes. length bytes.now ≡ 512) }
+        ensures none { IsNone result → IsInNone self.now.cached block }
         ensures next { HasPlaces self.now.cached (block + 1) active.new frozen.new }
     {
         let older = self.frozen.get_at(frozen, block);

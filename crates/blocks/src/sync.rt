@@ -59,10 +59,10 @@ impl<M: Medium> Store<M> {
         if self.is_dead() {
             return Err(StoreFault::Dead);
         }
-        if self.writing {
+        if self.is_writing() {
             return self.write_out();
         }
-        if self.frozen.is_empty() {
+        if self.has_free_batch() {
             return Ok(());
         }
         self.make_ready()?;

@@ -38,7 +38,7 @@ impl<M: Medium> Store<M> {
     fn work_ahead(&mut self)
         ensures { WorksBy M.state M.follows Ahead self.old self.new }
     {
-        if !self.goes_ahead || self.writing || self.is_dead() {
+        if !self.goes_ahead || self.is_writing() || self.is_dead() {
             return;
         }
         self.count_flush();

@@ -1,14 +1,12 @@
 //! How writes are accepted.
-ghost use Rattle.std.specs.Prelude.{◌≡◌, ◌≤◌, ◌+◌, ◌*◌, ◌/◌, true, false, length, OnOk, IsOk};
-ghost use Rattle.std.specs.Prelude.{is_ok};
+ghost use Rattle.std.specs.Prelude.{◌*◌, ◌/◌, true, length, is_ok};
 ghost use Rattle.blocks.specs.Book.{IsTransfer};
 ghost use Rattle.spec.specs.Book.{write_of};
-ghost use Rattle.blocks.specs.StoreValue.{blocks_of, transfer_limit, is_dead, steps_left};
+ghost use Rattle.blocks.specs.StoreValue.{blocks_of, transfer_limit, steps_left};
 ghost use Rattle.blocks.specs.Turns.{IsWriteTurn};
 ghost use Rattle.blocks.specs.Sent.{batch_sends};
-ghost use Rattle.blocks.specs.Passing.{PassesOn, KeepsMedium, Answers};
-ghost use Rattle.blocks.specs.Prepared.{IsTakenAtOnce};
-ghost use Rattle.blocks.specs.Calls.{WritesRange, AppendsRange, CostsWrite};
+ghost use Rattle.blocks.specs.Passing.{PassesOn, KeepsMedium};
+ghost use Rattle.blocks.specs.Calls.{WritesRange, AppendsRange, CostsWrite, AnswersWrite};
 ghost use Rattle.blocks.specs.Calls.{WritesAlone, HasToTakeAlone, TakesBeside};
 
 use crate::{Store, StoreFault};
@@ -33,12 +31,9 @@ impl<M: Medium> Store<M> {
         ensures passes { PassesOn M.state M.follows (IsWriteTurn (write_of address bytes.now)
             (is_ok result)) (2 * steps_left self.old.cached) (batch_sends self.old.cached)
             self.old self.new }
-        ensures answers { Answers result self.old self.new }
+        ensures answers { AnswersWrite result address (length bytes.now / 512) self.old self.new }
         ensures batches { WritesRange self.old.goes_ahead result address (length bytes.now / 512)
             self.old.cached self.new.cached }
-        ensures quiet { IsTakenAtOnce self.old.cached address (length bytes.now / 512)
-            → (self.new.medium ≡ self.old.medium)
-            × (is_dead self.old.cached ≡ false → IsOk result) }
         // One that does not fit makes the calls for the batch before it, and no other.
         ensures cost { CostsWrite self.old.goes_ahead result address (length bytes.now / 512)
             (M.state self.old.medium) (M.state self.new.medium) self.old.cached self.new.cached }

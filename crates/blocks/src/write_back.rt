@@ -17,7 +17,7 @@ impl<M: Medium> Store<M> {
         if self.is_written() {
             return;
         }
-        if self.writing {
+        if self.is_writing() {
             let _ = self.step();
             return;
         }

@@ -1,8 +1,7 @@
-use Rattle.std.proofs.Common.{◌≤◌, inl, inr, refl, sym, subst, arith, rules}
-use Rattle.std.proofs.lemmas.Result.{err_from_is_err_and, IfOk-weaker, IfErr-weaker}
+use Rattle.std.proofs.{Common.{◌≤◌, inl, inr, refl, sym, subst, arith, rules}, lemmas.Result.{err_from_is_err_and, IfOk-weaker}}
+use Rattle.std.proofs.lemmas.Result.{IfErr-weaker}
 use Rattle.journal.specs.{Places.sectors_of, Formats.shape_of}
-use Rattle.blocks.specs.Started.{MakesParts}
-use Rattle.blocks.proofs.KnownImages.{started, starts}
+use Rattle.blocks.{specs.Started.MakesParts, proofs.KnownImages.{started, starts}}
 use Rattle.blocks.proofs.start.Parts.recovered.Goals as goal
 
 pub returns-in_err-recovered-clause-refused : goal.returns-in_err-recovered-clause-refused

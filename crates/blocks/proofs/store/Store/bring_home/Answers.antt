@@ -1,14 +1,11 @@
-use Rattle.std.proofs.{Common.arith, Common.refl, Common.rules, lemmas.Bool.Decides.nat_tests}
-use Rattle.blocks.specs.StoreValue.{Cached}
-use Rattle.blocks.proofs.LogTurns.{home_fewer, brings_home, home_stays, paid_turn, turn_kept}
+use Rattle.std.proofs.{Common.{arith, refl, rules}, lemmas.Bool.Decides.nat_tests}
+use Rattle.blocks.{specs.StoreValue.Cached, proofs.LogTurns.{home_fewer, brings_home, home_stays, paid_turn, turn_kept}}
 use Rattle.redo_log.proofs.RecordSteps.{few_next}
 use Rattle.blocks.proofs.store.Store.bring_home.Goals as goal
 
 pub invariant_of-self : goal.invariant_of-self
 invariant_of-self g c =
-    let away = rw (← c.self.view_is) at c.requires.away in
-    turn_kept c.home_ahead.result c.home_ahead.ensures (λ sent. home_stays _ _ away (sent away))
-    (rw (← c.self.view_is) at c.requires.idle.idle) c.self.invariant
+    grind (arith, nat_tests, turn_kept, home_stays, c.self.view_is, c.requires, c.home_ahead.ensures, c.self.invariant)
 
 pub returns : goal.returns
 returns g c =

@@ -1,9 +1,8 @@
-use Rattle.std.proofs.{Common.◌≡◌, Common.◌+◌, Common.◌∙◌, Common.ap, Common.arith, Common.inl, lemmas.Bool.Decides.nat_tests}
+use Rattle.std.proofs.{Common.{◌≡◌, ◌+◌, ◌∙◌, ap, arith, inl}, lemmas.Bool.Decides.nat_tests}
 use Rattle.journal.specs.Places.{Shape, limit_of}
 use Rattle.medium.specs.{Sent.sent, declared.fault.MediumFault.TheVariants.Flush}
-use Rattle.blocks.specs.{Ahead.passed, Ahead.passed_calls, Passing.PassesPaid, Prepared.NeedsNoneAhead, Retiring.HasSlots}
-use Rattle.blocks.proofs.{Room.none_ahead, store.Store.go_ahead.Given.Over}
-use Rattle.blocks.proofs.TurnsJoined.{kept_paid, paid_more, paid_then, rested_paid}
+use Rattle.blocks.specs.{Ahead.{passed, passed_calls}, Passing.PassesPaid, Prepared.NeedsNoneAhead, Retiring.HasSlots}
+use Rattle.blocks.proofs.{Room.none_ahead, store.Store.go_ahead.Given.Over, TurnsJoined.{kept_paid, paid_more, paid_then, rested_paid}}
 use Rattle.blocks.proofs.store.Store.go_ahead.Goals.{Else-needs_none_ahead, After-pass_head, In_ok-pass_head}
 use Rattle.blocks.proofs.store.Store.go_ahead.Goals as goal
 
@@ -27,7 +26,7 @@ gone_past : (g : Over) (c : In_ok-pass_head g) → (HasSlots 3 c.args.self.now.c
     × ((g.M.Medium.state c.pass_head.new.self.medium).made Flush ≡ (g.M.Medium.state c.args.self.now.medium).made Flush)
 gone_past g c short =
     let passing = rw c.count_flush.ensures.keeps.medium at c.pass_head.ensures.way in
-    grind (arith, nat_tests, passing, c.in_ok-pass_head.ensures.answer, c.count_flush.ensures.log, short)
+    grind (arith, nat_tests, passing, c.in_ok-pass_head.ensures.answer, c.count_flush.ensures.is, short)
 
 pub returns-then-needs_none_ahead-clause-passes : goal.returns-then-needs_none_ahead-clause-passes
 returns-then-needs_none_ahead-clause-passes g c = rested_paid g.met.M.Medium.follows_itself g.met.M.Medium.sound

@@ -1,9 +1,8 @@
-use Rattle.std.proofs.{Common.◌∙◌, Common.sym, Common.arith, Common.rules, lemmas.Bool.false≢true}
+use Rattle.std.proofs.Common.{arith, rules}
 use Rattle.medium.specs.Sent.{sent}
 use Rattle.redo_log.specs.Value.{IsAway}
-use Rattle.blocks.proofs.{TurnsJoined.paid_then, TurnsJoined.rested_paid, store.Store.go_home.Given.Over}
-use Rattle.blocks.proofs.Room.{begins_home, goes_on_home, all_home, all_costs, all_sends, few_home, home_stays_head}
-use Rattle.blocks.proofs.store.Store.go_home.Goals.{After-bring_home}
+use Rattle.blocks.proofs.{TurnsJoined.{paid_then, paid_more, rested_paid}, store.Store.go_home.Given.Over, Room.{begins_home, goes_on_home}}
+use Rattle.blocks.proofs.{Room.{all_home, all_costs, all_sends, few_home, home_stays_head}, store.Store.go_home.Goals.After-bring_home}
 use Rattle.blocks.proofs.store.Store.go_home.Goals as goal
 
 away : (g : Over) (c : After-bring_home g) → IsAway c.loop-self.self.cached.log
@@ -17,31 +16,24 @@ loop-self-preserved g c =
     let so_far = c.loop-self.invariant in
     let brings = c.bring_home.ensures.way in
     let live = c.in_ok-bring_home.ensures.answer in
-    record {
-      passes = λ sends few.
-          let first = so_far.passes (sent (g.M.Medium.state c.loop-self.self.medium)) (omega arith) in
-          paid_then g.met.M.Medium.follows_through first so_far.live c.bring_home.ensures.passes few;
-      live = live;
-      home = goes_on_home so_far.home (away g (goal.at.loop-self-preserved g c).After-bring_home) (brings.log live) (brings.calls live)
-          brings.sent;
-      flushed = brings.flushed ∙ so_far.flushed;
-      stays = grind (arith, brings.stays, brings.head, so_far.stays);
-    }
+    let passes = paid_then {all = sent (g.M.Medium.state c.bring_home.new.self.medium)} g.met.M.Medium.follows_through so_far.passes
+    so_far.live c.bring_home.ensures.passes (omega arith) in
+    let home = goes_on_home so_far.home (away g (goal.at.loop-self-preserved g c).After-bring_home) (brings.log live) (brings.calls live)
+    brings.sent in
+    grind (arith, passes, live, home, brings, so_far.flushed, so_far.stays)
 
 pub returns-in_err-bring_home : goal.returns-in_err-bring_home
 returns-in_err-bring_home g c =
     let so_far = c.loop-self.invariant in
-    let first = so_far.passes (sent (g.M.Medium.state c.loop-self.self.medium)) (omega arith) in
     let brings = c.bring_home.ensures.way in
     let few = few_home so_far.home (away g (goal.at.returns-in_err-bring_home g c).After-bring_home) brings.sent
     (rw (← c.self.view_is) c.has_room-few.ensures.few) in
-    let passes = paid_then g.met.M.Medium.follows_through first so_far.live c.bring_home.ensures.passes few in
+    let passes = paid_then g.met.M.Medium.follows_through so_far.passes so_far.live c.bring_home.ensures.passes few in
     grind (arith, passes, c.in_err-bring_home.ensures.answer, brings, home_stays_head so_far.home, so_far.stays, so_far.flushed)
 
 pub returns : goal.returns
 returns g c =
-    let so_far = c.loop-self.invariant in
-    let home : IsAway c.loop-self.self.cached.log → ⊥ = λ away. false≢true (sym c.loop-self-test.false
-    ∙ c.is_away.ensures.1 (rw (← c.self-in-loop-self.view_is) at away)) in
-    let passes = so_far.passes _ (all_sends so_far.home (rw (← c.self.view_is) c.has_room-few.ensures.few)) in
-    grind (arith, passes, all_home so_far.home home, all_costs so_far.home home, home_stays_head so_far.home, so_far)
+    let few = c.has_room-few.ensures.few in
+    let view = c.self-in-loop-self.view_is in
+    let home = c.is_away.ensures.1 in
+    grind (arith, paid_more, all_sends, all_home, all_costs, home_stays_head, c.self.view_is, c.loop-self.invariant, c.loop-self-test.false)

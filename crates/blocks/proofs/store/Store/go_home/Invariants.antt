@@ -1,13 +1,11 @@
-use Rattle.std.proofs.Common.{◌≡◌, ℕ, false}
-use Rattle.medium.specs.{Sent.sent, Sent.SendsUpTo, declared.fault.MediumFault.TheVariants.Flush}
-use Rattle.blocks.specs.{Background.StaysIdle, Passing.PassesPaid, StoreValue.is_dead, StoreValue.steps_left}
-use Rattle.blocks.proofs.Room.{GoesHome}
+use Rattle.std.proofs.Common.{◌≡◌, false}
+use Rattle.medium.specs.{Sent.sent, declared.fault.MediumFault.TheVariants.Flush}
+use Rattle.blocks.{specs.{Background.StaysIdle, Passing.PassesPaid, StoreValue.{is_dead, steps_left}}, proofs.Room.GoesHome}
 use Rattle.blocks.proofs.store.Store.go_home.Given as goal
 
 abbrev pub invariant-loop-self : goal.invariant-loop-self
 invariant-loop-self g l = record {
-  passes : (sends : ℕ) → SendsUpTo sends (g.M.Medium.state l.fn.self.medium) (g.M.Medium.state l.self.medium)
-      → PassesPaid g.M.Medium.state g.M.Medium.follows sends l.fn.self l.self;
+  passes : PassesPaid g.M.Medium.state g.M.Medium.follows (sent (g.M.Medium.state l.self.medium)) l.fn.self l.self;
   live : is_dead l.self.cached ≡ false;
   home : GoesHome l.fn.self.cached.log l.self.cached.log (g.M.Medium.state l.fn.self.medium).calls (g.M.Medium.state l.self.medium).calls
       (sent (g.M.Medium.state l.fn.self.medium)) (sent (g.M.Medium.state l.self.medium));

@@ -1,6 +1,26 @@
-use Rattle.std.proofs.Common.{◌≡◌, arith}
-use Rattle.blocks.proofs.TurnsJoined.{kept_on}
+use Rattle.std.proofs.{Common.{◌<◌, ◌∙◌, sym, arith, rules, Bool, true, false}, lemmas.Bool.false≢true}
+use Rattle.blocks.{specs.{StoreValue.Cached, Background.MayBegin}, proofs.TurnsJoined.kept_on}
 use Rattle.blocks.proofs.store.Store.go_on.Goals as goal
+
+-- none is begun beside the record under way
+none_begins : (ahead : Bool) (s : Cached) → 0 < s.log.steps_left → MayBegin ahead s → ⊥
+none_begins false s some may = omega (arith, some, may.0.no_steps)
+none_begins true s some may = omega (arith, some, may.0.0.no_steps)
+
+pub returns-then-is_writing : goal.returns-then-is_writing
+returns-then-is_writing g c =
+    let begun = c.is_writing.ensures.begun c.requires.live c.if-is_writing.true in
+    record {
+      passes = grind (arith, c.step.ensures.passes);
+      order = record {
+        dead = λ dead. absurd (false≢true (sym c.requires.live ∙ dead));
+        goes_on = λ live some. c.step.ensures.steps.record_step;
+        begins = λ live may. absurd (none_begins c.args.self.now.goes_ahead c.args.self.now.cached begun.0 may);
+        retires = λ live idle not. absurd (omega (arith, idle, begun));
+      };
+      steps = grind (arith, c.requires, c.step.ensures.steps.falls);
+      active = search rules;
+    }
 
 pub returns-then-may_begin : goal.returns-then-may_begin
 returns-then-may_begin g c =
@@ -10,7 +30,5 @@ returns-then-may_begin g c =
 
 pub returns : goal.returns
 returns g c =
-    let live = c.requires.live in
-    let idle : c.args.self.now.cached.log.steps_left ≡ 0 =
-    rw (← c.self.view_is) (c.self.invariant.rests (rw (← c.self.view_is) at live) c.if-self.false) in
-    grind (arith, live, idle, c.may_begin.ensures, c.if-may_begin.false, c.retire.ensures)
+    let idle = c.is_writing.ensures.rests c.requires.live c.if-is_writing.false in
+    grind (arith, c.requires.live, idle, c.may_begin.ensures, c.if-may_begin.false, c.retire.ensures)

@@ -1,8 +1,6 @@
-use Rattle.std.proofs.Common.{◌≡◌, ◌<◌, ◌-◌, true, false, arith}
-use Rattle.std.proofs.Common.{length}
-use Rattle.std.specs.Prelude.{All}
+use Rattle.std.{proofs.Common.{◌≡◌, ◌<◌, ◌-◌, true, false, arith, length}, specs.Prelude.All}
 use Rattle.redo_log.specs.Value.{HasRoom}
-use Rattle.blocks.proofs.{Room.still_room, Room.free_is, Room.full_is}
+use Rattle.blocks.proofs.Room.{free_is, full_is}
 use Rattle.blocks.proofs.store.Store.make_ready.Goals as goal
 
 pub returns-then-has_room : goal.returns-then-has_room
@@ -11,7 +9,7 @@ returns-then-has_room g c =
     let ahead : old.goes_ahead ≡ true = rw (← c.self.view_is) c.if-not-self.false in
     let room : HasRoom old.cached.log = rw (← c.self.view_is) (c.has_room.ensures.room.0 c.if-has_room.true) in
     let blocks : All (λ numbers. 0 < length numbers) old.cached.log.waiting = rw (← c.self.view_is) c.has_room.ensures.owes.blocks in
-    grind (arith, ahead, c.go_ahead.ensures, still_room old.cached.log room, free_is old.cached.log room.free, blocks)
+    grind (arith, ahead, c.go_ahead.ensures, free_is old.cached.log room, blocks)
 
 pub returns-then-not-self : goal.returns-then-not-self
 returns-then-not-self g c =

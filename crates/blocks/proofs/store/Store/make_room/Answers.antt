@@ -1,11 +1,9 @@
-use Rattle.std.proofs.Common.{◌≤◌, ◌<◌, ℕ, length, ◌∙◌, ap, sym, arith, rules}
-use Rattle.std.proofs.lemmas.Bool.{false≢true}
+use Rattle.std.proofs.{Common.{false, ◌≤◌, ◌<◌, ℕ, length, ◌∙◌, ap, sym, arith, rules}, lemmas.Bool.false≢true}
 use Rattle.medium.specs.Sent.{sent, SendsUpTo}
 use Rattle.redo_log.specs.Value.{HasRoom, sends_of_oldest, most_retire_sends}
-use Rattle.blocks.specs.{StoreValue.steps_left, Passing.PassesPaid}
-use Rattle.blocks.proofs.Room.{IsFull, retires_none, retires_more, retires_refused, retires_room}
-use Rattle.blocks.proofs.{TurnsJoined.paid_then, TurnsJoined.on_paid, TurnsJoined.rested_paid, store.Store.make_room.Given.Over}
-use Rattle.blocks.proofs.store.Store.make_room.Goals.{After-retire}
+use Rattle.blocks.{specs.{StoreValue.steps_left, Passing.PassesPaid, Retiring.RetiresForRoom}, proofs.Room.{IsFull, retires_none}}
+use Rattle.blocks.proofs.{Room.{retires_more, retires_refused, retires_room}, TurnsJoined.{paid_then, on_paid, paid_more, rested_paid}}
+use Rattle.blocks.proofs.store.Store.make_room.{Given.Over, Goals.After-retire}
 use Rattle.blocks.proofs.store.Store.make_room.Goals as goal
 
 -- a record waits, and one of its steps is made
@@ -18,9 +16,8 @@ step_passes : (g : Over) (c : After-retire g) → {sends : ℕ}
     → SendsUpTo sends (g.M.Medium.state c.args.self.now.medium) (g.M.Medium.state c.retire.new.self.medium)
     → PassesPaid g.M.Medium.state g.M.Medium.follows sends c.args.self.now c.retire.new.self
 step_passes g c few =
-    let first = c.loop-self.invariant.passes (sent (g.M.Medium.state c.loop-self.self.medium)) (omega arith) in
     let left = must_step g c in
-    paid_then g.met.M.Medium.follows_through first c.loop-self.invariant.live
+    paid_then g.met.M.Medium.follows_through c.loop-self.invariant.passes c.loop-self.invariant.live
     (on_paid left.1 (c.retire.ensures.falls left.0) c.retire.ensures.passes.calls c.retire.ensures.passes) few
 
 is_full : (g : Over) (c : After-retire g) → IsFull c.args.self.now.cached.log c.loop-self.self.cached.log
@@ -51,17 +48,10 @@ loop-self-preserved g c =
     let at = (goal.at.loop-self-preserved g c).After-retire in
     let live = c.in_ok-retire.ensures.answer in
     let retiring = c.retire.ensures.retiring in
-    let stepped = (retiring.live (must_step g at).0 live).1 in
-    record {
-      passes = λ sends few. step_passes g at few;
-      stays = λ room. absurd (was_full g at room);
-      retires = retires_more (is_full g at) c.loop-self.invariant.retires stepped (retiring.counted live) retiring.sent
-          (retiring.flushed live);
-      live = live;
-      idle = c.retire.ensures.idle;
-      active = retiring.active ∙ c.loop-self.invariant.active;
-      frozen = retiring.frozen ∙ c.loop-self.invariant.frozen;
-    }
+    let retires = retires_more (is_full g at) c.loop-self.invariant.retires {after = g.M.Medium.state c.retire.new.self.medium}
+    (retiring.live (must_step g at).0 live).1 (retiring.counted live) retiring.sent (retiring.flushed live) in
+    let passes = step_passes g at {sends = sent (g.M.Medium.state c.retire.new.self.medium)} (omega arith) in
+    grind (arith, passes, was_full g at, retires, live, c.retire.ensures.idle, retiring, c.loop-self.invariant)
 
 pub returns-in_err-retire : goal.returns-in_err-retire
 returns-in_err-retire g c =
@@ -72,23 +62,15 @@ returns-in_err-retire g c =
     let all = retires_refused (is_full g at) c.loop-self.invariant.retires after c.retire.ensures.retiring.sent in
     let died = c.retire.ensures.retiring.dies c.in_err-retire.ensures.answer.1 in
     let so_far = c.loop-self.invariant in
-    record {
-      passes = step_passes g at (omega (arith, all, few));
-      answer = search rules;
-      room = grind (arith, died.is, so_far, so_far.retires.so_far, c.retire.ensures.retiring, was_full g at);
-      cost = search rules;
-      flushed = search rules;
-      blocks = λ on. absurd (false≢true on);
-    }
+    let retiring = c.retire.ensures.retiring in
+    let passes = step_passes g at {sends = most_retire_sends old.shape.format} (omega (arith, all, few)) in
+    let retires : RetiresForRoom false old c.retire.new.self.cached.log =
+    grind (arith, died.is, so_far.retires.so_far, c.retire.ensures.retiring, was_full g at) in
+    grind (arith, passes, retires, was_full g at, so_far.active, so_far.frozen, retiring.active, retiring.frozen, c.in_err-retire.ensures)
 
 pub returns : goal.returns
 returns g c =
-    let room : HasRoom c.loop-self.self.cached.log =
-    rw (← c.self-in-loop-self.view_is) (c.has_room.ensures.room.0 c.loop-self-test.false) in
-    let so_far = c.loop-self.invariant in
-    let old = c.args.self.now.cached.log in
-    let few : sends_of_oldest old ≤ most_retire_sends old.shape.format = rw (← c.self.view_is) c.has_room-few.ensures.few in
-    let all = retires_room (λ had. let same = so_far.stays had in (ap (λ v. v.cached.log) same, ap (λ v. g.M.Medium.state v.medium) same))
-    room so_far.retires in
-    let passes = so_far.passes (most_retire_sends old.shape.format) (grind (arith, so_far.retires.so_far, few)) in
-    grind (arith, passes, room, all, so_far, so_far.retires.so_far)
+    let few = c.has_room-few.ensures.few in
+    let view = c.self-in-loop-self.view_is in
+    let room = c.has_room.ensures.room.0 in
+    grind (arith, retires_room, paid_more, c.self.view_is, c.loop-self-test.false, c.loop-self.invariant)

@@ -1,14 +1,12 @@
-use Rattle.std.proofs.Common.{◌≡◌, ℕ, false}
-use Rattle.medium.specs.Sent.{SendsUpTo}
-use Rattle.blocks.specs.{Passing.PassesPaid, StoreValue.is_dead, StoreValue.steps_left}
+use Rattle.std.proofs.Common.{◌≡◌, false}
+use Rattle.medium.specs.Sent.{sent}
+use Rattle.blocks.{specs.{Passing.PassesPaid, StoreValue.{is_dead, steps_left}}, proofs.Room.Retires}
 use Rattle.redo_log.specs.Value.{HasRoom}
-use Rattle.blocks.proofs.Room.{Retires}
 use Rattle.blocks.proofs.store.Store.make_room.Given as goal
 
 abbrev pub invariant-loop-self : goal.invariant-loop-self
 invariant-loop-self g l = record {
-  passes : (sends : ℕ) → SendsUpTo sends (g.M.Medium.state l.fn.self.medium) (g.M.Medium.state l.self.medium)
-      → PassesPaid g.M.Medium.state g.M.Medium.follows sends l.fn.self l.self;
+  passes : PassesPaid g.M.Medium.state g.M.Medium.follows (sent (g.M.Medium.state l.self.medium)) l.fn.self l.self;
   live : is_dead l.self.cached ≡ false;
   stays : HasRoom l.fn.self.cached.log → l.self ≡ l.fn.self;
   retires : Retires l.fn.self.cached.log l.self.cached.log (g.M.Medium.state l.fn.self.medium) (g.M.Medium.state l.self.medium);

@@ -1,8 +1,6 @@
-use Rattle.std.proofs.Common.{◌/◌, length, ap, refl, arith, rules}
+use Rattle.std.proofs.Common.{◌/◌, length, ap, arith}
 use Rattle.journal.specs.Places.{Shape}
-use Rattle.medium.proofs.Moments.{quiet_start}
-use Rattle.blocks.specs.Reads.{AreReadable}
-use Rattle.blocks.proofs.{TurnsJoined.quiet_turn, SectorsRead.none_read, store.Store.read.Given.Over, store.Store.read.Goals.Else-is_dead}
+use Rattle.blocks.{specs.Reads.AreReadable, proofs.{store.Store.read.{Given.Over, Goals.Else-is_dead}, ReadCalls.keeps_none}}
 use Rattle.blocks.proofs.store.Store.read.Goals as goal
 
 -- the blocks can be read
@@ -22,12 +20,6 @@ read_home-requires-clause-readable g c = readable g (goal.at.read_home-requires-
 pub read_each-requires : goal.read_each-requires
 read_each-requires g c = readable g (goal.at.read_each-requires g c).Else-is_dead
 
-pub returns-then-is_dead-clause-turn : goal.returns-then-is_dead-clause-turn
-returns-then-is_dead-clause-turn g c =
-    quiet_turn _ _ _ (g.met.M.Medium.sound c.args.self.now.medium) (quiet_start _)
-
 pub returns-then-is_dead-clause-keeps : goal.returns-then-is_dead-clause-keeps
 returns-then-is_dead-clause-keeps g c =
-    let m = g.M.Medium.state c.args.self.now.medium in
-    let looks = none_read m m c.args.self.now.cached c.args.address (length c.args.to.now / 512) refl in
-    search rules
+    keeps_none (g.met.M.Medium.sound c.args.self.now.medium) (g.met.M.Medium.follows_itself c.args.self.now.medium)

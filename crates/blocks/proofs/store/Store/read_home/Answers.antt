@@ -1,22 +1,16 @@
-use Rattle.std.proofs.Common.{◌≡◌, ◌*◌, ◌/◌, ◌-◌, ◌+◌, length, ◌≤◌, ◌<◌, ℕ, List, ap, arith, rules}
-use Rattle.cache.specs.Entries.{Entries}
-use Rattle.blocks.proofs.ReadCalls.{none_at, keeps_turn, all_read, keeps_more, calls_more, block_more}
+use Rattle.std.proofs.Common.{◌≡◌, ◌*◌, ◌/◌, ◌-◌, ◌+◌, length, ◌≤◌, arith, rules}
+use Rattle.blocks.proofs.ReadCalls.{none_at, reads_none, all_read, keeps_more, calls_more, block_more}
 use Rattle.blocks.proofs.store.Store.read_home.Goals as goal
 
 pub read_at_home-requires-clause-home : goal.read_at_home-requires-clause-home
-read_at_home-requires-clause-home g c =
-    let s = c.args.self.now.cached in
-    let none = λ (batch : Entries). none_at batch c.args.address (length c.args.to.now / 512) c.loop-i.i in
-    let below : c.loop-i.i < length c.args.to.now / 512 = omega (arith, c.loop-i-test.true) in
-    let empty = ap (λ (w : List (List ℕ)). length w) c.requires.home.log in
-    rw c.loop-i.invariant.keeps.stays (record {
-      none = (none s.active c.requires.home.active below, none s.frozen c.requires.home.frozen below);
-      log = λ age waits. absurd (omega (arith, waits, empty));
-    })
+read_at_home-requires-clause-home g c = grind (arith, none_at, c.loop-i-test.true, c.requires.home, c.loop-i.invariant.keeps.stays)
+
+pub loop-i-init : goal.loop-i-init
+loop-i-init g c = reads_none (g.met.M.Medium.sound c.args.self.now.medium) (g.met.M.Medium.follows_itself c.args.self.now.medium)
 
 pub loop-i-preserved : goal.loop-i-preserved
 loop-i-preserved g c =
-    block_more c.loop-i.invariant g.met.M.Medium.sound g.met.M.Medium.follows_through (c.loop-i.i * 512)
+    block_more c.loop-i.invariant g.met.M.Medium.follows_through (c.loop-i.i * 512)
     (c.loop-i.i * 512 + 512 - c.loop-i.i * 512) (omega arith) (omega arith) (omega (arith, c.loop-i-test.true, c.loop-i.auto.to))
     c.read_at_home.auto.to c.in_ok-read_at_home.ensures
 
@@ -26,7 +20,6 @@ returns-in_err-read_at_home g c =
     let one = c.read_at_home.ensures in
     let more : c.loop-i.i + 1 ≤ length c.args.to.now / 512 = omega (arith, c.loop-i-test.true) in
     let keeps = keeps_more read g.met.M.Medium.follows_through more one.keeps in
-    let turn = keeps_turn g.met.M.Medium.sound keeps in
     let reads = calls_more read c.read_at_home.new.self more one.cost.reads in
     search (rules, arith, read, one)
 
@@ -34,5 +27,4 @@ pub returns : goal.returns
 returns g c =
     let all : c.loop-i.i ≡ length c.args.to.now / 512 = omega arith in
     let read = rw all at c.loop-i.invariant in
-    let turn = keeps_turn g.met.M.Medium.sound read.keeps in
-    search (rules, arith, read, all_read read (omega (arith, c.loop-i.auto.to, all, c.requires.readable.size)))
+    grind (arith, read, all_read read (omega (arith, c.loop-i.auto.to, all, c.requires.readable.size)))

@@ -4,10 +4,7 @@ use Rattle.blocks.proofs.LogTurns.{is_retiring, retire_stays, passes_turn, turn_
 use Rattle.blocks.proofs.store.Store.retire.Goals as goal
 
 pub invariant_of-self : goal.invariant_of-self
-invariant_of-self g c =
-    let called = c.retire_step.ensures in
-    turn_kept c.retire_step.result called (retire_stays _ _ (λ none. (called.none none).1))
-    (rw (← c.self.view_is) at c.requires.idle) c.self.invariant
+invariant_of-self g c = grind (arith, turn_kept, retire_stays, c.self.view_is, c.retire_step.ensures, c.requires.idle, c.self.invariant)
 
 pub returns : goal.returns
 returns g c =

@@ -1,5 +1,4 @@
-use Rattle.std.proofs.Common.{◌≡◌, arith, refl}
-use Rattle.std.proofs.lemmas.Result.{MatchResult-from_both, IfOk-weaker}
+use Rattle.std.proofs.{Common.arith, lemmas.Result.{MatchResult-from_both, IfOk-weaker}}
 use Rattle.blocks.proofs.store.Store.start_keeping.Goals as goal
 
 pub returns : goal.returns

@@ -1,41 +1,19 @@
-use Rattle.std.proofs.Common.{ap, refl, rules, []}
-use Rattle.std.specs.Prelude.{Ok, Err}
+use Rattle.std.{proofs.Common.{ap, refl, []}, specs.Prelude.{Ok, Err}}
 use Rattle.redo_log.specs.declared.progress.Progress.TheVariants.{More, Durable}
 use Rattle.blocks.proofs.LogTurns.{passes_step}
 use Rattle.blocks.proofs.store.Store.step.Goals as goal
 
-pub returns-in-Ok-More : goal.returns-in-Ok-More
-returns-in-Ok-More g c = record {
-  passes = rw (← c.self.view_is) (passes_step c.self.inside.goes_ahead (Ok More) _ c.step.new.self
-      (record { room = 0; numbers = []; bytes = [] }) refl (rw (← c.self.view_is) at c.requires.under_way)
-      (rw (c.in-Ok-More.field-0-is, c.numbers-numbers.ensures.value, c.bytes.ensures.value) at c.in-Ok-More.ensures));
-  record_step = search rules;
-  answer = search rules;
-  more = search rules;
-  durable = search rules;
-  writes = search rules;
-}
+pub returns-in-Ok-More-clause-passes : goal.returns-in-Ok-More-clause-passes
+returns-in-Ok-More-clause-passes g c = rw (← c.self.view_is) (passes_step c.self.inside.goes_ahead (Ok More) _ c.step.new.self
+    (record { room = 0; numbers = []; bytes = [] }) refl (rw (← c.self.view_is) at c.requires.under_way)
+    (rw (c.in-Ok-More.field-0-is, c.numbers-numbers.ensures.value, c.bytes.ensures.value) at c.in-Ok-More.ensures))
 
-pub returns-in-Ok-Durable : goal.returns-in-Ok-Durable
-returns-in-Ok-Durable g c = record {
-  passes = rw (← c.self.view_is) (passes_step c.self.inside.goes_ahead (Ok Durable) _ c.step.new.self c.clear.new.self
-      (ap (λ batch. batch.numbers) c.clear.ensures) (rw (← c.self.view_is) at c.requires.under_way)
-      (rw (c.in-Ok-Durable.field-0-is, c.numbers-numbers.ensures.value, c.bytes.ensures.value) at c.in-Ok-Durable.ensures));
-  record_step = search rules;
-  answer = search rules;
-  more = search rules;
-  durable = search rules;
-  writes = search rules;
-}
+pub returns-in-Ok-Durable-clause-passes : goal.returns-in-Ok-Durable-clause-passes
+returns-in-Ok-Durable-clause-passes g c = rw (← c.self.view_is) (passes_step c.self.inside.goes_ahead (Ok Durable) _ c.step.new.self
+    c.clear.new.self (ap (λ batch. batch.numbers) c.clear.ensures) (rw (← c.self.view_is) at c.requires.under_way)
+    (rw (c.in-Ok-Durable.field-0-is, c.numbers-numbers.ensures.value, c.bytes.ensures.value) at c.in-Ok-Durable.ensures))
 
-pub returns-in-Err : goal.returns-in-Err
-returns-in-Err g c = record {
-  passes = rw (← c.self.view_is) (passes_step c.self.inside.goes_ahead (Err c.in-Err.field-0) _ c.step.new.self
-      (record { room = 0; numbers = []; bytes = [] }) refl (rw (← c.self.view_is) at c.requires.under_way)
-      (rw (c.numbers-numbers.ensures.value, c.bytes.ensures.value) at c.in-Err.ensures));
-  record_step = search rules;
-  answer = search rules;
-  more = search rules;
-  durable = search rules;
-  writes = search rules;
-}
+pub returns-in-Err-clause-passes : goal.returns-in-Err-clause-passes
+returns-in-Err-clause-passes g c = rw (← c.self.view_is) (passes_step c.self.inside.goes_ahead (Err c.in-Err.field-0) _ c.step.new.self
+    (record { room = 0; numbers = []; bytes = [] }) refl (rw (← c.self.view_is) at c.requires.under_way)
+    (rw (c.numbers-numbers.ensures.value, c.bytes.ensures.value) at c.in-Err.ensures))

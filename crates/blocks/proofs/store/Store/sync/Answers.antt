@@ -1,22 +1,11 @@
-use Rattle.std.specs.Prelude.{OnOk}
-use Rattle.std.proofs.Common.{◌≡◌, ◌∙◌, ◌+◌, ap, arith, [], true, rules}
-use Rattle.std.proofs.lemmas.Result.{on_ok_weaker}
+use Rattle.std.{specs.Prelude.OnOk, proofs.{Common.{◌≡◌, ◌∙◌, ◌+◌, ap, arith, [], true, rules}, lemmas.Result.on_ok_weaker}}
 use Rattle.medium.specs.{Sent.sent, declared.fault.MediumFault.TheVariants.Flush}
 use Rattle.journal.specs.Places.{Shape}
-use Rattle.blocks.specs.{Flushing.both_flushes, Retiring.finished, Retiring.both_calls, Sent.most_sent, Sent.batch_sends}
-use Rattle.blocks.specs.StoreValue.{StoreValue, firsts_in}
-use Rattle.blocks.proofs.{EmptyBatches.none_of, BookTurns.settles, FlushesOnce.both_durable, FlushesOnce.store_is, Headroom.both_each}
-use Rattle.blocks.proofs.{Headroom.headroom_finished, Steady.steady_sync, Steady.steady_roomy, store.Store.sync.Given.Over}
-use Rattle.blocks.proofs.TurnsJoined.{swapped_steps, kept_paid, paid_then, paid_more}
-use Rattle.blocks.proofs.Room.{calls_of, roomy_both, flushes_of, once}
+use Rattle.blocks.specs.{Flushing.both_flushes, Retiring.{finished, both_calls}, Sent.{most_sent, batch_sends}, StoreValue.firsts_in}
+use Rattle.blocks.proofs.{EmptyBatches.none_of, BookTurns.settles, FlushesOnce.both_durable, Headroom.{both_each, headroom_finished}}
+use Rattle.blocks.proofs.{Steady.steady_sync, store.Store.sync.Given.Over, TurnsJoined.{kept_paid, paid_then, paid_more}, Room.costs_behind}
+use Rattle.blocks.proofs.Room.{roomy_both, once}
 use Rattle.blocks.proofs.store.Store.sync.Goals as goal
-
--- the batches change places, and all else stays
-abbrev swapped : {M : Type 0} → StoreValue M → StoreValue M
-swapped s = record s { cached = record s.cached { active = s.cached.frozen; frozen = s.cached.active } }
-
-froze : (g : Over) (c : goal.After-finish-2 g) → c.freeze.new.self ≡ swapped c.finish.new.self
-froze g c = store_is _ _ c.freeze.ensures.keeps.medium c.freeze.ensures.swapped c.freeze.ensures.keeps.policy
 
 pub returns-in_err-finish-clause-passes : goal.returns-in_err-finish-clause-passes
 returns-in_err-finish-clause-passes g c = paid_more c.finish.ensures.passes (omega (arith, c.finish.ensures.passes.sent))
@@ -29,18 +18,17 @@ returns-clause-passes g c =
     let live = c.in_ok-finish.ensures.batch.answers.answer in
     let quiet = ap (λ m. sent (g.M.Medium.state m)) keeps.medium in
     let same = ap (λ (shape : Shape). most_sent shape.format) (keeps.turn.goes_on.layout_stays ∙ first.turn.goes_on.layout_stays) in
-    let fewer = swapped_steps c.finish.new.self.cached c.in_ok-finish.ensures.batch.done.0 in
     let swap = kept_paid {Follows = g.M.Medium.follows} {sends = 0} g.met.M.Medium.follows_itself keeps
-    (grind (arith, c.freeze.ensures.swapped, fewer)) in
+    (grind (arith, c.freeze.ensures.is, c.in_ok-finish.ensures.batch.done)) in
     paid_then {last = batch_sends c.freeze.new.self.cached} g.met.M.Medium.follows_through first live
-    (paid_then g.met.M.Medium.follows_through swap (rw c.freeze.ensures.swapped live) last (omega (arith, quiet, last.sent)))
+    (paid_then g.met.M.Medium.follows_through swap (rw c.freeze.ensures.is live) last (omega (arith, quiet, last.sent)))
     (omega (arith, first.sent, last.sent, quiet, same))
 
 pub returns-clause-ok : goal.returns-clause-ok
 returns-clause-ok g c book fits =
-    let last = rw (froze g c) at c.finish-2.ensures in
+    let last = rw (c.freeze.ensures.is) at c.finish-2.ensures in
     let active : c.finish-2.new.self.cached.active.numbers ≡ [] = rw last.batch.active c.in_ok-finish.ensures.batch.done.1 in
-    let half = (rw (froze g c) at c.freeze.ensures.keeps).turn.fits book (c.finish.ensures.passes.turn.fits book fits) in
+    let half = (rw (c.freeze.ensures.is) at c.freeze.ensures.keeps).turn.fits book (c.finish.ensures.passes.turn.fits book fits) in
     on_ok_weaker c.finish-2.result (λ done. settles done.1 active (last.passes.turn.fits book half)) last.batch.done
 
 -- each batch has become a record
@@ -48,7 +36,7 @@ both_finished : (g : Over) (c : goal.After-finish-2 g) → OnOk c.finish-2.resul
     ≡ finished c.args.self.now.goes_ahead c.args.self.now.cached.active
     (finished c.args.self.now.goes_ahead c.args.self.now.cached.frozen c.args.self.now.cached.log))
 both_finished g c =
-    rw (froze g c, c.finish.ensures.batch.active, c.in_ok-finish.ensures.batch.finishes, c.finish.ensures.passes.policy)
+    rw (c.freeze.ensures.is, c.finish.ensures.batch.active, c.in_ok-finish.ensures.batch.finishes, c.finish.ensures.passes.policy)
     at c.finish-2.ensures.batch.finishes
 
 pub returns-clause-batches : goal.returns-clause-batches
@@ -56,7 +44,7 @@ returns-clause-batches g c =
     let old = c.args.self.now.cached in
     let finishes = both_finished g c in
     let first = c.in_ok-finish.ensures.batch in
-    let last = rw (froze g c, c.finish.ensures.batch.active, c.finish.ensures.passes.policy) at c.finish-2.ensures.batch in
+    let last = rw (c.freeze.ensures.is, c.finish.ensures.batch.active, c.finish.ensures.passes.policy) at c.finish-2.ensures.batch in
     record {
       active = search rules;
       rests = grind (arith, last.rests, first.rests, none_of old.active.numbers, none_of old.frozen.numbers);
@@ -81,16 +69,15 @@ returns-clause-cost g c =
     let active = old.active.numbers in
     let ahead = c.args.self.now.goes_ahead in
     let first = c.in_ok-finish.ensures in
-    let cost = rw (froze g c, c.finish.ensures.batch.active, c.finish.ensures.passes.policy) at c.finish-2.ensures.cost in
-    let flushed = rw (froze g c, c.finish.ensures.batch.active) at c.finish-2.ensures.flushes in
-    let same = calls_of ahead frozen active (firsts_in old.frozen) old.frozen.bytes old.log _ first.batch.finishes in
-    let silent = flushes_of ahead frozen active (firsts_in old.frozen) old.frozen.bytes old.log _ first.batch.finishes in
+    let cost = rw (c.freeze.ensures.is, c.finish.ensures.batch.active, c.finish.ensures.passes.policy) at c.finish-2.ensures.cost in
+    let flushed = rw (c.freeze.ensures.is, c.finish.ensures.batch.active) at c.finish-2.ensures.flushes in
+    let same = costs_behind ahead old.log.steps_left frozen active (firsts_in old.frozen) old.frozen.bytes old.log in
     let calls : OnOk c.finish-2.result ((g.M.Medium.state c.finish-2.new.self.medium).calls
     ≡ (g.M.Medium.state c.args.self.now.medium).calls + both_calls ahead frozen active old.log) =
-    grind (arith, cost, same, first.cost) in
+    grind (arith, rw first.batch.finishes at cost, same, first.cost) in
     let flushes : OnOk c.finish-2.result ((g.M.Medium.state c.finish-2.new.self.medium).made Flush
     ≡ (g.M.Medium.state c.args.self.now.medium).made Flush + both_flushes ahead frozen active old.log) =
-    grind (arith, flushed, silent, first.flushes) in
+    grind (arith, rw first.batch.finishes at flushed, same, first.flushes) in
     record {
       exactly = calls;
       roomy = grind (arith, calls, roomy_both ahead frozen active old.log);
@@ -102,6 +89,6 @@ returns-clause-cost g c =
           let each = both_each frozen active old.log head first.batch.some in
           let records = both_durable old.frozen old.active old.log head first.batch.some in
           grind (arith, flushes, both_finished g c, c.finish-2.ensures.batch.answers.answer, each, records, on, live);
-      steady_once = λ two still none some. rw (once ahead frozen active old.log two (steady_roomy old.log still) none some) at flushes;
-      one_batch = λ none. rw (froze g c, first.batch.rests none) at c.finish-2.ensures.one_batch;
+      steady_once = λ two still none some. rw (once ahead frozen active old.log two (grind (arith, still)) none some) at flushes;
+      one_batch = λ none. rw (c.freeze.ensures.is, first.batch.rests none) at c.finish-2.ensures.one_batch;
     }

@@ -1,17 +1,15 @@
-use Rattle.std.proofs.{Common.arith, Common.rules, Common.◌/◌, Common.length, lemmas.Result.err_from_is_err_and}
+use Rattle.std.proofs.{Common.{arith, rules, ◌/◌, length}, lemmas.Result.err_from_is_err_and}
 use Rattle.cache.proofs.Arrays.{unlisted_empty}
 use Rattle.spec.specs.Book.{write_of}
-use Rattle.blocks.specs.StoreValue.{firsts_in}
-use Rattle.blocks.specs.Headroom.{HasHeadroom}
-use Rattle.blocks.proofs.{Headroom.headroom_finished, Headroom.one_each, FlushesOnce.one_durable}
-use Rattle.blocks.proofs.TurnsJoined.{paid_refused, paid_written, written_on}
+use Rattle.blocks.{specs.{StoreValue.firsts_in, Headroom.HasHeadroom}, proofs.Headroom.{headroom_finished, one_each}}
+use Rattle.blocks.proofs.{FlushesOnce.one_durable, TurnsJoined.{paid_refused, paid_written, written_on}}
 use Rattle.blocks.proofs.store.Store.write_alone.Goals as goal
 
 pub append-requires : goal.append-requires
 append-requires g c =
     let shape = c.finish.ensures.passes.turn.goes_on.layout_stays in
     let none = unlisted_empty c.args.address (length c.args.bytes.now / 512) in
-    rw c.freeze.ensures.swapped (grind (arith, shape, c.requires.range, c.in_ok-finish.ensures.batch.done, none))
+    rw c.freeze.ensures.is (grind (arith, shape, c.requires.range, c.in_ok-finish.ensures.batch.done, none))
 
 pub returns-in_err-finish : goal.returns-in_err-finish
 returns-in_err-finish g c =
@@ -25,14 +23,13 @@ pub returns : goal.returns
 returns g c =
     let old = c.args.self.now.cached in
     let keeps = written_on c.freeze.ensures.keeps c.append.ensures.keeps in
-    let batch = rw c.freeze.ensures.swapped at c.append.ensures.batch in
+    let batch = rw c.freeze.ensures.is at c.append.ensures.batch in
     let done = c.in_ok-finish.ensures.batch in
     let flushes = rw (← keeps.medium) at c.in_ok-finish.ensures.flushes in
     let firsts = firsts_in old.frozen in
     record {
       passes = paid_written c.finish.ensures.passes done.answers.answer keeps;
-      answers = search rules;
-      quiet = λ empty. grind (arith, c.finish.ensures.batch, keeps.medium, empty);
+      answers = grind (arith, c.finish.ensures.batch, keeps.medium, done, c.requires.alone, c.requires.live, batch);
       batches = grind (arith, batch, done, headroom_finished old.frozen.numbers firsts old.frozen.bytes old.log);
       cost =
           let each = λ (head : HasHeadroom old.log). one_each old.frozen.numbers old.log head done.some in

@@ -1,12 +1,11 @@
-use Rattle.std.proofs.Common.{◌≡◌, ◌<◌, ◌≤◌, ◌+◌, ℕ, false}
-use Rattle.medium.specs.{Sent.sent, Sent.SendsUpTo, declared.fault.MediumFault.TheVariants.Flush}
+use Rattle.std.proofs.Common.{◌≡◌, ◌<◌, ◌≤◌, ◌+◌, false}
+use Rattle.medium.specs.{Sent.sent, declared.fault.MediumFault.TheVariants.Flush}
 use Rattle.blocks.specs.{Flushing.left_flushes, Passing.PassesPaid, StoreValue.is_dead, StoreValue.steps_left}
 use Rattle.blocks.proofs.store.Store.write_out.Given as goal
 
 abbrev pub invariant-loop : goal.invariant-loop
 invariant-loop g l = record {
-  passes : (sends : ℕ) → SendsUpTo sends (g.M.Medium.state l.fn.self.medium) (g.M.Medium.state l.self.medium)
-      → PassesPaid g.M.Medium.state g.M.Medium.follows sends l.fn.self l.self;
+  passes : PassesPaid g.M.Medium.state g.M.Medium.follows (sent (g.M.Medium.state l.self.medium)) l.fn.self l.self;
   live : is_dead l.self.cached ≡ false;
   under_way : 0 < l.self.cached.log.steps_left;
   so_far : l.self.cached.log ≡ record l.fn.self.cached.log { steps_left = l.self.cached.log.steps_left };
