@@ -1,6 +1,5 @@
 -- How a medium that reads on demand is kept.
 use Rattle.std.specs.Prelude.{◌≡◌, ◌≤◌, ◌<◌, ◌*◌, ◌/◌, ◌+◌, ℕ, length}
-use Rattle.std.specs.VecDeque.{deque_capacity}
 use Rattle.medium.specs.Writes.{sector_of}
 use Rattle.window.specs.OutboxMedium.{device_of}
 use Rattle.window.specs.Window.{Window, IsWellFormed}
@@ -28,4 +27,4 @@ pub record Invariant (m : Inside) : Type 0 where
       (m.pane.from + i)
   pub size_is : length m.story.seen.told.opening ≡ 512 * m.size
   pub inside : m.pane.from + m.pane.held ≤ m.size
-  pub reserved : m.room ≤ deque_capacity m.outbox
+  pub reserved : m.room ≤ m.outbox.room

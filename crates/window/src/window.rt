@@ -11,12 +11,12 @@ ghost use Rattle.window.specs.Window.{CoversDevice, IsServed, HasPlace, IsShown,
 use crate::call::{DeviceCall, SectorWrite};
 use crate::holds::DeviceHolds;
 use crate::memory::{keep, load};
+use crate::outbox::{Kind, Outbox, Place};
 use crate::pane::Pane;
 use crate::sectors::{SECTOR, Sectors, put as put_sector};
 use crate::story::{Event, Opening, Story};
 use medium::{Inlet, Medium, MediumFault, Outlet};
 use std::alloc::Global;
-use std::collections::VecDeque;
 use std::marker::Model;
 use thiserror::Error;
 
@@ -41,7 +41,7 @@ pub struct WindowMedium {
     near: Sectors,
     size: u64,
     pane: Pane,
-    outbox: VecDeque<DeviceCall>,
+    outbox: Outbox,
     room: usize,
     story: Story,
 }
@@ -83,7 +83,7 @@ impl WindowMedium {
         if near.len() == 0 || near.len() % SECTOR != 0 || (near.len() / SECTOR) as u64 > size {
             return Err(WindowError::BadLength);
         }
-        let Ok(outbox) = VecDeque::with_capacity(alloc, room) else {
+        let Ok(outbox) = Outbox::with_room(alloc, room) else {
             return Err(WindowError::NoMemory);
         };
         let Ok(bytes) = vec![in alloc; 0u8; span as usize * SECTOR] else {
@@ -175,7 +175,10 @@ impl WindowMedium {
     pub fn first(&self) -> Option<DeviceCall>
         ensures { result ≡ first_of self.now.outbox }
     {
-        self.outbox.front().copied()
+        match self.outbox.front() {
+            Some(place) => Some(place.call()),
+            None => None,
+        }
     }
 
     /// Copies what the call writes that waits first to its place in the room, where that is a write
@@ -184,13 +187,16 @@ impl WindowMedium {
         requires { 512 * (behind + 1) ≤ length to.old }
         ensures { CopiesFirst self.now (first + behind) behind result to.old to.new }
     {
-        let Some(DeviceCall::Write(write)) = self.outbox.front() else {
+        let Some(place) = self.outbox.front() else {
             return false;
         };
-        if write.sector < first || write.sector - first != behind {
+        let Kind::Write(sector) = place.kind else {
+            return false;
+        };
+        if sector < first || sector - first != behind {
             return false;
         }
-        put_sector(to, behind, &write.block);
+        put_sector(to, behind, &place.block);
         true
     }
 
@@ -281,13 +287,15 @@ impl Medium for WindowMedium {
             return Err(MediumFault::Write);
         }
         keep(&mut self.near, &mut self.pane, sector, from);
-        // (made right where it is put, it is copied once)
         let call = DeviceCall::Write(SectorWrite {
             sector,
             block: *from,
         });
         self.story = Story::of(&Event::Gave(&self.story, &call));
-        self.outbox.push_back_reserved(call);
+        self.outbox.push(Place {
+            block: *from,
+            kind: Kind::Write(sector),
+        });
         Ok(())
     }
 
@@ -306,7 +314,11 @@ impl Medium for WindowMedium {
             return Err(MediumFault::Flush);
         }
         self.story = Story::of(&Event::Gave(&self.story, &DeviceCall::Flush));
-        self.outbox.push_back_reserved(DeviceCall::Flush);
+        let flush = Place {
+            block: [0; 512],
+            kind: Kind::Flush,
+        };
+        self.outbox.push(flush);
         Ok(())
     }
 }

@@ -1,5 +1,6 @@
-use Rattle.std.proofs.Common.{refl, arith, rules, append_assoc, length-append}
+use Rattle.std.proofs.Common.{refl, ap, arith, rules, append_assoc, length-append}
 use Rattle.window.specs.declared.call.DeviceCall.TheVariants.{Flush}
+use Rattle.window.specs.Queue.{Queue}
 use Rattle.window.specs.Story.{given}
 use Rattle.window.specs.MirrorLaws.{is_sound}
 use Rattle.window.specs.Seen.{refused}
@@ -14,7 +15,7 @@ invariant_of-self c = search (rules, given_none)
 pub returns-then-len-self : goal.returns-then-len-self
 returns-then-len-self c =
     let e = seen_on (λ t. refused t Flush) _ c.args.self.now _ c.of-self-inside.ensures c.self.view_is in
-    let leaves = refused_leaves c.args.self.now _ Flush e (rw (← c.self.view_is) (omega (arith, c.self.inside.outbox.ok.0))) in
+    let leaves = refused_leaves c.args.self.now _ Flush e (rw (← c.self.view_is) (omega arith)) in
     search (rules, leaves)
 
 pub invariant_of-self-2 : goal.invariant_of-self-2
@@ -24,7 +25,8 @@ invariant_of-self-2 c =
 
 pub returns : goal.returns
 returns c =
-    let e = given_on Flush _ c.args.self.now _ c.of-self-inside-2.ensures c.push_back_reserved.ensures.items refl refl refl refl refl
+    let waits = ap (λ (q : Queue). q.items) c.push.ensures in
+    let e = given_on Flush _ c.args.self.now _ c.of-self-inside-2.ensures waits refl refl refl refl refl
     c.self.view_is in
     let leaves = given_leaves c.args.self.now _ Flush e (rw (← c.self.view_is) c.self.invariant.well_formed.mirror.whole_writes) refl in
     let sound = is_sound (mirror_of c.args.self.now) in

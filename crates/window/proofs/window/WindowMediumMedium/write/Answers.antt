@@ -1,6 +1,7 @@
 use Rattle.std.proofs.Common.{◌/◌, refl, ap, arith, rules, append_assoc, length-append}
 use Rattle.std.proofs.lemmas.Bool.Decides.{nat_tests}
 use Rattle.window.specs.declared.call.DeviceCall.TheVariants.{Write}
+use Rattle.window.specs.Queue.{Queue}
 use Rattle.window.specs.Story.{given}
 use Rattle.window.specs.OutboxMedium.{device_of}
 use Rattle.window.specs.Seen.{refused}
@@ -15,7 +16,7 @@ pub returns-then-len-self : goal.returns-then-len-self
 returns-then-len-self c =
     let call = Write (record { sector = c.args.sector; block = c.args.from.now }) in
     let e = seen_on (λ t. refused t call) _ c.args.self.now _ c.of-self-inside.ensures c.self.view_is in
-    let leaves = refused_leaves c.args.self.now _ call e (rw (← c.self.view_is) (omega (arith, c.self.inside.outbox.ok.0))) in
+    let leaves = refused_leaves c.args.self.now _ call e (rw (← c.self.view_is) (omega arith)) in
     search (rules, leaves)
 
 pub invariant_of-self-2 : goal.invariant_of-self-2
@@ -38,7 +39,7 @@ pub returns : goal.returns
 returns c =
     let call = Write (record { sector = c.args.sector; block = c.args.from.now }) in
     let stays = c.keep.ensures.pane in
-    let e = given_on call _ c.args.self.now _ c.of-self-inside-2.ensures c.push_back_reserved.ensures.items refl
+    let e = given_on call _ c.args.self.now _ c.of-self-inside-2.ensures (ap (λ (q : Queue). q.items) c.push.ensures) refl
     (ap (λ k. k / 512) c.keep.ensures.length) stays.from stays.held (ap (λ k. k / 512) stays.room) c.self.view_is in
     let leaves = given_leaves c.args.self.now _ call e (rw (← c.self.view_is) c.self.invariant.well_formed.mirror.whole_writes)
     (rw c.told-from refl) in
