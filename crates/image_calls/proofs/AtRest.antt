@@ -1,16 +1,10 @@
 -- A device that has carried out all, or was asked for nothing yet.
-use Rattle.std.proofs.Common.{◌≡◌, length, arith, ap, sym, subst, List, []}
-use Rattle.std.proofs.Common.{length-append}
-use Rattle.std.specs.Prelude.{Option}
-use Rattle.window.specs.OutboxMedium.{sent}
-use Rattle.window.specs.Parts.{PartsFollow}
-use Rattle.window.specs.declared.call.DeviceCall.{DeviceCall}
-use Rattle.window.specs.Window.{Window, mirror_of, ComesAfter, CoversDevice}
-use Rattle.window.specs.WindowLaws.{is_sound, comes_after_itself}
-use Rattle.image_calls.specs.Images.{WaitFor}
-use Rattle.image_calls.specs.Machines.{Machine, begun, under_way, LeavesSince, LeavesAtRest, Begins}
-use Rattle.image_calls.specs.declared.work.Work.{Work}
-use Rattle.image_calls.specs.declared.image_asked.ImageAsked.{ImageAsked}
+use Rattle.std.proofs.Common.{◌≡◌, length, arith, ap, sym, subst, List, [], length-append}
+use Rattle.std.specs.{Prelude.Option}
+use Rattle.window.specs.{OutboxMedium.sent, Parts.PartsFollow, declared.call.DeviceCall.DeviceCall}
+use Rattle.window.specs.{Window.{Window, mirror_of, ComesAfter, CoversDevice}, WindowLaws.{is_sound, comes_after_itself}}
+use Rattle.image_calls.specs.{Images.WaitFor, Machines.{Machine, begun, under_way, LeavesSince, LeavesAtRest, Begins}}
+use Rattle.image_calls.specs.{declared.work.Work.Work, declared.image_asked.ImageAsked.ImageAsked}
 
 -- it was sent no more than it has carried out
 pub rests : (s : Machine) → PartsFollow

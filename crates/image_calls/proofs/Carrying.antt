@@ -1,31 +1,20 @@
 -- A machine whose calls a device carries out is carried on, call by call.
-use Rattle.std.proofs.Common.{◌≡◌, ℕ, Bool, true, false, List, [], ◌∷◌, ◌++◌, length, inl, inr, refl, sym, ◌∙◌, ap, subst, arith}
-use Rattle.std.proofs.Common.{Ok, Result}
-use Rattle.std.proofs.Common.{Option, Some, None, append_assoc}
-use Rattle.std.proofs.lemmas.List.{append-nil}
-use Rattle.window.specs.WindowLaws.{is_sound}
-use Rattle.medium.specs.Medium.{Image}
-use Rattle.medium.specs.Moments.{EachCut, LeavesOnly}
-use Rattle.medium.specs.Tally.{Tally, none}
-use Rattle.medium.specs.Machine.{GoesOn}
-use Rattle.medium.specs.declared.medium_call.Call.{Call}
-use Rattle.medium.specs.declared.medium_call.Call.TheVariants as call
-use Rattle.medium.specs.declared.fault.MediumFault.TheVariants as kind
+use Rattle.std.proofs.Common.{◌≡◌, ℕ, Bool, true, false, List, [], ◌∷◌, ◌++◌, length, inl, inr, refl, sym, ◌∙◌, ap, subst, arith, Ok}
+use Rattle.std.proofs.{Common.{Result, Option, Some, None, append_assoc}, lemmas.List.append-nil}
+use Rattle.window.specs.{WindowLaws.is_sound, Story.{given, are_whole, is_whole}}
+use Rattle.window.specs.{OutboxMedium.{OutboxMedium, sent, DeviceLeaves, ComesAfter}, declared.call.DeviceCall.DeviceCall}
+use Rattle.window.specs.{Window.{Window, state_of, mirror_of, reads, misses, gives}, declared.done_fault.DoneFault.DoneFault}
+use Rattle.medium.specs.{Medium.Image, Moments.{EachCut, LeavesOnly}, Tally.{Tally, none}, Machine.GoesOn, declared.medium_call.Call.Call}
 use Rattle.medium.proofs.Driving.{driven_call, driven_refused, not_driven}
-use Rattle.window.specs.Story.{given, are_whole, is_whole}
-use Rattle.window.specs.OutboxMedium as mirror
-use Rattle.window.specs.OutboxMedium.{OutboxMedium, sent, DeviceLeaves, ComesAfter}
-use Rattle.window.specs.declared.call.DeviceCall.{DeviceCall}
-use Rattle.window.specs.declared.call.DeviceCall.TheVariants as device
-use Rattle.window.proofs.OutboxCalls.{given_none, given_some, whole_more}
-use Rattle.window.proofs.Devices.{covers}
-use Rattle.window.specs.Window.{Window, state_of, mirror_of, reads, misses, gives}
-use Rattle.window.specs.declared.done_fault.DoneFault.{DoneFault}
-use Rattle.image_calls.specs.declared.asked.Asked.{Asked}
-use Rattle.image_calls.specs.declared.asked.Asked.TheVariants as asked
-use Rattle.image_calls.specs.declared.carried.Carried.{Carried}
+use Rattle.window.proofs.{OutboxCalls.{given_none, given_some, whole_more}, Devices.covers}
+use Rattle.image_calls.specs.{declared.asked.Asked.Asked, declared.carried.Carried.Carried}
 use Rattle.image_calls.specs.Carried.{IsCarried, Tells, HearsRead, IsCarriedOn, Reaches, Runs, LeavesWhatItMay, HoldsOn, BeginsCarried}
 use Rattle.image_calls.proofs.Performing.{read_performed, read_refused, write_performed, flush_performed}
+use Rattle.medium.specs.declared.medium_call.Call.TheVariants as call
+use Rattle.medium.specs.declared.fault.MediumFault.TheVariants as kind
+use Rattle.window.specs.OutboxMedium as mirror
+use Rattle.window.specs.declared.call.DeviceCall.TheVariants as device
+use Rattle.image_calls.specs.declared.asked.Asked.TheVariants as asked
 
 -- no call
 abbrev pub none_came : (m : OutboxMedium) → ComesAfter m m

@@ -1,17 +1,12 @@
 -- What a start reads beside the first sectors is enough, and has a place.
-use Rattle.std.proofs.Common.{◌≡◌, ◌≢◌, ◌∙◌, ◌⊎◌, ℕ, ◌<◌, ◌≤◌, ◌+◌, ◌/◌, ◌%◌, min, List, [], ◌∷◌, length, inl, inr, refl}
-use Rattle.std.proofs.Common.{subst, ap, arith}
-use Rattle.medium.specs.Writes.{sector_of}
-use Rattle.journal.specs.Places.{Shape, first_home, sectors_of, IsFirstHome, told_place, told_of}
-use Rattle.journal.specs.Sectors.{IsSuper, IsHead}
-use Rattle.journal.specs.declared.log_format.LogFormat.{LogFormat}
-use Rattle.journal.specs.declared.log_format.LogFormat.TheVariants.{One, Two}
-use Rattle.journal.proofs.SectorNumbers.{IsSuper-one}
-use Rattle.image_calls.specs.Beside.{IsNamed, TellsBeside, IsBeside}
-use Rattle.journal.specs.Naming.{IsToldAt}
-use Rattle.recovery.specs.Calls.{IsReadOfFresh}
-use Rattle.image_calls.specs.Reading.{Reading, IsSound, IsWhole, IsUntil}
-use Rattle.image_calls.specs.declared.reach.Reach.{Reach}
+use Rattle.std.proofs.Common.{◌≡◌, ◌≢◌, ◌∙◌, ◌⊎◌, ℕ, ◌<◌, ◌≤◌, ◌+◌, ◌/◌, ◌%◌, min, List, [], ◌∷◌, length, inl, inr, refl, subst, ap, arith}
+use Rattle.medium.specs.{Writes.sector_of}
+use Rattle.journal.specs.{Places.{Shape, first_home, sectors_of, IsFirstHome, told_place, told_of}, Sectors.{IsSuper, IsHead}}
+use Rattle.journal.specs.{declared.log_format.LogFormat.LogFormat, declared.log_format.LogFormat.TheVariants.{One, Two}, Naming.IsToldAt}
+use Rattle.journal.proofs.{SectorNumbers.IsSuper-one}
+use Rattle.image_calls.specs.{Beside.{IsNamed, TellsBeside, IsBeside}, Reading.{Reading, IsSound, IsWhole, IsUntil}}
+use Rattle.image_calls.specs.{declared.reach.Reach.Reach}
+use Rattle.recovery.specs.{Calls.IsReadOfFresh}
 use Rattle.image_calls.specs.declared.reach.Reach.TheVariants as reach
 
 -- ---- of a start

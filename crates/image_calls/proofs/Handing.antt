@@ -1,24 +1,16 @@
 -- What the device of a machine is handed, and which sectors stay held.
-use Rattle.std.proofs.Common.{◌≡◌, ◌≢◌, ◌+◌, ◌*◌, ◌<◌, ℕ, suc, List, [], ◌∷◌, ◌++◌, length, inl, inr}
-use Rattle.std.proofs.Common.{refl, sym, ◌∙◌, ap, subst, arith, append_assoc, Option}
-use Rattle.std.proofs.lemmas.List.{append-nil}
-use Rattle.medium.specs.Medium.{Image, Stays, Holds}
-use Rattle.medium.specs.Writes.{sector_of}
-use Rattle.medium.specs.Inlet.{AreHeld}
-use Rattle.window.specs.MirrorLaws.{given-append}
-use Rattle.window.specs.Story.{given}
-use Rattle.window.specs.declared.call.DeviceCall.{DeviceCall}
-use Rattle.window.specs.declared.call.DeviceCall.TheVariants as device
-use Rattle.window.proofs.OutboxCalls.{given_none, given_some}
-use Rattle.window.proofs.OutboxCalls as asked
+use Rattle.std.proofs.Common.{◌≡◌, ◌≢◌, ◌+◌, ◌*◌, ◌<◌, ℕ, suc, List, [], ◌∷◌, ◌++◌, length, inl, inr, refl, sym, ◌∙◌, ap, subst, arith}
+use Rattle.std.proofs.{Common.{append_assoc, Option}, lemmas.List.append-nil}
+use Rattle.medium.specs.{Medium.{Image, Stays, Holds}, Writes.sector_of, Inlet.AreHeld}
+use Rattle.window.specs.{MirrorLaws.given-append, Story.given, declared.call.DeviceCall.DeviceCall}
 use Rattle.window.specs.Window.{Window, state_of, mirror_of, reads, gives}
-use Rattle.window.proofs.Shown.{front}
-use Rattle.image_calls.specs.Runs.{HoldsOf, HoldsRead, LetsGo}
-use Rattle.store_calls.specs.Outbox.{writes_of}
-use Rattle.store_calls.proofs.OutboxTaken.{same_writes}
-use Rattle.image_calls.specs.Running.{HandedOut}
-use Rattle.image_calls.specs.declared.run.Run.{Run}
+use Rattle.window.proofs.{OutboxCalls.{given_none, given_some}, Shown.front}
+use Rattle.image_calls.specs.{Runs.{HoldsOf, HoldsRead, LetsGo}, Running.HandedOut, declared.run.Run.Run}
+use Rattle.store_calls.specs.{Outbox.writes_of}
+use Rattle.store_calls.proofs.{OutboxTaken.same_writes}
 use Rattle.image_calls.proofs.Carrying.{none_came, asked_more, gave_more}
+use Rattle.window.specs.declared.call.DeviceCall.TheVariants as device
+use Rattle.window.proofs.OutboxCalls as asked
 
 -- ---- what was handed out
 

@@ -1,30 +1,22 @@
 -- What each call of the work on an image keeps.
-use Rattle.std.proofs.Common.{◌≡◌, ◌≤◌, ◌+◌, ℕ, length, List, inl, inr, refl, sym, ◌∙◌, ap, subst, arith}
-use Rattle.std.proofs.Common.{length-append}
+use Rattle.std.proofs.Common.{◌≡◌, ◌≤◌, ◌+◌, ℕ, length, List, inl, inr, refl, sym, ◌∙◌, ap, subst, arith, length-append}
+use Rattle.std.proofs.{lemmas.Bool.cases_lt}
 use Rattle.std.specs.Prelude.{Bool, true, false, take, Option, Result}
-use Rattle.std.proofs.lemmas.Bool.{cases_lt}
 use Rattle.medium.specs.Medium.{Image, CutLeaves}
-use Rattle.window.specs.Device.{durable, after}
-use Rattle.window.specs.OutboxMedium.{sent}
-use Rattle.window.specs.Parts.{AreCarriedOut, PartsFollow}
-use Rattle.window.specs.declared.call.DeviceCall.{DeviceCall}
-use Rattle.window.specs.Window.{Window, state_of, mirror_of}
-use Rattle.journal.specs.Places.{Shape}
-use Rattle.store_calls.specs.Outbox.{without}
-use Rattle.window.specs.declared.ask.DeviceAsk.{DeviceAsk}
-use Rattle.window.specs.declared.ask.DeviceAsk.TheVariants as ask
-use Rattle.window.specs.declared.done_fault.DoneFault.{DoneFault}
+use Rattle.window.specs.{Device.{durable, after}, OutboxMedium.sent, Parts.{AreCarriedOut, PartsFollow}}
+use Rattle.window.specs.{declared.call.DeviceCall.DeviceCall, Window.{Window, state_of, mirror_of}, declared.ask.DeviceAsk.DeviceAsk}
+use Rattle.window.specs.{declared.done_fault.DoneFault.DoneFault}
+use Rattle.journal.specs.{Places.Shape}
+use Rattle.store_calls.specs.{Outbox.without}
 use Rattle.image_calls.specs.Formats.{IsFormatting, MakesParts}
-use Rattle.image_calls.specs.Machines.{Machine, begun, carried, under_way, MayLeave, LeavesSince, LeavesAtRest, CarriesOut, GoesOn}
-use Rattle.image_calls.specs.Machines.{Asks, AsksBy, AsksForNext, IsDone}
-use Rattle.image_calls.specs.declared.work.Work.{Work}
-use Rattle.image_calls.specs.declared.image_asked.ImageAsked.{ImageAsked}
-use Rattle.image_calls.specs.declared.image_asked.ImageAsked.TheVariants as asked
-use Rattle.image_calls.specs.declared.image_asked.ImageCall.{ImageCall}
-use Rattle.image_calls.specs.declared.image_asked.ImageCall.TheVariants as kind
-use Rattle.image_calls.proofs.NextCall.{on_way_on, has_room_on}
+use Rattle.image_calls.specs.Machines.{Machine, begun, carried, under_way, MayLeave, LeavesSince, LeavesAtRest, CarriesOut, GoesOn, Asks}
+use Rattle.image_calls.specs.{Machines.{AsksBy, AsksForNext, IsDone}, declared.work.Work.Work, declared.image_asked.ImageAsked.ImageAsked}
+use Rattle.image_calls.specs.{declared.image_asked.ImageCall.ImageCall}
+use Rattle.image_calls.proofs.{NextCall.{on_way_on, has_room_on}, Taken.{IsSentStill, some_go, without_more}}
 use Rattle.store_calls.proofs.Handing.{taken_by, some_first, run_waits}
-use Rattle.image_calls.proofs.Taken.{IsSentStill, some_go, without_more}
+use Rattle.window.specs.declared.ask.DeviceAsk.TheVariants as ask
+use Rattle.image_calls.specs.declared.image_asked.ImageAsked.TheVariants as asked
+use Rattle.image_calls.specs.declared.image_asked.ImageCall.TheVariants as kind
 
 -- all but what is left at rest
 pub record Keeps (old new : Machine) : Type 0 where

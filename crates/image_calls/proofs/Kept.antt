@@ -1,14 +1,10 @@
 -- What is kept of the first sectors, as more of them are read.
 use Rattle.std.proofs.Common.{◌≡◌, ◌≢◌, ◌+◌, ◌*◌, ◌/◌, ◌≤◌, ◌<◌, ◌++◌, ◌∙◌, ℕ, true, List, length, take, inl, inr, refl, sym, ap, subst}
-use Rattle.std.proofs.Common.{arith, length-take, length-append}
-use Rattle.std.specs.Vec.{with_items}
-use Rattle.std.proofs.lemmas.List.{with_items_is, take-take, take-append-le}
-use Rattle.image_calls.specs.Inside.{reading_of, Invariant}
-use Rattle.image_calls.specs.Beside.{IsBeside}
-use Rattle.image_calls.specs.Reading.{IsSound, IsUntil, TakesFirst, first_left}
-use Rattle.image_calls.specs.Room.{MakesRoom}
-use Rattle.image_calls.proofs.ReadBeside.{none_yet}
-use Rattle.image_calls.specs.declared.opening.Opening.TheInside.{Inside}
+use Rattle.std.proofs.{Common.{arith, length-take, length-append}, lemmas.List.{with_items_is, take-take, take-append-le}}
+use Rattle.std.specs.{Vec.with_items}
+use Rattle.image_calls.specs.{Inside.{reading_of, Invariant}, Beside.IsBeside, Reading.{IsSound, IsUntil, TakesFirst, first_left}}
+use Rattle.image_calls.specs.{Room.MakesRoom, declared.opening.Opening.TheInside.Inside}
+use Rattle.image_calls.proofs.{ReadBeside.none_yet}
 
 -- how many bytes were read
 pub near_length : (a : Inside) → Invariant a → length (take (512 * a.read) a.bytes.items) ≡ 512 * a.read

@@ -1,26 +1,16 @@
 -- What was made of an image on a device.
-use Rattle.std.proofs.Common.{◌≡◌, ◌⊎◌, inl, inr, ◌+◌, ◌<◌, Some, ◌≤◌, length, ap, sym, subst, arith}
-use Rattle.std.proofs.lemmas.Bool.{cases_lt}
-use Rattle.medium.specs.Sent.{sent}
-use Rattle.std.specs.Prelude.{Bool}
-use Rattle.window.specs.Window.{Window, state_of, kept_out, ComesAfter, CoversDevice}
-use Rattle.window.specs.Looks.{near_in_sight, none_missed}
-use Rattle.journal.specs.Places.{Shape, first_home}
-use Rattle.recovery.specs.Calls.{MakesNoRead}
-use Rattle.recovery.specs.Calls.{IsLaid, LayingLeaves}
-use Rattle.recovery.specs.Causes.{start_fault_of}
+use Rattle.std.proofs.{Common.{◌≡◌, ◌⊎◌, inl, inr, ◌+◌, ◌<◌, Some, ◌≤◌, length, ap, sym, subst, arith}, lemmas.Bool.cases_lt}
+use Rattle.medium.specs.{Sent.sent, declared.fault.MediumFault.MediumFault}
+use Rattle.std.specs.{Prelude.Bool}
+use Rattle.window.specs.{Window.{Window, state_of, kept_out, ComesAfter, CoversDevice}, Looks.{near_in_sight, none_missed}}
+use Rattle.journal.specs.{Places.{Shape, first_home}, Formats.shape_of}
+use Rattle.recovery.specs.{Calls.{MakesNoRead, IsLaid, LayingLeaves}, Causes.start_fault_of}
 use Rattle.recovery.specs.Recovered.{IsMigrationBy, IsMigrationRefusal, IsMigrationCause, MigrationLeaves}
-use Rattle.recovery.specs.declared.start_fault.StartFault.TheVariants as start
-use Rattle.medium.specs.declared.fault.MediumFault.{MediumFault}
-use Rattle.medium.specs.declared.fault.MediumFault.TheVariants as kind
-use Rattle.recovery.specs.declared.recovered.Recovered.{Recovered}
-use Rattle.recovery.specs.declared.start_fault.StartFault.{StartFault}
-use Rattle.journal.specs.Formats.{shape_of}
-use Rattle.image_calls.specs.Parts.{IsBegun}
-use Rattle.image_calls.specs.Formats.{BeginsFormat, HasRoom}
-use Rattle.image_calls.specs.declared.work.Work.{Work}
-use Rattle.image_calls.specs.declared.plan.Plan.{Plan}
+use Rattle.recovery.specs.{declared.recovered.Recovered.Recovered, declared.start_fault.StartFault.StartFault}
+use Rattle.image_calls.specs.{Parts.IsBegun, Formats.{BeginsFormat, HasRoom}, declared.work.Work.Work, declared.plan.Plan.Plan}
 use Rattle.image_calls.specs.Images.{IsLaidOn, IsMigratedOn, IsMigratedNot, MissesNone}
+use Rattle.recovery.specs.declared.start_fault.StartFault.TheVariants as start
+use Rattle.medium.specs.declared.fault.MediumFault.TheVariants as kind
 
 -- a medium of the device that the first one tells
 pub laid_on : (shape : Shape) (first m new held : Window) → m ≡ first → held ≡ new → IsLaid shape (state_of m) (state_of new)

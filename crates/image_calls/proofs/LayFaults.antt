@@ -4,13 +4,10 @@ use Rattle.std.proofs.lemmas.List.{length-take, length-replicate}
 use Rattle.std.specs.Prelude.{replicate, take}
 use Rattle.window.specs.Window.{Window, state_of, ComesAfter}
 use Rattle.journal.specs.Places.{Shape, first_home}
-use Rattle.recovery.specs.Calls.{AreSizes, IsFormatCause}
-use Rattle.recovery.specs.declared.format_fault.FormatFault.{FormatFault}
+use Rattle.recovery.specs.{Calls.{AreSizes, IsFormatCause}, declared.format_fault.FormatFault.FormatFault}
 use Rattle.recovery.specs.declared.format_fault.FormatFault.TheVariants as format_fault
-use Rattle.image_calls.specs.Parts.{SendsPart}
-use Rattle.image_calls.specs.Plans.{shape_by, medium_by}
-use Rattle.image_calls.specs.declared.image_plan.ImagePlan.{ImagePlan}
-use Rattle.image_calls.proofs.Laid.{none_refused}
+use Rattle.image_calls.specs.{Parts.SendsPart, Plans.{shape_by, medium_by}, declared.image_plan.ImagePlan.ImagePlan}
+use Rattle.image_calls.proofs.{Laid.none_refused}
 
 module _ (near holds : List ℕ) (plan : ImagePlan) where
   -- the medium has as many sectors as the plan says, or more

@@ -1,34 +1,21 @@
 -- What a loss of power leaves, whatever calls come.
-use Rattle.std.proofs.Common.{◌≡◌, [], ◌∷◌, ℕ, List, inl, inr, refl, sym, ◌∙◌, ap, subst, length, arith}
-use Rattle.std.proofs.Common.{length-append}
+use Rattle.std.proofs.Common.{◌≡◌, [], ◌∷◌, ℕ, List, inl, inr, refl, sym, ◌∙◌, ap, subst, length, arith, length-append}
 use Rattle.std.specs.Prelude.{Bool, true, false, Option, Some, None}
-use Rattle.medium.specs.Medium.{Image, State}
-use Rattle.medium.specs.Moments.{IsFlushed}
-use Rattle.window.specs.OutboxMedium.{sent}
-use Rattle.window.specs.declared.call.DeviceCall.{DeviceCall}
-use Rattle.window.specs.Window as window
-use Rattle.window.specs.Window.{Window}
-use Rattle.journal.specs.Places.{Shape}
-use Rattle.journal.specs.Record.{home_of}
-use Rattle.journal.specs.Standing.{IsOurs}
-use Rattle.recovery.specs.Calls.{FormatLeaves}
-use Rattle.recovery.specs.Recovered.{IsMigrationBy}
-use Rattle.recovery.specs.declared.recovered.Recovered.{Recovered}
-use Rattle.image_calls.specs.Formats.{BeginsFormat, IsFormatting, MakesParts}
-use Rattle.image_calls.specs.Images.{IsLaidOn, IsMigratedOn, IsWhole}
+use Rattle.medium.specs.{Medium.{Image, State}, Moments.IsFlushed}
+use Rattle.window.specs.{OutboxMedium.sent, declared.call.DeviceCall.DeviceCall, Window.Window}
+use Rattle.journal.specs.{Places.Shape, Record.home_of, Standing.IsOurs}
+use Rattle.recovery.specs.{Calls.FormatLeaves, Recovered.IsMigrationBy, declared.recovered.Recovered.Recovered}
+use Rattle.image_calls.specs.{Formats.{BeginsFormat, IsFormatting, MakesParts}, Images.{IsLaidOn, IsMigratedOn, IsWhole}}
 use Rattle.image_calls.specs.Lives.{Call, IsMade, AreMade, LeavesImage, LeavesMigrated, LeavesThroughout, HasWork}
 use Rattle.image_calls.specs.Lives.Call.{next, done}
 use Rattle.image_calls.specs.Machines.{Machine, MayLeave, LeavesAtRest, Begins, GoesOn, CarriesOut, state_of, state_by, state_at_rest}
-use Rattle.image_calls.specs.Machines.{AsksBy, carried, under_way}
+use Rattle.image_calls.specs.{Machines.{AsksBy, carried, under_way}, Parts.{IsMadeAnew, IsOnWay}, declared.work.Work.Work}
+use Rattle.image_calls.specs.{declared.image_asked.ImageAsked.ImageAsked, declared.plan.Plan.Plan}
+use Rattle.image_calls.proofs.{OnWay.BLANK, Taken.some_go}
+use Rattle.window.specs.Window as window
 use Rattle.window.specs.declared.ask.DeviceAsk.TheVariants as ask
-use Rattle.image_calls.specs.Parts.{IsMadeAnew, IsOnWay}
-use Rattle.image_calls.specs.declared.work.Work.{Work}
-use Rattle.image_calls.specs.declared.image_asked.ImageAsked.{ImageAsked}
 use Rattle.image_calls.specs.declared.image_asked.ImageAsked.TheVariants as asked
-use Rattle.image_calls.specs.declared.plan.Plan.{Plan}
 use Rattle.image_calls.specs.declared.state.ImageState.TheVariants as state
-use Rattle.image_calls.proofs.OnWay.{BLANK}
-use Rattle.image_calls.proofs.Taken.{some_go}
 
 -- ---- call after call
 

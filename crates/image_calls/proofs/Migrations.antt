@@ -1,24 +1,16 @@
 -- A migration has the room that it needs.
-use Rattle.std.proofs.Common.{◌≡◌, ◌⊎◌, inl, inr, ◌+◌, ◌*◌, ◌≤◌, ℕ, List, length, refl, sym, subst, arith}
-use Rattle.std.proofs.lemmas.Bool.{cases_lt}
-use Rattle.medium.specs.Sent.{sent, SendsUpTo}
-use Rattle.medium.specs.Writes.{sector_of}
-use Rattle.journal.proofs.SectorNumbers.{IsSuper-one}
-use Rattle.journal.specs.Places.{Shape, sectors_of, limit_of, slot_sectors_of}
-use Rattle.journal.specs.Sectors.{IsSuper}
-use Rattle.journal.specs.Standing.{HasShape}
-use Rattle.journal.specs.declared.log_format.LogFormat.{LogFormat}
-use Rattle.journal.specs.declared.log_format.LogFormat.TheVariants.{One, Two}
-use Rattle.recovery.specs.Calls.{HoldsLog}
-use Rattle.recovery.specs.Recovered.{IsMigrationCause, most_migration_sends}
-use Rattle.recovery.specs.declared.start_fault.StartFault.{StartFault}
-use Rattle.recovery.specs.declared.start_fault.StartFault.TheVariants as start
+use Rattle.std.proofs.{Common.{◌≡◌, ◌⊎◌, inl, inr, ◌+◌, ◌*◌, ◌≤◌, ℕ, List, length, refl, sym, subst, arith}, lemmas.Bool.cases_lt}
+use Rattle.medium.specs.{Sent.{sent, SendsUpTo}, Writes.sector_of}
+use Rattle.journal.proofs.{SectorNumbers.IsSuper-one}
+use Rattle.journal.specs.{Places.{Shape, sectors_of, limit_of, slot_sectors_of}, Sectors.IsSuper, Standing.HasShape}
+use Rattle.journal.specs.{declared.log_format.LogFormat.LogFormat, declared.log_format.LogFormat.TheVariants.{One, Two}}
+use Rattle.recovery.specs.{Calls.HoldsLog, Recovered.{IsMigrationCause, most_migration_sends}, declared.start_fault.StartFault.StartFault}
 use Rattle.window.specs.Window.{Window, state_of, fresh}
-use Rattle.window.proofs.Kept.{opened_front}
-use Rattle.store_calls.specs.Starts.{IsNoLength}
-use Rattle.image_calls.specs.Images.{IsMigratedNot}
-use Rattle.image_calls.specs.Plans.{IsRoomToMigrate, IsMigratedNever, IsMigrateRefusal}
-use Rattle.image_calls.specs.declared.image_fault.ImageFault.{ImageFault}
+use Rattle.window.proofs.{Kept.opened_front}
+use Rattle.store_calls.specs.{Starts.IsNoLength}
+use Rattle.image_calls.specs.{Images.IsMigratedNot, Plans.{IsRoomToMigrate, IsMigratedNever, IsMigrateRefusal}}
+use Rattle.image_calls.specs.{declared.image_fault.ImageFault.ImageFault}
+use Rattle.recovery.specs.declared.start_fault.StartFault.TheVariants as start
 use Rattle.image_calls.specs.declared.image_fault.ImageFault.TheVariants as fault
 
 -- what a migration sends

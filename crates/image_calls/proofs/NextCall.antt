@@ -1,23 +1,13 @@
 -- From one call of the device to the next.
-use Rattle.std.proofs.Common.{◌≡◌, ◌⊎◌, inl, inr, ◌+◌, ◌<◌, ◌≤◌, ℕ, List, Option, Some, None, length}
-use Rattle.std.proofs.Common.{sym, ◌∙◌, ap, subst, arith}
-use Rattle.medium.specs.Medium.{State, Image}
-use Rattle.medium.specs.Moments.{IsUnchanged}
-use Rattle.medium.proofs.Moments.{then_unchanged}
-use Rattle.medium.proofs.SparedSectors.{spared_joined, spared_unchanged}
-use Rattle.window.specs.Window.{Window, state_of, ComesAfter, CoversDevice}
-use Rattle.window.specs.WindowLaws.{is_sound, comes_after_through}
-use Rattle.journal.specs.Places.{Shape, sectors_of}
-use Rattle.journal.specs.Sectors.{IsSuper, IsHead}
-use Rattle.journal.specs.Standing.{IsOurs}
+use Rattle.std.proofs.Common.{◌≡◌, ◌⊎◌, inl, inr, ◌+◌, ◌<◌, ◌≤◌, ℕ, List, Option, Some, None, length, sym, ◌∙◌, ap, subst, arith}
+use Rattle.medium.specs.{Medium.{State, Image}, Moments.IsUnchanged}
+use Rattle.medium.proofs.{Moments.then_unchanged, SparedSectors.{spared_joined, spared_unchanged}}
+use Rattle.window.specs.{Window.{Window, state_of, ComesAfter, CoversDevice}, WindowLaws.{is_sound, comes_after_through}}
+use Rattle.journal.specs.{Places.{Shape, sectors_of}, Sectors.{IsSuper, IsHead}, Standing.IsOurs}
 use Rattle.recovery.specs.Calls.{FormatLeaves, IsMidway}
-use Rattle.image_calls.specs.Parts.{IsUnderWay, IsMadeAnew, IsOnWay, KeepsOnWay, FailsOnWay, SendsPart}
-use Rattle.image_calls.specs.Images.{WaitFor}
-use Rattle.image_calls.specs.Formats.{IsFormatting, HasRoom, MakesParts}
-use Rattle.image_calls.specs.declared.work.Work.{Work}
-use Rattle.image_calls.specs.declared.plan.Plan.{Plan}
-use Rattle.image_calls.proofs.Laid.{none_refused}
-use Rattle.image_calls.proofs.OnWay.{BLANK}
+use Rattle.image_calls.specs.{Parts.{IsUnderWay, IsMadeAnew, IsOnWay, KeepsOnWay, FailsOnWay, SendsPart}, Images.WaitFor}
+use Rattle.image_calls.specs.{Formats.{IsFormatting, HasRoom, MakesParts}, declared.work.Work.Work, declared.plan.Plan.Plan}
+use Rattle.image_calls.proofs.{Laid.none_refused, OnWay.BLANK}
 
 -- ---- a call that leaves what waits is no call of a medium
 

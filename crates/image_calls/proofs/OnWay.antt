@@ -1,18 +1,13 @@
 -- From one part of a format to the next.
 use Rattle.std.proofs.Common.{◌≡◌, ◌≢◌, inl, inr, ⊎_elim, ℕ, ◌+◌, ◌-◌, ◌<◌, ◌≤◌, List, refl, sym, ◌∙◌, subst, arith, rules}
-use Rattle.std.proofs.lemmas.Bool.{cases_lt}
-use Rattle.std.specs.Prelude.{replicate}
-use Rattle.medium.specs.Medium.{State, Image, CutLeaves, Holds, IsSound}
-use Rattle.medium.specs.Moments.{IsFlushed, LeavesOnly, StaysWithin, SparesFrom}
-use Rattle.spec.specs.Blocks.{Array}
-use Rattle.medium.proofs.Moments.{weaker, joined_same}
-use Rattle.medium.proofs.SparedSectors.{HasSpared, spared_joined}
-use Rattle.journal.specs.Places.{Shape, first_home, sectors_of}
-use Rattle.journal.specs.Record.{home_of}
-use Rattle.journal.specs.Standing.{IsOurs}
-use Rattle.recovery.specs.Calls.{cleared_at, WithOrWithout, IsBetween}
-use Rattle.recovery.specs.Calls.{FormatLeaves, AreSizes, IsNoneOrNew, IsMidway, ImageLeaves, IsLaid}
-use Rattle.recovery.specs.Calls.{LayingLeaves}
+use Rattle.std.proofs.{lemmas.Bool.cases_lt}
+use Rattle.std.specs.{Prelude.replicate}
+use Rattle.medium.specs.{Medium.{State, Image, CutLeaves, Holds, IsSound}, Moments.{IsFlushed, LeavesOnly, StaysWithin, SparesFrom}}
+use Rattle.spec.specs.{Blocks.Array}
+use Rattle.medium.proofs.{Moments.{weaker, joined_same}, SparedSectors.{HasSpared, spared_joined}}
+use Rattle.journal.specs.{Places.{Shape, first_home, sectors_of}, Record.home_of, Standing.IsOurs}
+use Rattle.recovery.specs.Calls.{cleared_at, WithOrWithout, IsBetween, FormatLeaves, AreSizes, IsNoneOrNew, IsMidway, ImageLeaves, IsLaid}
+use Rattle.recovery.specs.{Calls.LayingLeaves}
 use Rattle.recovery.proofs.JoinedCalls.{sets_within, through_spares, clear_spares}
 use Rattle.image_calls.specs.Parts.{IsUnderWay, IsMadeAnew}
 

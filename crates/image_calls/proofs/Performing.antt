@@ -1,18 +1,15 @@
 -- What the device does is what a call of a medium does.
 use Rattle.std.proofs.Common.{◌≡◌, ◌<◌, ℕ, true, List, inr, refl, sym, subst, Ok, Err}
-use Rattle.medium.specs.Medium.{Stays, Holds, Within, Gains}
-use Rattle.medium.specs.Performed.{Performed}
-use Rattle.medium.specs.declared.medium_call.Call.TheVariants as call
-use Rattle.medium.specs.declared.fault.MediumFault.TheVariants as kind
-use Rattle.medium.proofs.SparedSectors.{spared_silent, spared_write}
-use Rattle.medium.proofs.SectorsRead.{look_below, write_looks, flush_looks}
-use Rattle.window.specs.Story.{given, are_whole, is_whole}
-use Rattle.window.specs.declared.call.DeviceCall.TheVariants as device
-use Rattle.window.proofs.OutboxCalls as asked
-use Rattle.window.specs.Window.{Window, state_of, mirror_of, reads, misses, gives}
-use Rattle.window.specs.WindowLaws.{is_sound}
+use Rattle.medium.specs.{Medium.{Stays, Holds, Within, Gains}, Performed.Performed}
+use Rattle.medium.proofs.{SparedSectors.{spared_silent, spared_write}, SectorsRead.{look_below, write_looks, flush_looks}}
+use Rattle.window.specs.{Story.{given, are_whole, is_whole}, Window.{Window, state_of, mirror_of, reads, misses, gives}}
+use Rattle.window.specs.{WindowLaws.is_sound}
 use Rattle.window.proofs.SectorsRead.{passes_read, looks_read, looks_missed, passes_given}
 use Rattle.window.proofs.OneCall.{passes_missed, content_missed, sets_missed}
+use Rattle.medium.specs.declared.medium_call.Call.TheVariants as call
+use Rattle.medium.specs.declared.fault.MediumFault.TheVariants as kind
+use Rattle.window.specs.declared.call.DeviceCall.TheVariants as device
+use Rattle.window.proofs.OutboxCalls as asked
 
 -- a sector was read, and the device holds these bytes there
 pub read_performed : (n : Window) (place : ℕ) (bytes got : List ℕ) → got ≡ (state_of n).content place
@@ -22,13 +19,15 @@ read_performed n place bytes got honest =
     let passes = passes_read n (reads n place) place refl in
     let stays : Stays (state_of n).content (state_of (reads n place)).content = asked.quiet_content m in
     let within : Within (state_of (reads n place)).may_leave (state_of n).may_leave = asked.quiet_sets m in
+    let named = looks_read n (reads n place) place refl in
     record {
       done = honest;
       changes = stays;
       adds = within;
       passes = passes;
       spares = λ first inside. spared_silent first (state_of n) (state_of (reads n place)) (is_sound n) passes stays within;
-      looks = λ end below. look_below end (state_of n) (state_of (reads n place)) place below (looks_read n (reads n place) place refl);
+      looks = λ end below. look_below end (state_of n) (state_of (reads n place)) place below named;
+      names = named;
     }
 
 -- the device refused to read one
@@ -38,13 +37,15 @@ read_refused n place bytes got =
     let passes = passes_missed n (misses n place) place refl in
     let stays = content_missed n (misses n place) place refl in
     let within = sets_missed n (misses n place) place refl in
+    let named = looks_missed n (misses n place) place refl in
     record {
       done = tt;
       changes = stays;
       adds = within;
       passes = passes;
       spares = λ first inside. spared_silent first (state_of n) (state_of (misses n place)) (is_sound n) passes stays within;
-      looks = λ end below. look_below end (state_of n) (state_of (misses n place)) place below (looks_missed n (misses n place) place refl);
+      looks = λ end below. look_below end (state_of n) (state_of (misses n place)) place below named;
+      names = named;
     }
 
 -- a sector was given to it
@@ -66,6 +67,7 @@ write_performed n place bytes whole one =
       passes = passes;
       spares = λ first below. spared_write first (state_of n) (state_of now) place bytes (is_sound n) below passes gains (inr holds);
       looks = λ end below. write_looks (λ s. s < end) (state_of n) (state_of now) passes;
+      names = write_looks _ (state_of n) (state_of now) passes;
     }
 
 -- a flush was given to it
@@ -85,4 +87,5 @@ flush_performed n bytes whole =
       passes = passes;
       spares = λ first inside. spared_silent first (state_of n) (state_of now) (is_sound n) passes stays within;
       looks = λ end below. flush_looks (λ s. s < end) (state_of n) (state_of now) passes;
+      names = flush_looks _ (state_of n) (state_of now) passes;
     }

@@ -1,13 +1,10 @@
 -- What is read beside the first sectors, as these tell it.
 use Rattle.std.proofs.Common.{◌≡◌, ◌∙◌, ℕ, ◌<◌, ◌≤◌, ◌+◌, ◌/◌, ◌%◌, List, [], length, refl, ap, arith}
-use Rattle.medium.specs.Writes.{sector_of}
-use Rattle.journal.specs.Places.{Shape, told_place, told_of}
-use Rattle.journal.specs.declared.log_format.LogFormat.{LogFormat}
+use Rattle.medium.specs.{Writes.sector_of}
+use Rattle.journal.specs.{Places.{Shape, told_place, told_of}, declared.log_format.LogFormat.LogFormat}
 use Rattle.journal.specs.declared.log_format.LogFormat.TheVariants.{One, Two}
 use Rattle.journal.proofs.SectorNumbers.{IsSuper-one, IsHead-one}
-use Rattle.image_calls.specs.Beside.{IsNamed, TellsBeside, IsBeside}
-use Rattle.image_calls.specs.Reading.{IsUntil}
-use Rattle.image_calls.specs.declared.reach.Reach.{Reach}
+use Rattle.image_calls.specs.{Beside.{IsNamed, TellsBeside, IsBeside}, Reading.IsUntil, declared.reach.Reach.Reach}
 use Rattle.image_calls.specs.declared.reach.Reach.TheVariants as reach
 
 -- where no image and no stamp is named, nothing is told

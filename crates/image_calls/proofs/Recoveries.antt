@@ -1,16 +1,12 @@
 -- A recovery that is at its end.
 use Rattle.std.proofs.Common.{◌≡◌, ℕ, List, Result, None}
-use Rattle.medium.specs.Tally.{none}
+use Rattle.medium.specs.{Tally.none}
 use Rattle.window.specs.Window.{Window, state_of}
-use Rattle.image_calls.specs.Carried.{refusal_of}
-use Rattle.image_calls.specs.declared.asked.Asked.{Asked}
-use Rattle.image_calls.specs.declared.asked.Asked.TheVariants as asked
-use Rattle.recovery.specs.HoldsStart.{HoldsStart}
-use Rattle.recovery.specs.Starting.{EndsStart, start_left}
-use Rattle.recovery.specs.declared.recovered.Recovered.{Recovered}
-use Rattle.recovery.specs.declared.start_fault.StartFault.{StartFault}
-use Rattle.image_calls.specs.declared.recovering.Recovering.{Recovering}
+use Rattle.image_calls.specs.{Carried.refusal_of, declared.asked.Asked.Asked, declared.recovering.Recovering.Recovering}
 use Rattle.image_calls.specs.Recovering.{IsRecovering, IsOverAt, EndsAt, stage_of}
+use Rattle.recovery.specs.{HoldsStart.HoldsStart, Starting.{EndsStart, start_left}, declared.recovered.Recovered.Recovered}
+use Rattle.recovery.specs.{declared.start_fault.StartFault.StartFault}
+use Rattle.image_calls.specs.declared.asked.Asked.TheVariants as asked
 
 -- no call is left of one that is over, and of which the device refused none
 pub over_left : (s : Recovering) (at : Asked) → refusal_of at ≡ None → IsOverAt at s

@@ -1,44 +1,27 @@
 -- A machine whose calls a device carries out in runs is carried on, step by step.
 use Rattle.std.proofs.Common.{◌≡◌, ◌+◌, ◌-◌, ◌*◌, ◌/◌, ◌<◌, ◌≤◌, ℕ, Bool, true, false, List, [], ◌∷◌, length, inl, inr, refl, sym, ◌∙◌, ap}
-use Rattle.std.proofs.Common.{subst, arith, Ok, Err, Result, add-one, add-zero}
-use Rattle.std.proofs.Common.{length-take, take}
-use Rattle.medium.specs.Medium.{Image, Holds}
-use Rattle.medium.specs.Moments.{EachCut}
-use Rattle.medium.specs.Tally.{Tally, of_all}
-use Rattle.medium.specs.declared.fault.MediumFault.TheVariants as kind
-use Rattle.medium.specs.Machine.{GoesOn}
-use Rattle.medium.specs.Writes.{sector_of}
-use Rattle.medium.specs.declared.medium_call.Call.{Call}
-use Rattle.medium.specs.declared.medium_call.Call.TheVariants as call
+use Rattle.std.proofs.Common.{subst, arith, Ok, Err, Result, add-one, add-zero, length-take, take}
+use Rattle.medium.specs.{Medium.{Image, Holds}, Moments.EachCut, Tally.{Tally, of_all}, Machine.GoesOn, Writes.sector_of}
+use Rattle.medium.specs.{declared.medium_call.Call.Call, Inlet.AreHeld}
 use Rattle.medium.proofs.Driving.{driven_call, fewer_left}
-use Rattle.medium.specs.Inlet.{AreHeld}
-use Rattle.window.specs.Story.{given, are_whole}
-use Rattle.window.specs.declared.call.DeviceCall.{DeviceCall}
-use Rattle.window.specs.declared.call.DeviceCall.TheVariants as device
+use Rattle.window.specs.{Story.{given, are_whole}, declared.call.DeviceCall.DeviceCall, Window.{Window, state_of, mirror_of, reads, gives}}
+use Rattle.window.specs.{declared.done_fault.DoneFault.DoneFault, declared.ask.DeviceAsk.DeviceAsk}
 use Rattle.window.proofs.OutboxCalls.{given_none, given_some, whole_more}
-use Rattle.window.proofs.OutboxCalls as mirror
-use Rattle.window.specs.Window.{Window, state_of, mirror_of, reads, gives}
-use Rattle.window.specs.declared.done_fault.DoneFault.{DoneFault}
-use Rattle.window.specs.declared.ask.DeviceAsk.{DeviceAsk}
-use Rattle.window.specs.declared.ask.DeviceAsk.TheVariants as ask
 use Rattle.image_calls.specs.Carried.{IsCarried, Tells, Reaches, Runs, StaysCarried, told, HearsRead, EndsRead, ended_by, IsHonest}
-use Rattle.image_calls.specs.Carried.{IsCarriedOn}
-use Rattle.image_calls.specs.Carried.{Hears, IsAsked}
-use Rattle.image_calls.specs.Runs.{HoldsOf, HoldsRead, LetsGo, IsHeld, held_at}
-use Rattle.store_calls.specs.Outbox.{writes_of}
-use Rattle.image_calls.specs.Running.{IsRunning, IsAtRest, Hands, GathersOn, HasGiven, HandedOut, HasGathered}
-use Rattle.image_calls.specs.Running.{RunAsks, Settles, AsksNext, IsRunOn}
-use Rattle.image_calls.specs.Stepping.{Answers, Puts, TellsNone, IsAnswered, WritesTo}
-use Rattle.image_calls.specs.declared.asked.Asked.{Asked}
-use Rattle.image_calls.specs.declared.asked.Asked.TheVariants as asked
-use Rattle.image_calls.specs.declared.carried.Carried.{Carried}
-use Rattle.image_calls.specs.declared.run.Run.{Run}
-use Rattle.image_calls.specs.declared.running.Running.{Running}
+use Rattle.image_calls.specs.{Carried.{IsCarriedOn, Hears, IsAsked}, Runs.{HoldsOf, HoldsRead, LetsGo, IsHeld, held_at}}
+use Rattle.image_calls.specs.Running.{IsRunning, IsAtRest, Hands, GathersOn, HasGiven, HandedOut, HasGathered, RunAsks, Settles, AsksNext}
+use Rattle.image_calls.specs.{Running.IsRunOn, Stepping.{Answers, Puts, TellsNone, IsAnswered, WritesTo}, declared.asked.Asked.Asked}
+use Rattle.image_calls.specs.{declared.carried.Carried.Carried, declared.run.Run.Run, declared.running.Running.Running}
+use Rattle.store_calls.specs.{Outbox.writes_of}
 use Rattle.image_calls.proofs.Carrying.{asked_more, gave_more, whole_write}
 use Rattle.image_calls.proofs.Handing.{handed_none, handed_read, handed_more, handed_on, handed_through, writes_more, held_read}
-use Rattle.image_calls.proofs.Handing.{held_written}
-use Rattle.image_calls.proofs.Handing.{held_flushed, held_anew}
-use Rattle.image_calls.proofs.Performing.{read_performed, write_performed}
+use Rattle.image_calls.proofs.{Handing.{held_written, held_flushed, held_anew}, Performing.{read_performed, write_performed}}
+use Rattle.medium.specs.declared.fault.MediumFault.TheVariants as kind
+use Rattle.medium.specs.declared.medium_call.Call.TheVariants as call
+use Rattle.window.specs.declared.call.DeviceCall.TheVariants as device
+use Rattle.window.proofs.OutboxCalls as mirror
+use Rattle.window.specs.declared.ask.DeviceAsk.TheVariants as ask
+use Rattle.image_calls.specs.declared.asked.Asked.TheVariants as asked
 
 module _ {S V : Type 0} (fits : S → ℕ → Type 0) (holds : S → List ℕ → Window → V → Type 0) (may : V → Image → Type 0)
     (reads_to ends : S → ℕ) (cost : S → Tally) (Exact : Type 0) (Due : S → Type 0) (After : S → List ℕ → S → Type 0)

@@ -1,11 +1,9 @@
 -- Calls that leave what waits are no calls of the medium.
 use Rattle.std.proofs.Common.{◌≡◌, ◌+◌, ◌++◌, ◌∷◌, [], ℕ, zero, suc, List, refl, sym, ◌∙◌, ap, arith, append_assoc}
-use Rattle.medium.specs.Moments.{IsUnchanged}
+use Rattle.medium.specs.{Moments.IsUnchanged}
 use Rattle.medium.proofs.Moments.{unchanged, unchanged_through}
-use Rattle.window.specs.OutboxMedium.{sent}
-use Rattle.window.specs.declared.call.DeviceCall.{DeviceCall}
-use Rattle.window.specs.Window.{Window, state_of, mirror_of, take_first}
-use Rattle.store_calls.specs.Outbox.{without}
+use Rattle.window.specs.{OutboxMedium.sent, declared.call.DeviceCall.DeviceCall, Window.{Window, state_of, mirror_of, take_first}}
+use Rattle.store_calls.specs.{Outbox.without}
 
 -- what was sent stays, however much of it has left
 pub record IsSentStill (old new : Window) : Type 0 where

@@ -1,10 +1,7 @@
 -- How many sectors are read in all, as more of them are.
-use Rattle.std.proofs.Common.{◌≡◌, ℕ, ◌≤◌, min, List, [], ◌∷◌, ◌++◌, length, sym, subst, arith}
-use Rattle.std.proofs.lemmas.List.{take-append-le}
-use Rattle.medium.specs.Writes.{sector_of}
-use Rattle.image_calls.specs.Near.{IsNear}
-use Rattle.image_calls.specs.Reading.{IsUntil}
-use Rattle.image_calls.specs.declared.reach.Reach.{Reach}
+use Rattle.std.proofs.{Common.{◌≡◌, ℕ, ◌≤◌, min, List, [], ◌∷◌, ◌++◌, length, sym, subst, arith}, lemmas.List.take-append-le}
+use Rattle.medium.specs.{Writes.sector_of}
+use Rattle.image_calls.specs.{Near.IsNear, Reading.IsUntil, declared.reach.Reach.Reach}
 use Rattle.image_calls.specs.declared.reach.Reach.TheVariants as reach
 
 -- the first sector stays

@@ -1,10 +1,10 @@
 -- What a start reads beside the two first sectors of an image in which no record waits: in the slot
 -- of the next record, what tells whether it is there.
 use Rattle.std.specs.Prelude.{◌≡◌, ℕ, ◌+◌, ◌%◌, ◌≤◌, List, length}
-use Rattle.medium.specs.Writes.{sector_of}
+use Rattle.medium.specs.{Writes.sector_of}
 use Rattle.journal.specs.Places.{Shape, sectors_of, told_place, told_of}
 use Rattle.journal.specs.Sectors.{IsSuper, IsHead}
-use Rattle.image_calls.specs.declared.reach.Reach.{Reach}
+use Rattle.image_calls.specs.{declared.reach.Reach.Reach}
 use Rattle.image_calls.specs.declared.reach.Reach.TheVariants as reach
 
 -- These are the super of an image of this shape, for which the device has the sectors, and a head

@@ -1,26 +1,19 @@
 -- A machine whose calls a device carries out, one at a time, and the device behind it.
-use Rattle.std.specs.Prelude.{◌≡◌, ◌≢◌, ◌⊎◌, ◌≤◌, ℕ, Bool, true, false, List, length}
-use Rattle.std.specs.Prelude.{Result, Ok, Err, Option, Some, None}
-use Rattle.medium.specs.Medium.{Image, Holds}
-use Rattle.medium.specs.Writes.{sector_of}
-use Rattle.medium.specs.Moments.{LeavesOnly}
-use Rattle.medium.specs.Tally.{Tally, none}
-use Rattle.medium.specs.Machine.{TellsCall, Driven}
-use Rattle.medium.specs.declared.medium_call.Call.{Call}
-use Rattle.medium.specs.declared.medium_call.Call.TheVariants as call
-use Rattle.medium.specs.declared.fault.MediumFault.{MediumFault}
-use Rattle.medium.specs.declared.fault.MediumFault.TheVariants as kind
-use Rattle.window.specs.Story.{given, are_whole}
-use Rattle.window.specs.OutboxMedium.{sent, DeviceLeaves, ComesAfter}
-use Rattle.window.specs.declared.call.DeviceCall.TheVariants as device
+use Rattle.std.specs.Prelude.{◌≡◌, ◌≢◌, ◌⊎◌, ◌≤◌, ℕ, Bool, true, false, List, length, Result, Ok}
+use Rattle.std.specs.Prelude.{Err, Option, Some, None}
+use Rattle.medium.specs.{Medium.{Image, Holds}, Writes.sector_of, Moments.LeavesOnly}
+use Rattle.medium.specs.{Tally.{Tally, none}, Machine.{TellsCall, Driven}}
+use Rattle.medium.specs.{declared.medium_call.Call.Call, declared.fault.MediumFault.MediumFault}
+use Rattle.window.specs.{Story.{given, are_whole}, OutboxMedium.{sent, DeviceLeaves, ComesAfter}}
 use Rattle.window.specs.Window.{Window, state_of, mirror_of, reads, misses, gives}
-use Rattle.window.specs.declared.ask.DeviceAsk.{DeviceAsk}
+use Rattle.window.specs.{declared.ask.DeviceAsk.DeviceAsk, declared.done_fault.DoneFault.DoneFault}
+use Rattle.image_calls.specs.{declared.asked.Asked.Asked, declared.carried.Carried.Carried}
+use Rattle.medium.specs.declared.medium_call.Call.TheVariants as call
+use Rattle.medium.specs.declared.fault.MediumFault.TheVariants as kind
+use Rattle.window.specs.declared.call.DeviceCall.TheVariants as device
 use Rattle.window.specs.declared.ask.DeviceAsk.TheVariants as ask
-use Rattle.window.specs.declared.done_fault.DoneFault.{DoneFault}
 use Rattle.window.specs.declared.done_fault.DoneFault.TheVariants as fault
-use Rattle.image_calls.specs.declared.asked.Asked.{Asked}
 use Rattle.image_calls.specs.declared.asked.Asked.TheVariants as asked
-use Rattle.image_calls.specs.declared.carried.Carried.{Carried}
 
 -- ---- the device, as a medium to which each call is given when the device is told it
 

@@ -1,11 +1,9 @@
 -- A format on a device, a part at a time: the next waits where the one before it is handed out.
 use Rattle.std.specs.Prelude.{◌≡◌, ◌⊎◌, ◌+◌, ◌<◌, ◌≤◌, length, Option, Some, None}
 use Rattle.window.specs.Window.{Window, state_of}
-use Rattle.journal.specs.Places.{Shape}
-use Rattle.image_calls.specs.Images.{WaitFor}
-use Rattle.image_calls.specs.Parts.{IsOnWay}
-use Rattle.image_calls.specs.declared.work.Work.{Work}
-use Rattle.image_calls.specs.declared.plan.Plan.{Plan}
+use Rattle.journal.specs.{Places.Shape}
+use Rattle.image_calls.specs.{Images.WaitFor, Parts.IsOnWay, declared.work.Work.Work}
+use Rattle.image_calls.specs.{declared.plan.Plan.Plan}
 
 -- an outbox has room for each part
 abbrev pub HasRoom : Option Plan → Window → Type 0

@@ -1,18 +1,15 @@
 -- What is made of an image on a device, and what waits for the device then.
 use Rattle.std.specs.Prelude.{◌≡◌, ◌⊎◌, ◌+◌, ◌<◌, ◌≤◌, Bool, None}
 use Rattle.window.specs.Window.{Window, state_of, kept_out, ComesAfter, CoversDevice}
-use Rattle.journal.specs.Places.{Shape, first_home}
-use Rattle.recovery.specs.Calls.{HoldsLog}
-use Rattle.recovery.specs.Calls.{IsLaid, LayingLeaves}
-use Rattle.journal.specs.Standing.{HasShape}
+use Rattle.journal.specs.{Places.{Shape, first_home}, Standing.HasShape}
+use Rattle.recovery.specs.Calls.{HoldsLog, IsLaid, LayingLeaves}
 use Rattle.recovery.specs.Recovered.{IsMigrationBy, IsMigrationRefusal, MigrationLeaves}
-use Rattle.recovery.specs.Recovered.{most_migration_sends}
-use Rattle.recovery.specs.declared.recovered.Recovered.{Recovered}
-use Rattle.recovery.specs.declared.start_fault.StartFault.{StartFault}
-use Rattle.recovery.specs.declared.start_fault.StartFault.TheVariants.{NoMemory}
+use Rattle.recovery.specs.{Recovered.most_migration_sends, declared.recovered.Recovered.Recovered}
+use Rattle.recovery.specs.{declared.start_fault.StartFault.StartFault}
 use Rattle.recovery.specs.declared.start_fault.StartFault.TheVariants as fault_of_start
-use Rattle.medium.specs.Sent.{sent}
-use Rattle.image_calls.specs.declared.work.Work.{Work}
+use Rattle.recovery.specs.{declared.start_fault.StartFault.TheVariants.NoMemory}
+use Rattle.medium.specs.{Sent.sent}
+use Rattle.image_calls.specs.{declared.work.Work.Work}
 
 -- Wherever among the calls that wait the device is, a cut of it leaves what a cut at some moment of
 -- those calls could; they are all that was given to it since.

@@ -1,8 +1,7 @@
 -- What an opening keeps, and what is seen of it.
 use Rattle.std.specs.Prelude.{◌≡◌, ◌+◌, ◌*◌, ◌<◌, ◌≤◌, length, take}
-use Rattle.image_calls.specs.Beside.{IsBeside}
-use Rattle.image_calls.specs.Reading.{Reading, IsUntil}
-use Rattle.image_calls.specs.declared.opening.Opening.TheInside.{Inside}
+use Rattle.image_calls.specs.{Beside.IsBeside, Reading.{Reading, IsUntil}}
+use Rattle.image_calls.specs.{declared.opening.Opening.TheInside.Inside}
 
 -- what was read lies at the front of the room for it
 abbrev pub reading_of : Inside → Reading

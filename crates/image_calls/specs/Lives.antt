@@ -1,25 +1,17 @@
 -- Calls of the work on an image, one after the other, and what a loss of power leaves.
-use Rattle.std.specs.Prelude.{◌≡◌, ◌⊎◌, ℕ, Bool, List, [], ◌∷◌, length, replicate}
-use Rattle.std.specs.Prelude.{None, Result}
-use Rattle.medium.specs.Medium.{Image}
-use Rattle.medium.specs.Moments.{EachCut}
-use Rattle.spec.specs.Blocks.{Array}
-use Rattle.journal.specs.Places.{Shape}
-use Rattle.journal.specs.Record.{home_of}
-use Rattle.journal.specs.Standing.{IsOurs}
-use Rattle.recovery.specs.Calls.{IsMidway}
-use Rattle.recovery.specs.Recovered.{IsOursForSome, IsOursInEither, StandsForSome}
-use Rattle.window.specs.Window as window
-use Rattle.window.specs.Window.{Window}
-use Rattle.window.specs.OutboxMedium.{sent}
-use Rattle.window.specs.declared.ask.DeviceAsk.{DeviceAsk}
-use Rattle.window.specs.declared.ask.DeviceAsk.TheVariants as ask
-use Rattle.window.specs.declared.done_fault.DoneFault.{DoneFault}
+use Rattle.std.specs.Prelude.{◌≡◌, ◌⊎◌, ℕ, Bool, List, [], ◌∷◌, length, replicate, None, Result}
+use Rattle.medium.specs.{Medium.Image, Moments.EachCut}
+use Rattle.spec.specs.{Blocks.Array}
+use Rattle.journal.specs.{Places.Shape, Record.home_of, Standing.IsOurs}
+use Rattle.recovery.specs.{Calls.IsMidway, Recovered.{IsOursForSome, IsOursInEither, StandsForSome}}
+use Rattle.window.specs.{Window.Window, OutboxMedium.sent, declared.ask.DeviceAsk.DeviceAsk}
+use Rattle.window.specs.{declared.done_fault.DoneFault.DoneFault}
 use Rattle.image_calls.specs.Formats.{BeginsFormat, IsFormatting}
 use Rattle.image_calls.specs.Images.{IsLaidOn, IsMigratedOn, IsWhole}
-use Rattle.image_calls.specs.Machines.{Machine, Asks, Hears, MayLeave, Begins, GoesOn}
-use Rattle.image_calls.specs.Machines.{carried, state_of}
-use Rattle.image_calls.specs.Parts.{IsMadeAnew}
+use Rattle.image_calls.specs.Machines.{Machine, Asks, Hears, MayLeave, Begins, GoesOn, carried}
+use Rattle.image_calls.specs.{Machines.state_of, Parts.IsMadeAnew}
+use Rattle.window.specs.Window as window
+use Rattle.window.specs.declared.ask.DeviceAsk.TheVariants as ask
 use Rattle.image_calls.specs.declared.image_asked.ImageAsked.TheVariants as asked
 use Rattle.image_calls.specs.declared.state.ImageState.TheVariants as state
 

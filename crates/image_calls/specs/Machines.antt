@@ -1,30 +1,25 @@
 -- Work on an image and the device behind it, which may be behind: it carries out one call after the
 -- other.
-use Rattle.std.specs.Prelude.{◌≡◌, ℕ, ◌-◌, ◌<◌, ◌≤◌, Bool, true, false}
-use Rattle.std.specs.Prelude.{List, [], ◌∷◌, length, take, Option, Some, None, Result, Ok, Err}
+use Rattle.std.specs.Prelude.{◌≡◌, ℕ, ◌-◌, ◌<◌, ◌≤◌, Bool, true, false, List, [], ◌∷◌, length, take}
+use Rattle.std.specs.Prelude.{Option, Some, None, Result, Ok, Err}
 use Rattle.medium.specs.Medium.{Image, CutLeaves}
-use Rattle.window.specs.Device.{durable, after}
-use Rattle.window.specs.OutboxMedium.{first_of, sent}
-use Rattle.window.specs.Parts.{AreCarriedOut}
-use Rattle.window.specs.declared.call.DeviceCall.{DeviceCall}
+use Rattle.window.specs.{Device.{durable, after}, OutboxMedium.{first_of, sent}}
+use Rattle.window.specs.{Parts.AreCarriedOut, declared.call.DeviceCall.DeviceCall}
+use Rattle.window.specs.{Window.{Window, mirror_of}, declared.ask.DeviceAsk.DeviceAsk}
+use Rattle.window.specs.{declared.done_fault.DoneFault.DoneFault}
+use Rattle.journal.specs.{Places.Shape}
+use Rattle.store_calls.specs.Outbox.{without, IsLongestRun}
+use Rattle.image_calls.specs.{Formats.{IsFormatting, MakesParts}, declared.work.Work.Work}
+use Rattle.image_calls.specs.{declared.image_asked.ImageAsked.ImageAsked}
+use Rattle.image_calls.specs.{declared.image_asked.ImageCall.ImageCall}
+use Rattle.image_calls.specs.{declared.machine.ImageMachine.ImageMachine, declared.plan.Plan.Plan}
+use Rattle.image_calls.specs.{declared.state.ImageState.ImageState}
 use Rattle.window.specs.declared.call.DeviceCall.TheVariants as call
 use Rattle.window.specs.Window as window
-use Rattle.window.specs.Window.{Window, mirror_of}
-use Rattle.journal.specs.Places.{Shape}
-use Rattle.store_calls.specs.Outbox.{without, IsLongestRun}
-use Rattle.window.specs.declared.ask.DeviceAsk.{DeviceAsk}
 use Rattle.window.specs.declared.ask.DeviceAsk.TheVariants as ask
-use Rattle.window.specs.declared.done_fault.DoneFault.{DoneFault}
 use Rattle.window.specs.declared.done_fault.DoneFault.TheVariants as fault
-use Rattle.image_calls.specs.Formats.{IsFormatting, MakesParts}
-use Rattle.image_calls.specs.declared.work.Work.{Work}
-use Rattle.image_calls.specs.declared.image_asked.ImageAsked.{ImageAsked}
 use Rattle.image_calls.specs.declared.image_asked.ImageAsked.TheVariants as asked
-use Rattle.image_calls.specs.declared.image_asked.ImageCall.{ImageCall}
 use Rattle.image_calls.specs.declared.image_asked.ImageCall.TheVariants as kind
-use Rattle.image_calls.specs.declared.machine.ImageMachine.{ImageMachine}
-use Rattle.image_calls.specs.declared.plan.Plan.{Plan}
-use Rattle.image_calls.specs.declared.state.ImageState.{ImageState}
 use Rattle.image_calls.specs.declared.state.ImageState.TheVariants as state
 
 -- the work, and what the device was asked for last and has not told done

@@ -1,7 +1,6 @@
 -- How many sectors lie before the blocks.
 use Rattle.std.specs.Prelude.{◌≡◌, ℕ, List}
-use Rattle.journal.specs.Places.{Shape, first_home}
-use Rattle.journal.specs.Sectors.{IsSuper}
+use Rattle.journal.specs.{Places.{Shape, first_home}, Sectors.IsSuper}
 
 -- Where this sector is a super, all before the first home sector. Else two: where a super was
 -- rubbed out, the head lies behind it.

@@ -1,12 +1,9 @@
 -- What a format leaves that is made in parts, from one to the next.
 use Rattle.std.specs.Prelude.{◌≡◌, ℕ, suc, ◌+◌, ◌-◌, ◌<◌, ◌≤◌, List, replicate, Option, Some, None}
-use Rattle.medium.specs.Medium.{State, Image}
-use Rattle.medium.specs.Sent.{SendsUpTo}
-use Rattle.journal.specs.Places.{Shape, first_home, sectors_of}
-use Rattle.journal.specs.Formats.{shape_of}
-use Rattle.recovery.specs.Calls.{IsFormatted, FormatLeaves, AreSizes}
-use Rattle.recovery.specs.Calls.{MakesNoRead}
-use Rattle.image_calls.specs.declared.plan.Plan.{Plan}
+use Rattle.medium.specs.{Medium.{State, Image}, Sent.SendsUpTo}
+use Rattle.journal.specs.{Places.{Shape, first_home, sectors_of}, Formats.shape_of}
+use Rattle.recovery.specs.Calls.{IsFormatted, FormatLeaves, AreSizes, MakesNoRead}
+use Rattle.image_calls.specs.{declared.plan.Plan.Plan}
 
 -- Between two parts: home is cleared up to this sector, and there is no super. Since it was taken
 -- away, by the first two calls, no cut has left one.

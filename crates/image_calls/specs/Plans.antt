@@ -1,20 +1,18 @@
 -- What an image is begun on: by a plan, or by the super of the image that is there.
-use Rattle.std.specs.Prelude.{◌≡◌, ◌≢◌, ◌⊎◌, ℕ, ◌+◌, ◌≤◌, List, length, MatchResult}
-use Rattle.std.specs.Prelude.{Result, Option, Some, None, zero, suc}
-use Rattle.medium.specs.Writes.{sector_of}
-use Rattle.journal.specs.Places.{Shape, shape_with, first_home}
-use Rattle.journal.specs.Sectors.{IsSuper}
+use Rattle.std.specs.Prelude.{◌≡◌, ◌≢◌, ◌⊎◌, ℕ, ◌+◌, ◌≤◌, List, length, MatchResult, Result, Option}
+use Rattle.std.specs.Prelude.{Some, None, zero, suc}
+use Rattle.medium.specs.{Writes.sector_of}
+use Rattle.journal.specs.{Places.{Shape, shape_with, first_home}, Sectors.IsSuper}
 use Rattle.recovery.specs.Calls.{AreSizes, HoldsLog}
 use Rattle.recovery.specs.Recovered.{IsMigrationRefusal, most_migration_sends}
-use Rattle.recovery.specs.declared.start_fault.StartFault.{StartFault}
-use Rattle.recovery.specs.declared.start_fault.StartFault.TheVariants as start
+use Rattle.recovery.specs.{declared.start_fault.StartFault.StartFault}
 use Rattle.window.specs.Window.{Window, state_of, fresh}
-use Rattle.store_calls.specs.Starts.{IsNoLength}
-use Rattle.image_calls.specs.Images.{IsMigratedOn, IsWhole}
-use Rattle.image_calls.specs.Machines.{Machine, Begins}
-use Rattle.image_calls.specs.declared.image_fault.ImageFault.{ImageFault}
+use Rattle.store_calls.specs.{Starts.IsNoLength}
+use Rattle.image_calls.specs.{Images.{IsMigratedOn, IsWhole}, Machines.{Machine, Begins}}
+use Rattle.image_calls.specs.{declared.image_fault.ImageFault.ImageFault}
+use Rattle.image_calls.specs.{declared.image_plan.ImagePlan.ImagePlan}
+use Rattle.recovery.specs.declared.start_fault.StartFault.TheVariants as start
 use Rattle.image_calls.specs.declared.image_fault.ImageFault.TheVariants as fault
-use Rattle.image_calls.specs.declared.image_plan.ImagePlan.{ImagePlan}
 
 -- the sector of block 0 that a plan gives, if it gives one
 abbrev pub home_in : ℕ → Option ℕ

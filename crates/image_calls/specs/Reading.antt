@@ -1,17 +1,14 @@
 -- The first sectors of a device, and others beside them, as far as they are read.
 use Rattle.std.specs.Prelude.{◌≡◌, ◌≢◌, ◌⊎◌, ℕ, ◌+◌, ◌-◌, ◌*◌, ◌/◌, ◌%◌, ◌≤◌, min, Bool, true}
 use Rattle.std.specs.Prelude.{false, List, [], ◌∷◌, ◌++◌, length, Result, Ok, Err}
-use Rattle.medium.specs.Writes.{sector_of}
-use Rattle.window.specs.declared.ask.DeviceAsk.{DeviceAsk}
+use Rattle.medium.specs.{Writes.sector_of}
+use Rattle.window.specs.{declared.ask.DeviceAsk.DeviceAsk, declared.done_fault.DoneFault.DoneFault}
+use Rattle.image_calls.specs.{declared.reach.Reach.Reach, declared.read_end.ReadEnd.ReadEnd}
+use Rattle.image_calls.specs.{Beside.IsBeside, Near.IsNear}
 use Rattle.window.specs.declared.ask.DeviceAsk.TheVariants as ask
-use Rattle.window.specs.declared.done_fault.DoneFault.{DoneFault}
 use Rattle.window.specs.declared.done_fault.DoneFault.TheVariants as fault
-use Rattle.image_calls.specs.declared.reach.Reach.{Reach}
 use Rattle.image_calls.specs.declared.reach.Reach.TheVariants as reach
-use Rattle.image_calls.specs.declared.read_end.ReadEnd.{ReadEnd}
 use Rattle.image_calls.specs.declared.read_end.ReadEnd.TheVariants as end
-use Rattle.image_calls.specs.Beside.{IsBeside}
-use Rattle.image_calls.specs.Near.{IsNear}
 
 -- What was read of a device of so many sectors, from sector 0 on and from `at` on; how many sectors
 -- are read from 0 on and how many from there on, as far as it is known; and how many the device is

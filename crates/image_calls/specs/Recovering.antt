@@ -1,32 +1,23 @@
 -- The recovery of an image, which a device carries out in runs of neighbouring sectors.
-use Rattle.std.specs.Prelude.{◌≡◌, ◌⊎◌, ℕ, ◌≤◌, min, Bool, true, false, List, []}
-use Rattle.std.specs.Prelude.{length, Result, Ok, Err}
-use Rattle.medium.specs.Medium.{Image}
-use Rattle.medium.specs.Tally.{Tally, none}
-use Rattle.medium.specs.Writes.{sector_of}
-use Rattle.window.specs.Story.{given, are_whole}
-use Rattle.window.specs.OutboxMedium.{sent}
-use Rattle.window.specs.OutboxMedium as outbox
-use Rattle.window.specs.Parts.{CoversParts}
-use Rattle.window.specs.Window.{Window, state_of, mirror_of}
-use Rattle.window.specs.declared.ask.DeviceAsk.{DeviceAsk}
-use Rattle.window.specs.declared.done_fault.DoneFault.{DoneFault}
-use Rattle.image_calls.specs.Carried.{ended_by}
+use Rattle.std.specs.Prelude.{◌≡◌, ◌⊎◌, ℕ, ◌≤◌, min, Bool, true, false, List, [], length, Result}
+use Rattle.std.specs.Prelude.{Ok, Err}
+use Rattle.medium.specs.{Medium.Image, Tally.{Tally, none}, Writes.sector_of}
+use Rattle.window.specs.{Story.{given, are_whole}, OutboxMedium.sent, Parts.CoversParts}
+use Rattle.window.specs.{Window.{Window, state_of, mirror_of}, declared.ask.DeviceAsk.DeviceAsk}
+use Rattle.window.specs.{declared.done_fault.DoneFault.DoneFault}
+use Rattle.image_calls.specs.{Carried.ended_by}
 use Rattle.image_calls.specs.Running.{IsRunning, RunAsks, RunEnds, HandedOut, handed, AreHonest}
-use Rattle.image_calls.specs.Running.{IsReading}
-use Rattle.image_calls.specs.declared.asked.Asked.{Asked}
-use Rattle.image_calls.specs.declared.asked.Asked.TheVariants as asked
-use Rattle.recovery.specs.Causes.{start_fault_of}
-use Rattle.recovery.specs.HoldsStart.{HoldsStart, StartView, MayStart}
-use Rattle.recovery.specs.Recovered.{RecoveryLeaves}
-use Rattle.recovery.specs.Stages.{StartStage, stage_at}
+use Rattle.image_calls.specs.{Running.IsReading, declared.asked.Asked.Asked, Near.IsNear}
+use Rattle.image_calls.specs.{declared.recovering.Recovering.Recovering}
+use Rattle.recovery.specs.{Causes.start_fault_of, HoldsStart.{HoldsStart, StartView, MayStart}}
+use Rattle.recovery.specs.{Recovered.RecoveryLeaves, Stages.{StartStage, stage_at}}
 use Rattle.recovery.specs.Starting.{EndsStart, IsStarting, IsStartStep, start_left, start_kind}
-use Rattle.recovery.specs.declared.recovered.Recovered.{Recovered}
-use Rattle.recovery.specs.declared.start_fault.StartFault.{StartFault}
+use Rattle.recovery.specs.{declared.recovered.Recovered.Recovered}
+use Rattle.recovery.specs.{declared.start_fault.StartFault.StartFault}
+use Rattle.recovery.specs.{declared.starting.Starting.Starting}
+use Rattle.window.specs.OutboxMedium as outbox
+use Rattle.image_calls.specs.declared.asked.Asked.TheVariants as asked
 use Rattle.recovery.specs.declared.start_point.StartPoint.TheVariants as point
-use Rattle.recovery.specs.declared.starting.Starting.{Starting}
-use Rattle.image_calls.specs.Near.{IsNear}
-use Rattle.image_calls.specs.declared.recovering.Recovering.{Recovering}
 
 -- ---- a start, as a machine whose calls a device carries out
 

@@ -1,29 +1,21 @@
 -- A machine whose calls a device carries out, neighbouring sectors together.
-use Rattle.std.specs.Prelude.{◌≡◌, ◌≢◌, ◌⊎◌, ◌≤◌, ◌+◌, ◌-◌, ◌*◌, ◌/◌, ℕ, Bool, true}
-use Rattle.std.specs.Prelude.{false, List, [], ◌∷◌, length, take, min, max, Result, Ok, Err}
-use Rattle.medium.specs.Medium.{Image}
-use Rattle.medium.specs.Tally.{Tally, none}
-use Rattle.medium.specs.Writes.{sector_of}
-use Rattle.medium.specs.declared.medium_call.Call.TheVariants as call
-use Rattle.medium.specs.Inlet.{AreHeld}
-use Rattle.window.specs.OutboxMedium.{ComesAfter}
-use Rattle.window.specs.Story.{given, are_whole}
-use Rattle.window.specs.declared.call.DeviceCall.{DeviceCall}
-use Rattle.window.specs.declared.call.DeviceCall.TheVariants as device
-use Rattle.window.specs.Window.{Window, state_of, mirror_of}
-use Rattle.window.specs.declared.ask.DeviceAsk.{DeviceAsk}
-use Rattle.window.specs.declared.ask.DeviceAsk.TheVariants as ask
-use Rattle.window.specs.declared.ask.DeviceRead.{DeviceRead}
-use Rattle.window.specs.declared.done_fault.DoneFault.{DoneFault}
-use Rattle.window.specs.declared.done_fault.DoneFault.TheVariants as fault
-use Rattle.store_calls.specs.Outbox.{writes_of}
+use Rattle.std.specs.Prelude.{◌≡◌, ◌≢◌, ◌⊎◌, ◌≤◌, ◌+◌, ◌-◌, ◌*◌, ◌/◌, ℕ, Bool, true, false, List}
+use Rattle.std.specs.Prelude.{[], ◌∷◌, length, take, min, max, Result, Ok, Err}
+use Rattle.medium.specs.{Medium.Image, Tally.{Tally, none}, Writes.sector_of, Inlet.AreHeld}
+use Rattle.window.specs.{OutboxMedium.ComesAfter, Story.{given, are_whole}}
+use Rattle.window.specs.{declared.call.DeviceCall.DeviceCall, Window.{Window, state_of, mirror_of}}
+use Rattle.window.specs.{declared.ask.DeviceAsk.DeviceAsk, declared.ask.DeviceRead.DeviceRead}
+use Rattle.window.specs.{declared.done_fault.DoneFault.DoneFault}
+use Rattle.store_calls.specs.{Outbox.writes_of}
 use Rattle.image_calls.specs.Carried.{IsCarried, AsksFor, Hears, EndsRead, ended_by}
-use Rattle.image_calls.specs.Runs.{HoldsOf, HoldsRead}
-use Rattle.image_calls.specs.Stepping.{TellsNone, IsAnswered, WritesTo}
-use Rattle.image_calls.specs.declared.asked.Asked.{Asked}
+use Rattle.image_calls.specs.{Runs.{HoldsOf, HoldsRead}, Stepping.{TellsNone, IsAnswered, WritesTo}}
+use Rattle.image_calls.specs.{declared.asked.Asked.Asked, declared.carried.Carried.Carried}
+use Rattle.image_calls.specs.{declared.running.Running.Running}
+use Rattle.medium.specs.declared.medium_call.Call.TheVariants as call
+use Rattle.window.specs.declared.call.DeviceCall.TheVariants as device
+use Rattle.window.specs.declared.ask.DeviceAsk.TheVariants as ask
+use Rattle.window.specs.declared.done_fault.DoneFault.TheVariants as fault
 use Rattle.image_calls.specs.declared.asked.Asked.TheVariants as asked
-use Rattle.image_calls.specs.declared.carried.Carried.{Carried}
-use Rattle.image_calls.specs.declared.running.Running.{Running}
 
 -- ---- what the device is handed
 

@@ -1,10 +1,8 @@
 -- The sectors of a device that were read last.
 use Rattle.std.specs.Prelude.{◌≡◌, ◌⊎◌, ◌+◌, ◌-◌, ◌/◌, ◌<◌, ◌≤◌, ℕ, Bool, true, false, List, ◌++◌}
 use Rattle.std.specs.Prelude.{length, drop, min}
-use Rattle.medium.specs.Medium.{Image}
-use Rattle.medium.specs.Writes.{sector_of}
-use Rattle.medium.specs.Inlet.{AreHeld}
-use Rattle.image_calls.specs.declared.run.Run.{Run}
+use Rattle.medium.specs.{Medium.Image, Writes.sector_of, Inlet.AreHeld}
+use Rattle.image_calls.specs.{declared.run.Run.Run}
 
 -- it holds this sector
 abbrev pub IsHeld : Run → ℕ → Type 0

@@ -1,14 +1,10 @@
 -- Calls of a machine that are made while the device is at none of them.
 use Rattle.std.specs.Prelude.{◌≡◌, ◌⊎◌, ℕ, Bool, true, false, List, length}
-use Rattle.medium.specs.Medium.{Image}
-use Rattle.medium.specs.Tally.{Tally, none}
-use Rattle.medium.specs.declared.medium_call.Call.{Call}
+use Rattle.medium.specs.{Medium.Image, Tally.{Tally, none}, declared.medium_call.Call.Call}
+use Rattle.window.specs.{Window.Window}
+use Rattle.image_calls.specs.{Carried.Tells, Runs.{IsHeld, held_at, LetsGo}}
+use Rattle.image_calls.specs.{declared.carried.Carried.Carried, declared.run.Run.Run}
 use Rattle.medium.specs.declared.medium_call.Call.TheVariants as call
-use Rattle.window.specs.Window.{Window}
-use Rattle.image_calls.specs.Carried.{Tells}
-use Rattle.image_calls.specs.Runs.{IsHeld, held_at, LetsGo}
-use Rattle.image_calls.specs.declared.carried.Carried.{Carried}
-use Rattle.image_calls.specs.declared.run.Run.{Run}
 
 -- this call reads a sector that is held
 abbrev pub IsAnswered : Run → Call → Type 0

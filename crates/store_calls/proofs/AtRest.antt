@@ -1,18 +1,12 @@
 -- A device that has carried out all, or none.
 use Rattle.std.proofs.Common.{◌≡◌, ◌≤◌, true, length, arith, ap, length-append, List}
-use Rattle.medium.specs.Medium.{Image}
-use Rattle.medium.specs.Moments.{EachCut}
-use Rattle.window.specs.OutboxMedium.{sent}
-use Rattle.window.specs.declared.call.DeviceCall.{DeviceCall}
-use Rattle.window.specs.Window.{Window, state_of, mirror_of, ComesAfter}
-use Rattle.window.specs.WindowLaws.{is_sound, comes_after_itself}
-use Rattle.spec.specs.Book.{Book}
-use Rattle.blocks.specs.Finding.{MayFind}
-use Rattle.blocks.specs.StoreValue.{FitsBook}
-use Rattle.store_calls.specs.Rooms.{CoversParts}
-use Rattle.store_calls.specs.Serving.{ServesAtRest, BeginsBehind}
+use Rattle.medium.specs.{Medium.Image, Moments.EachCut}
+use Rattle.window.specs.{OutboxMedium.sent, declared.call.DeviceCall.DeviceCall, Window.{Window, state_of, mirror_of, ComesAfter}}
+use Rattle.window.specs.{WindowLaws.{is_sound, comes_after_itself}, declared.asked.Asked.Asked}
+use Rattle.spec.specs.{Book.Book}
+use Rattle.blocks.specs.{Finding.MayFind, StoreValue.FitsBook}
+use Rattle.store_calls.specs.{Rooms.CoversParts, Serving.{ServesAtRest, BeginsBehind}}
 use Rattle.store_calls.specs.StoreMachine.{Machine, IsCaughtUp, MayLeave, under_way}
-use Rattle.window.specs.declared.asked.Asked.{Asked}
 
 module _ (s : Machine) (parts : (new : Window) → ComesAfter s.store.medium new → CoversParts s.store.medium new)
     (at_rest : (book : Book) → FitsBook (state_of s.store.medium) s.store.cached book → book.ours ≡ true

@@ -1,35 +1,20 @@
 -- What is done to a store whose device has carried out all.
-use Rattle.std.proofs.Common.{◌≡◌, ◌++◌, ℕ, true, false, List, [], ◌∷◌, length, inl, inr, refl, sym, ◌∙◌, ap}
-use Rattle.std.proofs.Common.{arith, length-append}
+use Rattle.std.proofs.Common.{◌≡◌, ◌++◌, ℕ, true, false, List, [], ◌∷◌, length, inl, inr, refl, sym, ◌∙◌, ap, arith, length-append}
 use Rattle.std.proofs.lemmas.List.{take-append-le, append-nil}
-use Rattle.medium.specs.Medium.{Image}
-use Rattle.window.specs.Story.{given}
-use Rattle.window.specs.declared.call.DeviceCall.{DeviceCall}
-use Rattle.window.specs.Window as window
-use Rattle.window.specs.Window.{Window, mirror_of, ComesAfter, kept_out}
-use Rattle.spec.specs.Blocks.{Write}
-use Rattle.spec.specs.Book.{Book, with_write, promised}
-use Rattle.blocks.specs.Finding.{MayFind}
-use Rattle.blocks.specs.StoreValue.{Cached, is_dead, layout_of, unwritten, FitsBook}
-use Rattle.blocks.proofs.BookTurns.{settles}
-use Rattle.blocks.proofs.EmptyBatches.{none_of}
-use Rattle.blocks.specs.Turns.{IsTurn}
-use Rattle.store_calls.specs.Calls.{IsWritten, KeepsAll}
-use Rattle.store_calls.specs.Idling.{IsShort}
-use Rattle.store_calls.specs.Rooms.{Appends, Foresees}
-use Rattle.store_calls.specs.WritingBack.{IsLeft, WritesBack}
-use Rattle.store_calls.specs.declared.writing_back.Aim.{Aim}
+use Rattle.medium.specs.{Medium.Image}
+use Rattle.window.specs.{Story.given, declared.call.DeviceCall.DeviceCall, Window.{Window, mirror_of, ComesAfter, kept_out}}
+use Rattle.window.specs.{declared.ask.DeviceRead.DeviceRead, declared.asked.Asked.Asked}
+use Rattle.spec.specs.{Blocks.Write, Book.{Book, with_write, promised}}
+use Rattle.blocks.specs.{Finding.MayFind, StoreValue.{Cached, is_dead, layout_of, unwritten, FitsBook}, Turns.IsTurn}
+use Rattle.blocks.proofs.{BookTurns.settles, EmptyBatches.none_of}
+use Rattle.store_calls.specs.{Calls.{IsWritten, KeepsAll}, Idling.IsShort, Rooms.{Appends, Foresees}, WritingBack.{IsLeft, WritesBack}}
+use Rattle.store_calls.specs.{declared.writing_back.Aim.Aim}
 use Rattle.store_calls.specs.Serving.{StaysSafe, LeavesNoMore, LeavesSince, ServesAtRest, ServesOn, WaitsForDevice}
-use Rattle.store_calls.specs.StoreMachine.{Machine, IsCaughtUp, is_behind, under_way}
-use Rattle.store_calls.specs.Stores.{Store}
-use Rattle.window.specs.declared.ask.DeviceRead.{DeviceRead}
-use Rattle.store_calls.specs.Transfers.{IsDoneFree, Accepts, Waits, Promises, PutsOff}
-use Rattle.store_calls.specs.declared.store_fault.StoreFault.{StoreFault}
-use Rattle.window.specs.declared.asked.Asked.{Asked}
+use Rattle.store_calls.specs.{StoreMachine.{Machine, IsCaughtUp, is_behind, under_way}, Stores.Store}
+use Rattle.store_calls.specs.{Transfers.{IsDoneFree, Accepts, Waits, Promises, PutsOff}, declared.store_fault.StoreFault.StoreFault}
+use Rattle.store_calls.proofs.{Served.appends_none, WrittenBack.some_made, Standing.{IsSentStill, stays_safe, left_on, keeps_going, wishes}}
+use Rattle.window.specs.Window as window
 use Rattle.window.specs.declared.asked.Asked.TheVariants as asked
-use Rattle.store_calls.proofs.Served.{appends_none}
-use Rattle.store_calls.proofs.WrittenBack.{some_made}
-use Rattle.store_calls.proofs.Standing.{IsSentStill, stays_safe, left_on, keeps_going, wishes}
 
 -- ---- where nothing waits
 

@@ -1,23 +1,17 @@
 -- Calls leave the outbox, and are under way.
-use Rattle.std.proofs.Common.{◌≡◌, ◌≤◌, ◌<◌, ◌+◌, ◌++◌, ◌∷◌, [], ℕ, zero, suc, length, List, refl, sym, ◌∙◌, ap, arith}
-use Rattle.std.proofs.Common.{append_assoc, length-append}
+use Rattle.std.proofs.Common.{◌≡◌, ◌≤◌, ◌<◌, ◌+◌, ◌++◌, ◌∷◌, [], ℕ, zero, suc, length, List, refl, sym, ◌∙◌, ap, arith, append_assoc}
+use Rattle.std.proofs.{Common.length-append}
 use Rattle.std.specs.Prelude.{Some, None}
-use Rattle.medium.specs.Writes.{sector_of}
-use Rattle.window.specs.OutboxMedium.{first_of}
-use Rattle.window.specs.declared.call.DeviceCall.{DeviceCall}
-use Rattle.window.specs.declared.call.DeviceCall.TheVariants.{Write, Flush}
-use Rattle.window.specs.Window.{Window, take_first}
+use Rattle.medium.specs.{Writes.sector_of}
+use Rattle.window.specs.{OutboxMedium.first_of, declared.call.DeviceCall.DeviceCall, declared.call.DeviceCall.TheVariants.{Write, Flush}}
+use Rattle.window.specs.{Window.{Window, take_first}, declared.ask.DeviceAsk.DeviceAsk, declared.ask.DeviceRead.DeviceRead}
+use Rattle.window.specs.{declared.asked.Asked.Asked}
 use Rattle.blocks.specs.StoreValue.{Cached, layout_of}
-use Rattle.window.specs.declared.ask.DeviceAsk.{DeviceAsk}
-use Rattle.window.specs.declared.ask.DeviceAsk.TheVariants as ask
-use Rattle.window.specs.declared.ask.DeviceRead.{DeviceRead}
-use Rattle.store_calls.specs.Asking.{AsksFor, HandsOut}
-use Rattle.store_calls.specs.Outbox.{without, writes_of, IsRun}
-use Rattle.store_calls.specs.Serving.{StaysSafe}
+use Rattle.store_calls.specs.{Asking.{AsksFor, HandsOut}, Outbox.{without, writes_of, IsRun}, Serving.StaysSafe}
 use Rattle.store_calls.specs.StoreMachine.{Machine, under_way, is_behind}
-use Rattle.window.specs.declared.asked.Asked.{Asked}
-use Rattle.window.specs.declared.asked.Asked.TheVariants as asked
 use Rattle.store_calls.proofs.Standing.{IsSentStill, Stands, same_sent, stays_safe, store_stays, nothing_changes}
+use Rattle.window.specs.declared.ask.DeviceAsk.TheVariants as ask
+use Rattle.window.specs.declared.asked.Asked.TheVariants as asked
 
 one_goes : (calls : List DeviceCall) (w : Window) → w.outbox ≡ calls → IsSentStill w (take_first calls w)
 one_goes [] w is = same_sent w

@@ -1,21 +1,16 @@
 -- What the device was asked for has ended.
 use Rattle.std.proofs.Common.{◌≡◌, ◌⊎◌, ◌≤◌, ◌/◌, inl, inr, [], ◌∷◌, List, ℕ, Bool, true, false, length, refl, sym, ◌∙◌, ap, arith}
-use Rattle.std.specs.Prelude.{Result}
-use Rattle.std.proofs.lemmas.Bool.{false≢true}
-use Rattle.window.specs.declared.call.DeviceCall.{DeviceCall}
-use Rattle.window.specs.Window.{Window, AreOnDevice, moved}
+use Rattle.std.proofs.{lemmas.Bool.false≢true}
+use Rattle.std.specs.{Prelude.Result}
+use Rattle.window.specs.{declared.call.DeviceCall.DeviceCall, Window.{Window, AreOnDevice, moved}, declared.ask.DeviceRead.DeviceRead}
+use Rattle.window.specs.{declared.done_fault.DoneFault.DoneFault, declared.asked.Asked.Asked}
 use Rattle.blocks.specs.StoreValue.{Cached, layout_of}
-use Rattle.window.specs.declared.ask.DeviceRead.{DeviceRead}
-use Rattle.window.specs.declared.done_fault.DoneFault.{DoneFault}
 use Rattle.store_calls.specs.Asking.{carried_out, starts_behind, read_ended, EndsRefused, IsShownBy, EndsAs, EndsRead, EndsCalls, IsHonest}
-use Rattle.store_calls.specs.Calls.{Sees}
-use Rattle.store_calls.specs.Serving.{StaysSafe, WaitsForDevice}
-use Rattle.store_calls.specs.StoreMachine.{Machine, is_some, is_behind, under_way, carried}
-use Rattle.store_calls.specs.Stores.{Store}
-use Rattle.window.specs.declared.asked.Asked.{Asked}
-use Rattle.window.specs.declared.asked.Asked.TheVariants as asked
+use Rattle.store_calls.specs.{Calls.Sees, Serving.{StaysSafe, WaitsForDevice}}
+use Rattle.store_calls.specs.{StoreMachine.{Machine, is_some, is_behind, under_way, carried}, Stores.Store}
 use Rattle.store_calls.proofs.Handing.{some_go, taken_by}
 use Rattle.store_calls.proofs.Standing.{IsSentStill, Stands, same_sent, stays_safe, store_stays, nothing_changes}
+use Rattle.window.specs.declared.asked.Asked.TheVariants as asked
 
 -- ---- calls are carried out
 

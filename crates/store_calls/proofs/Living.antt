@@ -1,12 +1,10 @@
 -- A life is served on through all calls.
 use Rattle.std.proofs.Common.{◌≡◌, inl, inr, [], ◌∷◌, List, ℕ, true}
 use Rattle.std.specs.Prelude.{Result, Ok, Err}
-use Rattle.spec.specs.Book.{Book}
+use Rattle.spec.specs.{Book.Book}
 use Rattle.store_calls.specs.StoreLives.{Call, next, done, read, write, sync, idle, work_ahead, IsMade, book_after, LivesThrough}
-use Rattle.store_calls.specs.StoreMachine.{Machine, Serves}
-use Rattle.store_calls.specs.Serving.{ServesOn}
-use Rattle.store_calls.specs.Transfers.{Reads, Writes, Syncs}
-use Rattle.store_calls.specs.declared.store_fault.StoreFault.{StoreFault}
+use Rattle.store_calls.specs.{StoreMachine.{Machine, Serves}, Serving.ServesOn, Transfers.{Reads, Writes, Syncs}}
+use Rattle.store_calls.specs.{declared.store_fault.StoreFault.StoreFault}
 
 same : (old new : Machine) → new ≡ old → ServesOn old new
 same old new is = rw is (λ book serves. serves)

@@ -1,24 +1,14 @@
 -- How a machine starts on a medium with the room that is reserved, and why it does not.
 use Rattle.std.proofs.Common.{◌≡◌, ◌⊎◌, ◌≤◌, ℕ, List, [], ◌++◌, length, inl, inr, refl, ap, arith}
-use Rattle.window.specs.OutboxMedium.{sent}
-use Rattle.window.specs.Window.{Window, mirror_of, state_of, fresh, ComesAfter, CoversDevice, IsServed}
-use Rattle.window.proofs.Kept.{opened_front}
-use Rattle.recovery.specs.declared.start_fault.StartFault.{StartFault}
-use Rattle.recovery.specs.declared.start_fault.StartFault.TheVariants.{NoMemory}
-use Rattle.blocks.specs.Started.{IsStartedBy, StartsKeeping, RefusesStart}
-use Rattle.blocks.specs.declared.start.Keeping.TheVariants.{Kept}
-use Rattle.store_calls.specs.MachineStart.{IsStoreReserve, StartsOn, IsNotStarted}
-use Rattle.store_calls.specs.Rooms.{CoversParts, IsRoomy}
-use Rattle.store_calls.specs.Serving.{BeginsOver}
-use Rattle.store_calls.specs.Sights.{laid, shown_on}
-use Rattle.store_calls.specs.Starts.{IsNoMedium}
-use Rattle.store_calls.specs.StoreMachine.{Machine}
-use Rattle.store_calls.specs.Stores.{Store}
-use Rattle.store_calls.specs.declared.call_fault.CallFault.{CallFault}
+use Rattle.window.specs.{OutboxMedium.sent, Window.{Window, mirror_of, state_of, fresh, ComesAfter, CoversDevice, IsServed}}
+use Rattle.window.proofs.{Kept.opened_front}
+use Rattle.recovery.specs.{declared.start_fault.StartFault.StartFault, declared.start_fault.StartFault.TheVariants.NoMemory}
+use Rattle.blocks.specs.{Started.{IsStartedBy, StartsKeeping, RefusesStart}, declared.start.Keeping.TheVariants.Kept}
+use Rattle.store_calls.specs.{MachineStart.{IsStoreReserve, StartsOn, IsNotStarted}, Rooms.{CoversParts, IsRoomy}, Serving.BeginsOver}
+use Rattle.store_calls.specs.{Sights.{laid, shown_on}, Starts.IsNoMedium, StoreMachine.Machine, Stores.Store}
+use Rattle.store_calls.specs.{declared.call_fault.CallFault.CallFault, declared.sight.Sight.Sight}
+use Rattle.store_calls.proofs.{Sighted.{outbox_stays, room_stays, seen_stays}, StartedStore.{began, ends_in}}
 use Rattle.store_calls.specs.declared.call_fault.CallFault.TheVariants as fault
-use Rattle.store_calls.specs.declared.sight.Sight.{Sight}
-use Rattle.store_calls.proofs.Sighted.{outbox_stays, room_stays, seen_stays}
-use Rattle.store_calls.proofs.StartedStore.{began, ends_in}
 
 -- there is no medium to start on
 pub no_medium : (sight : Sight) (sectors : ℕ) (holds : List ℕ) (span room : ℕ) → IsStoreReserve sight.near.items span room

@@ -1,12 +1,8 @@
 -- Calls that leave an outbox, one by one.
-use Rattle.std.proofs.Common.{◌≡◌, ℕ, zero, suc, ◌+◌, ◌<◌, List, [], ◌∷◌, ◌++◌, Some, length, drop}
-use Rattle.std.proofs.Common.{refl, sym, ◌∙◌, ap, subst, arith, append_assoc, add-one}
-use Rattle.std.proofs.lemmas.List.{drop_all}
-use Rattle.medium.specs.Medium.{Holds}
-use Rattle.medium.specs.Writes.{sector_of}
-use Rattle.window.specs.OutboxMedium.{first_of}
-use Rattle.window.specs.declared.call.DeviceCall.{DeviceCall}
-use Rattle.window.specs.declared.call.DeviceCall.TheVariants.{Write}
+use Rattle.std.proofs.Common.{◌≡◌, ℕ, zero, suc, ◌+◌, ◌<◌, List, [], ◌∷◌, ◌++◌, Some, length, drop, refl, sym, ◌∙◌, ap, subst, arith}
+use Rattle.std.proofs.{Common.{append_assoc, add-one}, lemmas.List.drop_all}
+use Rattle.medium.specs.{Medium.Holds, Writes.sector_of}
+use Rattle.window.specs.{OutboxMedium.first_of, declared.call.DeviceCall.DeviceCall, declared.call.DeviceCall.TheVariants.Write}
 use Rattle.window.specs.Window.{Window, take_first, without_first}
 use Rattle.store_calls.specs.Outbox.{without, IsEmptied, IsRun, writes_of}
 

@@ -1,26 +1,15 @@
 -- The room of a store is enough, and what is read is in sight.
-use Rattle.std.proofs.Common.{◌≡◌, ◌<◌, ◌≤◌, ◌+◌, ℕ, true, length, inl, inr, refl, sym, ◌∙◌, ap, false, arith}
-use Rattle.std.proofs.lemmas.Bool.{false≢true}
-use Rattle.journal.specs.Places.{Shape, first_home}
-use Rattle.journal.specs.declared.log_format.LogFormat.TheVariants.{Two}
-use Rattle.medium.specs.Medium.{LooksOnly}
-use Rattle.medium.specs.Sent.{sent, SendsUpTo}
-use Rattle.recovery.specs.Calls.{most_start_sends, IsReadOfFresh}
-use Rattle.recovery.specs.Recovered.{RecoverySends}
-use Rattle.window.specs.Window.{Window, state_of, is_in_sight, ComesAfter, IsServed}
-use Rattle.window.specs.WindowLaws.{comes_after_itself}
-use Rattle.window.specs.Looks.{near_in_sight, none_refused, none_missed, none_kept_out}
-use Rattle.blocks.specs.Looks.{IsReadBack, IsReadFor, LooksAtLog, LooksAtBlocks}
-use Rattle.blocks.specs.Started.{LeavesMedium}
-use Rattle.blocks.specs.StoreValue.{layout_of, is_dead}
-use Rattle.blocks.specs.Turns.{IsReadCause}
-use Rattle.blocks.specs.declared.fault.StoreFault.{StoreFault}
-use Rattle.blocks.specs.declared.fault.StoreFault.TheVariants.{ReadFault, Dead}
-use Rattle.store_calls.specs.Stores.{Store}
-use Rattle.store_calls.specs.Rooms.{RefusesNothing, Foresees, TakesCalls, HoldsLog, Appends}
-use Rattle.window.specs.Sight.{AreInSight}
-use Rattle.store_calls.specs.Rooms.{HasRoomToStart, SeesStart, StartRefusesNothing}
-use Rattle.blocks.proofs.SectorsRead.{none}
+use Rattle.std.proofs.{Common.{◌≡◌, ◌<◌, ◌≤◌, ◌+◌, ℕ, true, length, inl, inr, refl, sym, ◌∙◌, ap, false, arith}, lemmas.Bool.false≢true}
+use Rattle.journal.specs.{Places.{Shape, first_home}, declared.log_format.LogFormat.TheVariants.Two}
+use Rattle.medium.specs.{Medium.LooksOnly, Sent.{sent, SendsUpTo}}
+use Rattle.recovery.specs.{Calls.{most_start_sends, IsReadOfFresh}, Recovered.RecoverySends}
+use Rattle.window.specs.{Window.{Window, state_of, is_in_sight, ComesAfter, IsServed}, WindowLaws.comes_after_itself}
+use Rattle.window.specs.{Looks.{near_in_sight, none_refused, none_missed, none_kept_out}, Sight.AreInSight}
+use Rattle.blocks.specs.{Looks.{IsReadBack, IsReadFor, LooksAtLog, LooksAtBlocks}, Started.LeavesMedium, StoreValue.{layout_of, is_dead}}
+use Rattle.blocks.specs.{Turns.IsReadCause, declared.fault.StoreFault.StoreFault, declared.fault.StoreFault.TheVariants.{ReadFault, Dead}}
+use Rattle.store_calls.specs.{Stores.Store}
+use Rattle.store_calls.specs.Rooms.{RefusesNothing, Foresees, TakesCalls, HoldsLog, Appends, HasRoomToStart, SeesStart, StartRefusesNothing}
+use Rattle.blocks.proofs.{SectorsRead.none}
 
 fits_in : (waits before after told room : ℕ) → after ≤ before + told → waits + told ≤ room → waits + after ≤ before + room
 fits_in waits before after told room calls fits = omega (arith, calls, fits)

@@ -1,18 +1,12 @@
 -- The medium of a device of which some sectors were read holds them as they were read.
-use Rattle.std.proofs.Common.{◌≡◌, ◌≤◌, ◌<◌, ℕ, ◌+◌, ◌-◌, ◌*◌, ◌/◌, ◌%◌, true, List, [], ◌∷◌, ◌++◌, length, take, drop}
-use Rattle.std.proofs.Common.{inl, inr, refl, sym, ◌∙◌, ap, arith, length-append, replicate}
-use Rattle.std.proofs.Math.Seq.{drop-append-add, take-append_seam}
-use Rattle.std.proofs.lemmas.List.{length-take, length-drop, length-replicate, nil_from_length}
-use Rattle.std.proofs.lemmas.Bool.{cases_lt}
-use Rattle.medium.specs.Writes.{sector_of}
-use Rattle.window.specs.Seen.{filled, opened}
-use Rattle.window.specs.Window.{Window, fresh, is_in_sight, AreOnDevice, HasPlace, IsShown}
+use Rattle.std.proofs.Common.{◌≡◌, ◌≤◌, ◌<◌, ℕ, ◌+◌, ◌-◌, ◌*◌, ◌/◌, ◌%◌, true, List, [], ◌∷◌, ◌++◌, length, take, drop, inl, inr, refl, sym}
+use Rattle.std.proofs.{Common.{◌∙◌, ap, arith, length-append, replicate}, Math.Seq.{drop-append-add, take-append_seam}}
+use Rattle.std.proofs.{lemmas.List.{length-take, length-drop, length-replicate, nil_from_length}, lemmas.Bool.cases_lt}
+use Rattle.medium.specs.{Writes.sector_of}
+use Rattle.window.specs.{Seen.{filled, opened}, Window.{Window, fresh, is_in_sight, AreOnDevice, HasPlace, IsShown}}
 use Rattle.window.specs.Looks.{near_in_sight, shown_in_sight}
-use Rattle.window.proofs.Kept.{opened_length}
-use Rattle.window.proofs.Shown.{front}
-use Rattle.store_calls.specs.Sights.{replaced, laid, with_beside, IsNoSight}
-use Rattle.store_calls.specs.Starts.{IsNoLength, IsNoMedium}
-use Rattle.store_calls.specs.declared.sight.Sight.{Sight}
+use Rattle.window.proofs.{Kept.opened_length, Shown.front}
+use Rattle.store_calls.specs.{Sights.{replaced, laid, with_beside, IsNoSight}, Starts.{IsNoLength, IsNoMedium}, declared.sight.Sight.Sight}
 
 -- ---- what a medium that is shown sectors has as before
 

@@ -1,22 +1,16 @@
 -- A machine over a device that leaves no more, and a store that fits what it fitted.
-use Rattle.std.proofs.Common.{◌≡◌, ◌≤◌, ◌++◌, ℕ, List, length, refl, sym, ◌∙◌, ap, arith, length-append}
-use Rattle.std.specs.Prelude.{Option}
-use Rattle.std.proofs.lemmas.List.{take-append-le}
-use Rattle.medium.specs.Medium.{Image}
-use Rattle.window.specs.OutboxMedium.{sent, LeftSince}
-use Rattle.window.specs.Story.{Told}
-use Rattle.window.specs.declared.call.DeviceCall.{DeviceCall}
-use Rattle.window.specs.Window as window
-use Rattle.window.specs.Window.{Window, mirror_of}
-use Rattle.journal.specs.Places.{Shape}
-use Rattle.spec.specs.Book.{Book}
+use Rattle.std.proofs.{Common.{◌≡◌, ◌≤◌, ◌++◌, ℕ, List, length, refl, sym, ◌∙◌, ap, arith, length-append}, lemmas.List.take-append-le}
+use Rattle.std.specs.{Prelude.Option}
+use Rattle.medium.specs.{Medium.Image}
+use Rattle.window.specs.{OutboxMedium.{sent, LeftSince}, Story.Told, declared.call.DeviceCall.DeviceCall, Window.{Window, mirror_of}}
+use Rattle.window.specs.{declared.asked.Asked.Asked}
+use Rattle.journal.specs.{Places.Shape}
+use Rattle.spec.specs.{Book.Book}
 use Rattle.blocks.specs.StoreValue.{FitsBook, layout_of}
-use Rattle.store_calls.specs.Rooms.{room_for}
-use Rattle.store_calls.specs.Serving.{StaysSafe, KeepsGoing, WaitsForDevice, LeavesNoMore, LeavesSince, ServesOn}
-use Rattle.store_calls.specs.StoreMachine.{Machine, carried, is_behind, under_way}
-use Rattle.store_calls.specs.Stores.{Store}
-use Rattle.window.specs.declared.asked.Asked.{Asked}
-use Rattle.store_calls.proofs.Served.{holds_on}
+use Rattle.store_calls.specs.{Rooms.room_for, Serving.{StaysSafe, KeepsGoing, WaitsForDevice, LeavesNoMore, LeavesSince, ServesOn}}
+use Rattle.store_calls.specs.{StoreMachine.{Machine, carried, is_behind, under_way}, Stores.Store}
+use Rattle.store_calls.proofs.{Served.holds_on}
+use Rattle.window.specs.Window as window
 
 -- what was sent stays, however much of it has left the outbox
 pub record IsSentStill (old new : Window) : Type 0 where

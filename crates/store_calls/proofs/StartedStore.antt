@@ -1,19 +1,14 @@
 -- A start of a store, good or refused.
 use Rattle.std.proofs.Common.{◌≡◌, ◌≢◌, ◌⊎◌, inl, inr, ℕ, ◌<◌, ◌+◌, length, subst, arith}
-use Rattle.medium.specs.Sent.{sent}
-use Rattle.medium.specs.declared.fault.MediumFault.TheVariants as kind
-use Rattle.medium.specs.declared.fault.MediumFault.{MediumFault}
-use Rattle.window.specs.Window.{Window, state_of, kept_out, ComesAfter, CoversDevice, IsServed}
-use Rattle.window.specs.WindowLaws.{is_sound}
-use Rattle.recovery.specs.Causes.{start_fault_of}
-use Rattle.recovery.specs.declared.start_fault.StartFault.{StartFault}
-use Rattle.recovery.specs.declared.start_fault.StartFault.TheVariants as fault
+use Rattle.medium.specs.{Sent.sent, declared.fault.MediumFault.MediumFault}
+use Rattle.window.specs.{Window.{Window, state_of, kept_out, ComesAfter, CoversDevice, IsServed}, WindowLaws.is_sound}
+use Rattle.recovery.specs.{Causes.start_fault_of, declared.start_fault.StartFault.StartFault}
 use Rattle.blocks.specs.Started.{IsStartCause, StartLeaves, LeavesMedium, StartsKeeping}
 use Rattle.blocks.proofs.KnownImages.{each_ours, finds, is_cause_for}
-use Rattle.store_calls.specs.Stores.{Store}
-use Rattle.store_calls.specs.Rooms.{CoversParts, SeesStart, IsRoomy}
-use Rattle.store_calls.specs.Starts.{Begins, EndsIn}
+use Rattle.store_calls.specs.{Stores.Store, Rooms.{CoversParts, SeesStart, IsRoomy}, Starts.{Begins, EndsIn}}
 use Rattle.store_calls.proofs.Served.{start_refuses, start_sees}
+use Rattle.medium.specs.declared.fault.MediumFault.TheVariants as kind
+use Rattle.recovery.specs.declared.start_fault.StartFault.TheVariants as fault
 
 -- in the words of books
 start_leaves : (first after : Window) → LeavesMedium state_of ComesAfter first after → StartLeaves (state_of first) (state_of after)

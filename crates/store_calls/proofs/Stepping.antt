@@ -1,19 +1,10 @@
 -- Steps of a store in the background, one after the other.
-use Rattle.std.proofs.Common.{◌≡◌, ◌*◌, ◌+◌, ℕ, suc, Bool, true, false, refl, sym, ◌∙◌, subst, arith}
-use Rattle.std.proofs.lemmas.Bool.{false≢true}
-use Rattle.blocks.specs.Passing.{PassesOn}
-use Rattle.blocks.specs.StoreValue.{is_dead}
-use Rattle.blocks.specs.Turns.{IsTurn}
-use Rattle.blocks.proofs.SectorsRead.{none, looks_on}
-use Rattle.blocks.proofs.TurnsJoined.{stays, turns}
-use Rattle.blocks.specs.declared.work.Work.{Work}
-use Rattle.window.specs.Window.{state_of, ComesAfter}
-use Rattle.window.specs.WindowLaws.{is_sound, comes_after_itself, comes_after_through}
-use Rattle.store_calls.specs.Calls.{IsStep}
-use Rattle.store_calls.specs.Idling.{AreSteps, IsShort}
-use Rattle.store_calls.specs.Rooms.{Appends, Foresees, IsRoomy, HasRoom, HoldsLog}
-use Rattle.store_calls.specs.Stores.{Store}
-use Rattle.store_calls.proofs.Served.{holds_on}
+use Rattle.std.proofs.{Common.{◌≡◌, ◌*◌, ◌+◌, ℕ, suc, Bool, true, false, refl, sym, ◌∙◌, subst, arith}, lemmas.Bool.false≢true}
+use Rattle.blocks.specs.{Passing.PassesOn, StoreValue.is_dead, Turns.IsTurn, declared.work.Work.Work}
+use Rattle.blocks.proofs.{SectorsRead.{none, looks_on}, TurnsJoined.{stays, turns}}
+use Rattle.window.specs.{Window.{state_of, ComesAfter}, WindowLaws.{is_sound, comes_after_itself, comes_after_through}}
+use Rattle.store_calls.specs.{Calls.IsStep, Idling.{AreSteps, IsShort}, Rooms.{Appends, Foresees, IsRoomy, HasRoom, HoldsLog}, Stores.Store}
+use Rattle.store_calls.proofs.{Served.holds_on}
 
 -- no step
 pub none_made : (May : Store → Type 0) (work : Work) (s : Store) → AreSteps May work 0 s s

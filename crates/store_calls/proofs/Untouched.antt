@@ -1,16 +1,11 @@
 -- Calls that are none of the medium follow one another.
-use Rattle.std.proofs.Common.{◌≡◌, inl, inr, ℕ, Bool, List, refl, sym, ◌∙◌, ap}
-use Rattle.std.proofs.lemmas.Bool.{cases_Bool}
+use Rattle.std.proofs.{Common.{◌≡◌, inl, inr, ℕ, Bool, List, refl, sym, ◌∙◌, ap}, lemmas.Bool.cases_Bool}
 use Rattle.medium.proofs.Moments.{unchanged, unchanged_through}
-use Rattle.window.specs.Window.{Window, state_of, AreOnDevice, IsShown}
-use Rattle.window.specs.WindowLaws.{is_sound}
-use Rattle.spec.specs.Book.{Book}
-use Rattle.blocks.specs.Passing.{IsUntouched}
-use Rattle.blocks.specs.Stopping.{stopped, stopped_store}
-use Rattle.blocks.specs.StoreValue.{FitsBook}
+use Rattle.window.specs.{Window.{Window, state_of, AreOnDevice, IsShown}, WindowLaws.is_sound}
+use Rattle.spec.specs.{Book.Book}
+use Rattle.blocks.specs.{Passing.IsUntouched, Stopping.{stopped, stopped_store}, StoreValue.FitsBook}
 use Rattle.blocks.proofs.TurnsJoined.{stays, turns}
-use Rattle.store_calls.specs.Refused.{IsDrained, IsRefused}
-use Rattle.store_calls.specs.Stores.{Store}
+use Rattle.store_calls.specs.{Refused.{IsDrained, IsRefused}, Stores.Store}
 
 pub none_yet : (store : Store) → IsUntouched state_of store store
 none_yet store = record {

@@ -1,22 +1,14 @@
 -- Steps that write what is before a write or a sync.
 use Rattle.std.proofs.Common.{◌≡◌, ◌⊎◌, ◌<◌, ◌≤◌, ◌+◌, ◌∙◌, ℕ, zero, suc, false, [], inl, inr, refl, sym, ap, subst, arith}
-use Rattle.std.specs.Prelude.{◌∷◌}
-use Rattle.std.proofs.lemmas.Bool.{false≢true}
-use Rattle.window.specs.Window.{state_of}
-use Rattle.blocks.specs.Headroom.{IsSparing}
-use Rattle.blocks.specs.StoreValue.{is_dead, steps_left}
-use Rattle.blocks.specs.Written.{IsWritten}
-use Rattle.blocks.specs.declared.work.Work.TheVariants.{WriteBack}
-use Rattle.blocks.proofs.EmptyBatches.{none_of}
-use Rattle.blocks.proofs.FlushesOnce.{sparing_all}
-use Rattle.store_calls.specs.Calls.{IsStep}
-use Rattle.store_calls.specs.Idling.{AreSteps, StepsOn}
-use Rattle.store_calls.specs.Rooms.{Foresees}
-use Rattle.store_calls.specs.Stores.{Store}
-use Rattle.store_calls.specs.WritingBack.{IsLeft, MayWriteBack, WritesBack}
-use Rattle.store_calls.specs.declared.writing_back.Aim.{Aim}
-use Rattle.store_calls.specs.declared.writing_back.Aim.TheVariants as aim
+use Rattle.std.proofs.{lemmas.Bool.false≢true}
+use Rattle.std.specs.{Prelude.◌∷◌}
+use Rattle.window.specs.{Window.state_of}
+use Rattle.blocks.specs.{Headroom.IsSparing, StoreValue.{is_dead, steps_left}, Written.IsWritten, declared.work.Work.TheVariants.WriteBack}
+use Rattle.blocks.proofs.{EmptyBatches.none_of, FlushesOnce.sparing_all}
+use Rattle.store_calls.specs.{Calls.IsStep, Idling.{AreSteps, StepsOn}, Rooms.Foresees, Stores.Store}
+use Rattle.store_calls.specs.{WritingBack.{IsLeft, MayWriteBack, WritesBack}, declared.writing_back.Aim.Aim}
 use Rattle.store_calls.proofs.Stepping.{lived, steps_append}
+use Rattle.store_calls.specs.declared.writing_back.Aim.TheVariants as aim
 
 -- where something is left, a record is left to write
 unwritten : (a : Aim) (s : Store) → IsLeft a s → ¬ IsWritten s.cached

@@ -1,24 +1,18 @@
 -- What the device of a store is asked for, and what it tells.
-use Rattle.std.specs.Prelude.{◌≡◌, ◌≢◌, ◌⊎◌, ℕ, ◌*◌, ◌<◌, Bool, true, false, List, [], ◌∷◌}
-use Rattle.std.specs.Prelude.{length, Option, Some, None, Result, Ok, Err}
-use Rattle.window.specs.OutboxMedium.{first_of}
-use Rattle.window.specs.declared.call.DeviceCall.{DeviceCall}
+use Rattle.std.specs.Prelude.{◌≡◌, ◌≢◌, ◌⊎◌, ℕ, ◌*◌, ◌<◌, Bool, true, false, List, [], ◌∷◌, length}
+use Rattle.std.specs.Prelude.{Option, Some, None, Result, Ok, Err}
+use Rattle.window.specs.{OutboxMedium.first_of, declared.call.DeviceCall.DeviceCall}
+use Rattle.window.specs.{Window.{state_of, AreOnDevice}, declared.ask.DeviceRead.DeviceRead}
+use Rattle.window.specs.{declared.ask.DeviceAsk.DeviceAsk, declared.done_fault.DoneFault.DoneFault}
+use Rattle.window.specs.{declared.asked.Asked.Asked}
+use Rattle.blocks.specs.{Passing.IsUntouched}
+use Rattle.store_calls.specs.{Calls.Sees, Outbox.{without, IsLongestRun, IsNoRoom}}
+use Rattle.store_calls.specs.{Refused.IsRefused, Serving.{StaysSafe, Rests}, StoreMachine.Machine}
+use Rattle.store_calls.specs.{declared.lack.Lack.Lack}
 use Rattle.window.specs.declared.call.DeviceCall.TheVariants as call
-use Rattle.window.specs.Window.{state_of, AreOnDevice}
-use Rattle.blocks.specs.Passing.{IsUntouched}
-use Rattle.window.specs.declared.ask.DeviceRead.{DeviceRead}
-use Rattle.window.specs.declared.ask.DeviceAsk.{DeviceAsk}
 use Rattle.window.specs.declared.ask.DeviceAsk.TheVariants as ask
-use Rattle.window.specs.declared.done_fault.DoneFault.{DoneFault}
 use Rattle.window.specs.declared.done_fault.DoneFault.TheVariants as fault
-use Rattle.store_calls.specs.Calls.{Sees}
-use Rattle.store_calls.specs.Outbox.{without, IsLongestRun, IsNoRoom}
-use Rattle.store_calls.specs.Refused.{IsRefused}
-use Rattle.store_calls.specs.Serving.{StaysSafe, Rests}
-use Rattle.store_calls.specs.StoreMachine.{Machine}
-use Rattle.window.specs.declared.asked.Asked.{Asked}
 use Rattle.window.specs.declared.asked.Asked.TheVariants as asked
-use Rattle.store_calls.specs.declared.lack.Lack.{Lack}
 use Rattle.store_calls.specs.declared.lack.Lack.TheVariants as lack
 
 -- ---- what it is asked for

@@ -1,15 +1,12 @@
 -- What a store does in the background: steps, one by one.
 use Rattle.std.specs.Prelude.{◌≡◌, ◌⊎◌, ◌↔◌, ℕ, zero, suc, ◌*◌, ◌≤◌, Bool, false, length}
 use Rattle.window.specs.Window.{state_of, ComesAfter}
-use Rattle.blocks.specs.Passing.{PassesOn}
-use Rattle.blocks.specs.Settled.{IsSettled}
-use Rattle.blocks.specs.StoreValue.{is_dead, steps_left}
-use Rattle.blocks.specs.Turns.{IsTurn}
-use Rattle.blocks.specs.declared.work.Work.{Work}
+use Rattle.blocks.specs.{Passing.PassesOn, Settled.IsSettled, StoreValue.{is_dead, steps_left}}
+use Rattle.blocks.specs.{Turns.IsTurn, declared.work.Work.Work}
 use Rattle.blocks.specs.declared.work.Work.TheVariants.{Settle, Ahead}
-use Rattle.store_calls.specs.Calls.{IsStep}
+use Rattle.store_calls.specs.{Calls.IsStep}
 use Rattle.store_calls.specs.Rooms.{Appends, RefusesNothing, IsRoomy, HoldsLog, most_waiting}
-use Rattle.store_calls.specs.Stores.{Store}
+use Rattle.store_calls.specs.{Stores.Store}
 
 -- so few calls wait that a step is made
 abbrev pub IsShort : Store → Type 0

@@ -1,13 +1,9 @@
 -- How a machine starts on what was read of a device, and why it does not.
 use Rattle.std.specs.Prelude.{ℕ, List}
-use Rattle.store_calls.specs.Rooms.{room_of}
-use Rattle.store_calls.specs.Serving.{BeginsOver, LeavesSince}
-use Rattle.store_calls.specs.Sights.{shown_on}
-use Rattle.store_calls.specs.Starts.{Begins, IsNoStart, IsNoMedium}
-use Rattle.store_calls.specs.StoreMachine.{Machine}
-use Rattle.store_calls.specs.Supers.{Reserves}
-use Rattle.store_calls.specs.declared.call_fault.CallFault.{CallFault}
-use Rattle.store_calls.specs.declared.sight.Sight.{Sight}
+use Rattle.store_calls.specs.{Rooms.room_of, Serving.{BeginsOver, LeavesSince}, Sights.shown_on}
+use Rattle.store_calls.specs.{Starts.{Begins, IsNoStart, IsNoMedium}, StoreMachine.Machine}
+use Rattle.store_calls.specs.{Supers.Reserves, declared.call_fault.CallFault.CallFault}
+use Rattle.store_calls.specs.{declared.sight.Sight.Sight}
 
 -- Of an image, as many sectors are shown as its format wants, and the outbox has room for what
 -- steps leave there, and so for a start where no record waits. Where there is no image, for the

@@ -1,12 +1,10 @@
 -- What leaves an outbox, and how many writes to neighbouring sectors leave it together.
-use Rattle.std.specs.Prelude.{◌≡◌, ◌≢◌, ◌⊎◌, ℕ, zero, suc, ◌+◌, ◌/◌, ◌%◌, ◌≤◌, List, [], ◌∷◌}
-use Rattle.std.specs.Prelude.{◌++◌, length}
-use Rattle.medium.specs.Writes.{sector_of}
-use Rattle.window.specs.declared.call.DeviceCall.{DeviceCall}
-use Rattle.window.specs.declared.call.DeviceCall.TheVariants.{Write}
-use Rattle.window.specs.OutboxMedium.{first_of}
-use Rattle.window.specs.Runs.{IsTo}
-use Rattle.window.specs.Window.{Window, without_first}
+use Rattle.std.specs.Prelude.{◌≡◌, ◌≢◌, ◌⊎◌, ℕ, zero, suc, ◌+◌, ◌/◌, ◌%◌, ◌≤◌, List, [], ◌∷◌, ◌++◌}
+use Rattle.std.specs.{Prelude.length}
+use Rattle.medium.specs.{Writes.sector_of}
+use Rattle.window.specs.{declared.call.DeviceCall.DeviceCall}
+use Rattle.window.specs.{declared.call.DeviceCall.TheVariants.Write, OutboxMedium.first_of}
+use Rattle.window.specs.{Runs.IsTo, Window.{Window, without_first}}
 
 -- this many calls leave the outbox, one by one
 abbrev pub without : ℕ → Window → Window

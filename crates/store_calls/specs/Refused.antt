@@ -1,14 +1,11 @@
 -- The device refused the call that was handed out last, and the store is told so.
 use Rattle.std.specs.Prelude.{◌≡◌, Result, Ok, Err}
-use Rattle.medium.specs.Moments.{IsUnchanged}
-use Rattle.window.specs.Window.{state_of}
-use Rattle.spec.specs.Book.{Book}
-use Rattle.blocks.specs.Passing.{IsUntouched}
-use Rattle.blocks.specs.Stopping.{stopped_store}
-use Rattle.blocks.specs.StoreValue.{FitsBook}
-use Rattle.store_calls.specs.Outbox.{IsEmptied}
-use Rattle.store_calls.specs.Stores.{Store}
-use Rattle.store_calls.specs.declared.call_fault.CallFault.{CallFault}
+use Rattle.medium.specs.{Moments.IsUnchanged}
+use Rattle.window.specs.{Window.state_of}
+use Rattle.spec.specs.{Book.Book}
+use Rattle.blocks.specs.{Passing.IsUntouched, Stopping.stopped_store, StoreValue.FitsBook}
+use Rattle.store_calls.specs.{Outbox.IsEmptied, Stores.Store}
+use Rattle.store_calls.specs.{declared.call_fault.CallFault.CallFault}
 
 -- All that waits leaves the outbox, and nothing else of the store changes.
 pub record IsDrained (old new : Store) : Type 0 where

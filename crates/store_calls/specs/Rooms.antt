@@ -1,22 +1,21 @@
 -- Nothing that a store asks of its medium is refused: no write and no flush for want of room, and
 -- no read of a sector that is not in sight.
 use Rattle.std.specs.Prelude.{◌≡◌, ◌⊎◌, ℕ, ◌+◌, ◌≤◌, length, true}
-use Rattle.journal.specs.Places.{Shape, first_home, sectors_of}
-use Rattle.journal.specs.Sectors.{IsSuper}
-use Rattle.journal.specs.declared.log_format.LogFormat.{LogFormat}
-use Rattle.journal.specs.declared.log_format.LogFormat.TheVariants.{Two}
-use Rattle.medium.specs.Medium.{State}
-use Rattle.spec.specs.Blocks.{Array}
-use Rattle.window.specs.Parts as mirror
+use Rattle.journal.specs.{Places.{Shape, first_home, sectors_of}, Sectors.IsSuper}
+use Rattle.journal.specs.{declared.log_format.LogFormat.LogFormat}
+use Rattle.journal.specs.{declared.log_format.LogFormat.TheVariants.Two}
+use Rattle.medium.specs.{Medium.State}
+use Rattle.spec.specs.{Blocks.Array}
 use Rattle.recovery.specs.Calls.{most_start_sends, IsFresh, IsReadOfFresh}
+use Rattle.recovery.specs.{Recovered.HasNoneWaiting}
+use Rattle.window.specs.Window.{Window, state_of, mirror_of, kept_out, ComesAfter, CoversDevice}
+use Rattle.window.specs.Window.{IsServed, is_in_sight}
+use Rattle.blocks.specs.{StoreValue.layout_of}
+use Rattle.store_calls.specs.{Stores.Store}
+use Rattle.window.specs.Parts as mirror
 use Rattle.recovery.specs.Calls as recovery
-use Rattle.recovery.specs.Recovered.{HasNoneWaiting}
-use Rattle.window.specs.Window.{Window, state_of, mirror_of, kept_out, ComesAfter}
-use Rattle.window.specs.Window.{CoversDevice, IsServed, is_in_sight}
 -- handed on to the layers above
 pub use Rattle.blocks.specs.Sent.{most_sent}
-use Rattle.blocks.specs.StoreValue.{layout_of}
-use Rattle.store_calls.specs.Stores.{Store}
 
 -- so many calls wait at most when a step is made
 abbrev pub most_waiting : ℕ

@@ -1,15 +1,13 @@
 -- What each call of a machine keeps.
 use Rattle.std.specs.Prelude.{◌≡◌, true, []}
-use Rattle.medium.specs.Medium.{Image}
-use Rattle.window.specs.OutboxMedium.{sent}
-use Rattle.window.specs.Window as window
-use Rattle.window.specs.Window.{Window}
-use Rattle.spec.specs.Book.{Book}
-use Rattle.blocks.specs.StoreValue.{FitsBook}
+use Rattle.medium.specs.{Medium.Image}
+use Rattle.window.specs.{OutboxMedium.sent, Window.Window}
+use Rattle.spec.specs.{Book.Book}
+use Rattle.blocks.specs.{StoreValue.FitsBook}
 use Rattle.store_calls.specs.Rooms.{CoversParts, IsRoomy, HoldsLog}
-use Rattle.store_calls.specs.StoreMachine.{Machine, IsCaughtUp, MayLeave, Serves, begun}
-use Rattle.store_calls.specs.StoreMachine.{is_behind}
-use Rattle.store_calls.specs.Stores.{Store}
+use Rattle.store_calls.specs.StoreMachine.{Machine, IsCaughtUp, MayLeave, Serves, begun, is_behind}
+use Rattle.store_calls.specs.{Stores.Store}
+use Rattle.window.specs.Window as window
 
 -- a loss of power leaves no more than before
 abbrev pub LeavesNoMore : Machine → Machine → Type 0

@@ -1,9 +1,8 @@
 -- The medium of a device of which some sectors were read.
 use Rattle.std.specs.Prelude.{◌≡◌, ◌≢◌, ◌⊎◌, ◌+◌, ◌-◌, ◌*◌, ◌/◌, ◌%◌, ◌<◌, ℕ, List, [], ◌∷◌, ◌++◌}
 use Rattle.std.specs.Prelude.{length, take, drop}
-use Rattle.window.specs.Seen.{filled}
-use Rattle.window.specs.Window.{Window, fresh, moved}
-use Rattle.store_calls.specs.declared.sight.Sight.{Sight}
+use Rattle.window.specs.{Seen.filled, Window.{Window, fresh, moved}}
+use Rattle.store_calls.specs.{declared.sight.Sight.Sight}
 
 -- these bytes, but some of them from byte `first` on are others
 abbrev pub replaced : ℕ → List ℕ → List ℕ → List ℕ

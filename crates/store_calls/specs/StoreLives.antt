@@ -1,12 +1,10 @@
 -- Calls of a machine, one after the other, and what they keep of a life.
 use Rattle.std.specs.Prelude.{◌≡◌, ℕ, Bool, List, [], ◌∷◌, Result, Ok, Err}
 use Rattle.spec.specs.Book.{Book, with_write, write_of, promised}
-use Rattle.window.specs.declared.ask.DeviceAsk.{DeviceAsk}
-use Rattle.window.specs.declared.done_fault.DoneFault.{DoneFault}
-use Rattle.store_calls.specs.Asking.{TellsNext, Ends, IsHonest}
-use Rattle.store_calls.specs.StoreMachine.{Machine, Serves}
+use Rattle.window.specs.{declared.ask.DeviceAsk.DeviceAsk, declared.done_fault.DoneFault.DoneFault}
+use Rattle.store_calls.specs.{Asking.{TellsNext, Ends, IsHonest}, StoreMachine.{Machine, Serves}}
 use Rattle.store_calls.specs.Transfers.{Reads, Writes, Syncs, IdlesStore, WorksStoreAhead}
-use Rattle.store_calls.specs.declared.store_fault.StoreFault.{StoreFault}
+use Rattle.store_calls.specs.{declared.store_fault.StoreFault.StoreFault}
 
 -- a call, with what it is given, and how a write and a sync are answered
 pub data Call : Type 0 where

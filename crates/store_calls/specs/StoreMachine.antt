@@ -1,24 +1,18 @@
 -- A store and the device behind it, which may be behind: it is still carrying out calls that it was
 -- told.
-use Rattle.std.specs.Prelude.{◌≡◌, ℕ, ◌+◌, ◌-◌, ◌≤◌, Bool, true, false, List, [], ◌∷◌}
-use Rattle.std.specs.Prelude.{length, take, if◌then◌else◌}
+use Rattle.std.specs.Prelude.{◌≡◌, ℕ, ◌+◌, ◌-◌, ◌≤◌, Bool, true, false, List, [], ◌∷◌, length, take}
+use Rattle.std.specs.{Prelude.if◌then◌else◌}
 use Rattle.medium.specs.Medium.{Image, CutLeaves}
-use Rattle.window.specs.Device.{durable, after}
-use Rattle.window.specs.OutboxMedium.{sent}
-use Rattle.window.specs.Parts.{AreCarriedOut}
-use Rattle.window.specs.declared.call.DeviceCall.{DeviceCall}
+use Rattle.window.specs.{Device.{durable, after}, OutboxMedium.sent, Parts.AreCarriedOut}
+use Rattle.window.specs.{declared.call.DeviceCall.DeviceCall, Window.mirror_of}
+use Rattle.window.specs.{declared.state.MachineState.MachineState, declared.asked.Asked.Asked}
+use Rattle.spec.specs.{Book.Book}
+use Rattle.blocks.specs.{Finding.MayFind, StoreValue.FitsBook}
+use Rattle.store_calls.specs.{Stores.Store, declared.machine.StoreMachine.StoreMachine}
 use Rattle.window.specs.Window as window
-use Rattle.window.specs.Window.{mirror_of}
-use Rattle.spec.specs.Book.{Book}
-use Rattle.blocks.specs.Finding.{MayFind}
-use Rattle.blocks.specs.StoreValue.{FitsBook}
-use Rattle.window.specs.declared.state.MachineState.{MachineState}
 use Rattle.window.specs.declared.state.MachineState.TheVariants as state
-use Rattle.store_calls.specs.Stores.{Store}
-use Rattle.window.specs.declared.asked.Asked.{Asked}
 use Rattle.window.specs.declared.asked.Asked.TheVariants as asked
 use Rattle.store_calls.specs.declared.lack.Lack.TheVariants as lack
-use Rattle.store_calls.specs.declared.machine.StoreMachine.{StoreMachine}
 
 -- a store, what the device was asked for last and has not told done, the sectors that a read lacks,
 -- whether the device has not carried out all that the start made, and whether a write or a sync was

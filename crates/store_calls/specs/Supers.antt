@@ -1,11 +1,9 @@
 -- The super with which the first sectors of a device begin, and what is reserved by it.
 use Rattle.std.specs.Prelude.{◌≡◌, ℕ, ◌≤◌, List, length, Option, Some, None, min}
-use Rattle.medium.specs.Writes.{sector_of}
-use Rattle.journal.specs.Formats.{shape_of}
-use Rattle.journal.specs.Places.{Shape, slot_sectors_of}
-use Rattle.journal.specs.Sectors.{IsSuper}
-use Rattle.journal.specs.declared.log_format.LogFormat.{LogFormat}
-use Rattle.journal.specs.declared.super_sector.Super.{Super}
+use Rattle.medium.specs.{Writes.sector_of}
+use Rattle.journal.specs.{Formats.shape_of, Places.{Shape, slot_sectors_of}, Sectors.IsSuper}
+use Rattle.journal.specs.{declared.log_format.LogFormat.LogFormat}
+use Rattle.journal.specs.{declared.super_sector.Super.Super}
 
 -- the first sectors begin with the super of an image of this shape
 abbrev pub IsSuperOf : List ℕ → Shape → Type 0

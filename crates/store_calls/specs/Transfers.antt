@@ -1,33 +1,23 @@
 -- What reads, writes and syncs do to a machine, and the work in the background.
 use Rattle.std.specs.Prelude.{◌≡◌, ◌≢◌, ◌⊎◌, ℕ, ◌+◌, ◌/◌, ◌<◌, Bool, true, false, List, length}
 use Rattle.std.specs.Prelude.{None, Result, Ok, Err}
-use Rattle.window.specs.Window.{Window, state_of}
-use Rattle.spec.specs.Blocks.{Write}
-use Rattle.spec.specs.Book.{Book, with_write, write_of, promised}
-use Rattle.blocks.specs.Book.{IsTransfer}
-use Rattle.blocks.specs.StoreValue.{Cached, blocks_of, transfer_limit, is_dead}
-use Rattle.blocks.specs.StoreValue.{unwritten, FitsBook}
-use Rattle.blocks.specs.Prepared.{IsTakenAtOnce}
-use Rattle.blocks.specs.Turns.{IsTurn}
-use Rattle.window.specs.declared.ask.DeviceRead.{DeviceRead}
-use Rattle.store_calls.specs.Calls.{MayMove, IsNoSize, home_of, IsRead, IsUnread}
-use Rattle.store_calls.specs.Calls.{IsWritten, CostsWrite}
-use Rattle.store_calls.specs.Asking.{to_read}
-use Rattle.store_calls.specs.Idling.{GoesAhead, TellsLeft}
-use Rattle.store_calls.specs.WritingBack.{IsLeft, WritesBack}
-use Rattle.window.specs.Sight.{AreInSight, AreMissing}
-use Rattle.store_calls.specs.Rooms.{Appends, IsRoomy}
-use Rattle.store_calls.specs.Stores.{Store}
-use Rattle.store_calls.specs.Serving.{LeavesNoMore, LeavesSince, ServesOn, KeepsGoing}
-use Rattle.store_calls.specs.Serving.{StaysSafe}
+use Rattle.window.specs.{Window.{Window, state_of}, declared.ask.DeviceRead.DeviceRead}
+use Rattle.window.specs.{Sight.{AreInSight, AreMissing}, declared.asked.Asked.Asked}
+use Rattle.spec.specs.{Blocks.Write, Book.{Book, with_write, write_of, promised}}
+use Rattle.blocks.specs.{Book.IsTransfer}
+use Rattle.blocks.specs.StoreValue.{Cached, blocks_of, transfer_limit, is_dead, unwritten, FitsBook}
+use Rattle.blocks.specs.{Prepared.IsTakenAtOnce, Turns.IsTurn}
+use Rattle.store_calls.specs.Calls.{MayMove, IsNoSize, home_of, IsRead, IsUnread, IsWritten}
+use Rattle.store_calls.specs.{Calls.CostsWrite, Asking.to_read, Idling.{GoesAhead, TellsLeft}}
+use Rattle.store_calls.specs.{WritingBack.{IsLeft, WritesBack}, Rooms.{Appends, IsRoomy}}
+use Rattle.store_calls.specs.{Stores.Store}
+use Rattle.store_calls.specs.Serving.{LeavesNoMore, LeavesSince, ServesOn, KeepsGoing, StaysSafe}
 use Rattle.store_calls.specs.StoreMachine.{Machine, IsCaughtUp, Serves}
-use Rattle.window.specs.declared.asked.Asked.{Asked}
+use Rattle.store_calls.specs.{declared.writing_back.Aim.Aim, declared.lack.Lack.Lack}
+use Rattle.store_calls.specs.{declared.store_fault.StoreFault.StoreFault}
 use Rattle.window.specs.declared.asked.Asked.TheVariants as asked
-use Rattle.store_calls.specs.declared.writing_back.Aim.{Aim}
 use Rattle.store_calls.specs.declared.writing_back.Aim.TheVariants as aim
-use Rattle.store_calls.specs.declared.lack.Lack.{Lack}
 use Rattle.store_calls.specs.declared.lack.Lack.TheVariants as lack
-use Rattle.store_calls.specs.declared.store_fault.StoreFault.{StoreFault}
 use Rattle.store_calls.specs.declared.store_fault.StoreFault.TheVariants as fault
 
 -- Why blocks may not be moved: for the length first, then for the range, and then since the store

@@ -1,14 +1,10 @@
 -- The steps that write what is before a write or a sync.
 use Rattle.std.specs.Prelude.{◌≡◌, ◌≢◌, ◌⊎◌, ℕ, ◌+◌, ◌≤◌, false, []}
-use Rattle.window.specs.Window.{state_of}
-use Rattle.blocks.specs.Headroom.{IsSparing}
-use Rattle.blocks.specs.StoreValue.{is_dead, steps_left}
-use Rattle.blocks.specs.Written.{IsWritten}
-use Rattle.blocks.specs.declared.work.Work.TheVariants.{WriteBack}
-use Rattle.store_calls.specs.Idling.{AreSteps, IsShort}
-use Rattle.store_calls.specs.Rooms.{Appends, IsRoomy}
-use Rattle.store_calls.specs.Stores.{Store}
-use Rattle.store_calls.specs.declared.writing_back.Aim.{Aim}
+use Rattle.window.specs.{Window.state_of}
+use Rattle.blocks.specs.{Headroom.IsSparing, StoreValue.{is_dead, steps_left}, Written.IsWritten}
+use Rattle.blocks.specs.{declared.work.Work.TheVariants.WriteBack}
+use Rattle.store_calls.specs.{Idling.{AreSteps, IsShort}, Rooms.{Appends, IsRoomy}, Stores.Store}
+use Rattle.store_calls.specs.{declared.writing_back.Aim.Aim}
 use Rattle.store_calls.specs.declared.writing_back.Aim.TheVariants as aim
 
 -- Before a write the frozen batch of a live store holds blocks; before a sync a record is left to

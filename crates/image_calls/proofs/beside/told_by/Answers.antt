@@ -1,6 +1,6 @@
-use Rattle.std.proofs.Common.{arith}
-use Rattle.journal.specs.Formats.{shape_of}
-use Rattle.image_calls.proofs.ReadBeside.{told_so}
+use Rattle.std.proofs.{Common.arith}
+use Rattle.journal.specs.{Formats.shape_of}
+use Rattle.image_calls.proofs.{ReadBeside.told_so}
 use Rattle.image_calls.proofs.beside.told_by.Goals as goal
 
 pub returns-in-Some-head_of : goal.returns-in-Some-head_of

@@ -1,5 +1,5 @@
-use Rattle.std.proofs.Common.{refl}
-use Rattle.store_calls.proofs.OutboxTaken.{more}
+use Rattle.std.proofs.{Common.refl}
+use Rattle.store_calls.proofs.{OutboxTaken.more}
 use Rattle.image_calls.proofs.device.gather.Goals as goal
 
 pub loop-at-init : goal.loop-at-init

@@ -1,4 +1,4 @@
-use Rattle.store_calls.specs.Outbox.{IsRun}
+use Rattle.store_calls.specs.{Outbox.IsRun}
 use Rattle.image_calls.proofs.device.gather.Given as goal
 
 -- `at` writes were handed out

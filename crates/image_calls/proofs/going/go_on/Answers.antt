@@ -1,5 +1,5 @@
 use Rattle.std.proofs.Common.{inl, refl, ◌∙◌, sym, arith}
-use Rattle.window.specs.WindowLaws.{comes_after_itself}
+use Rattle.window.specs.{WindowLaws.comes_after_itself}
 use Rattle.image_calls.proofs.NextCall.{rests, keeps_part, follows_part, stays_part, fails_part}
 use Rattle.image_calls.proofs.going.go_on.Goals as goal
 

@@ -1,8 +1,7 @@
 use Rattle.std.proofs.Common.{◌≡◌, ◌⊎◌, ◌<◌, None, length}
-use Rattle.journal.specs.Places.{Shape}
+use Rattle.journal.specs.{Places.Shape}
 use Rattle.window.specs.Window.{Window, ComesAfter}
-use Rattle.image_calls.specs.Formats.{IsFormatting}
-use Rattle.image_calls.specs.Parts.{parts_left}
+use Rattle.image_calls.specs.{Formats.IsFormatting, Parts.parts_left}
 use Rattle.image_calls.proofs.going.go_on.Given as goal
 
 abbrev pub invariant-loop-plan : goal.invariant-loop-plan

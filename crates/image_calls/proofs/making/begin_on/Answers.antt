@@ -1,12 +1,8 @@
 use Rattle.std.proofs.Common.{ℕ, ◌+◌, refl, ap, sym, subst, ◌∙◌, arith, Some}
-use Rattle.window.specs.Window.{fresh}
-use Rattle.journal.specs.Places.{Shape, first_home}
-use Rattle.journal.specs.Formats.{shape_of}
-use Rattle.image_calls.specs.Plans.{medium_by}
-use Rattle.image_calls.specs.Formats.{BeginsFormat}
-use Rattle.image_calls.specs.declared.work.Work.{Work}
-use Rattle.image_calls.proofs.Laid.{begins}
-use Rattle.image_calls.proofs.LayFaults.{never_fails}
+use Rattle.window.specs.{Window.fresh}
+use Rattle.journal.specs.{Places.{Shape, first_home}, Formats.shape_of}
+use Rattle.image_calls.specs.{Plans.medium_by, Formats.BeginsFormat, declared.work.Work.Work}
+use Rattle.image_calls.proofs.{Laid.begins, LayFaults.never_fails}
 use Rattle.image_calls.proofs.making.begin_on.Goals as goal
 
 pub returns-in-Ok : goal.returns-in-Ok

@@ -1,11 +1,8 @@
 use Rattle.std.proofs.Common.{ℕ, ◌+◌, refl, ap, subst, ◌∙◌, arith}
-use Rattle.window.specs.Window.{fresh}
-use Rattle.journal.specs.Places.{Shape, first_home}
-use Rattle.journal.specs.Formats.{shape_of}
-use Rattle.image_calls.specs.Plans.{medium_by}
-use Rattle.image_calls.specs.Images.{IsLaidOn}
-use Rattle.image_calls.proofs.Laid.{laid_on}
-use Rattle.image_calls.proofs.LayFaults.{never_fails}
+use Rattle.window.specs.{Window.fresh}
+use Rattle.journal.specs.{Places.{Shape, first_home}, Formats.shape_of}
+use Rattle.image_calls.specs.{Plans.medium_by, Images.IsLaidOn}
+use Rattle.image_calls.proofs.{Laid.laid_on, LayFaults.never_fails}
 use Rattle.image_calls.proofs.making.lay_on.Goals as goal
 
 pub returns-in-Ok : goal.returns-in-Ok

@@ -1,4 +1,4 @@
-use Rattle.std.proofs.Common.{refl}
+use Rattle.std.proofs.{Common.refl}
 use Rattle.image_calls.proofs.Laid.{migrated_on, migrated_not}
 use Rattle.image_calls.proofs.making.migrate_on.Goals as goal
 

@@ -1,7 +1,7 @@
 use Rattle.std.proofs.Common.{refl, arith}
-use Rattle.journal.specs.Formats.{shape_of}
-use Rattle.recovery.specs.Calls.{AreSizes}
-use Rattle.image_calls.proofs.OnWay.{begun}
+use Rattle.journal.specs.{Formats.shape_of}
+use Rattle.recovery.specs.{Calls.AreSizes}
+use Rattle.image_calls.proofs.{OnWay.begun}
 use Rattle.image_calls.proofs.part.begin_format.Goals as goal
 
 pub returns-clause-ok : goal.returns-clause-ok

@@ -1,5 +1,5 @@
 use Rattle.std.proofs.Common.{◌≡◌, ◌+◌, ◌*◌, ◌∙◌, rules}
-use Rattle.journal.specs.declared.log_format.LogFormat.TheVariants.{One}
+use Rattle.journal.specs.{declared.log_format.LogFormat.TheVariants.One}
 use Rattle.image_calls.proofs.Migrations.{sends_one, sends_two}
 use Rattle.image_calls.proofs.room.sends_to_migrate.Goals as goal
 

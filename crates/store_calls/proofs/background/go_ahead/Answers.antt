@@ -1,9 +1,7 @@
 use Rattle.std.proofs.Common.{◌≡◌, ◌≤◌, ◌⊎◌, ◌∙◌, ◌+◌, length, inl, inr, rules, refl, sym, ap, ℕ}
-use Rattle.window.specs.Window.{Window}
-use Rattle.blocks.specs.declared.work.Work.TheVariants.{Ahead}
-use Rattle.store_calls.specs.Idling.{AreSteps, GoesAhead, IsShort}
-use Rattle.store_calls.specs.Rooms.{Foresees}
-use Rattle.store_calls.specs.Stores.{Store}
+use Rattle.window.specs.{Window.Window}
+use Rattle.blocks.specs.{declared.work.Work.TheVariants.Ahead}
+use Rattle.store_calls.specs.{Idling.{AreSteps, GoesAhead, IsShort}, Rooms.Foresees, Stores.Store}
 use Rattle.store_calls.proofs.Stepping.{none_made, one_more, steps_append}
 use Rattle.store_calls.proofs.background.go_ahead.Goals as goal
 

@@ -1,4 +1,4 @@
-use Rattle.blocks.specs.declared.work.Work.TheVariants.{Ahead}
+use Rattle.blocks.specs.{declared.work.Work.TheVariants.Ahead}
 use Rattle.store_calls.specs.Idling.{AreSteps, IsShort}
 use Rattle.store_calls.proofs.background.go_ahead.Given as goal
 

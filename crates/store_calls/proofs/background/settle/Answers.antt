@@ -1,9 +1,9 @@
 use Rattle.std.proofs.Common.{inl, inr, rules, ◌≤◌, ◌≡◌}
-use Rattle.blocks.specs.declared.work.Work.TheVariants.{Settle}
-use Rattle.store_calls.specs.Idling.{IsShort}
+use Rattle.blocks.specs.{declared.work.Work.TheVariants.Settle}
+use Rattle.store_calls.specs.{Idling.IsShort}
 use Rattle.store_calls.proofs.Stepping.{none_made, one_more, steps_append}
-use Rattle.store_calls.proofs.background.settle.Goals.{then-is_settled-via-then-is_settled}
-use Rattle.store_calls.proofs.background.settle.Goals.{then-is_settled-via-else-is_settled+then-not-is_short}
+use Rattle.store_calls.proofs.{background.settle.Goals.then-is_settled-via-then-is_settled}
+use Rattle.store_calls.proofs.{background.settle.Goals.then-is_settled-via-else-is_settled+then-not-is_short}
 use Rattle.store_calls.proofs.background.settle.Goals as goal
 
 pub loop-made-init : goal.loop-made-init

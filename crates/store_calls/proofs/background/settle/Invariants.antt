@@ -1,4 +1,4 @@
-use Rattle.blocks.specs.declared.work.Work.TheVariants.{Settle}
+use Rattle.blocks.specs.{declared.work.Work.TheVariants.Settle}
 use Rattle.store_calls.specs.Idling.{AreSteps, IsShort}
 use Rattle.store_calls.proofs.background.settle.Given as goal
 

@@ -1,4 +1,4 @@
-use Rattle.store_calls.proofs.Served.{appends_log}
+use Rattle.store_calls.proofs.{Served.appends_log}
 use Rattle.store_calls.proofs.background.step.Goals as goal
 
 pub returns : goal.returns

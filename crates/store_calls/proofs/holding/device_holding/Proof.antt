@@ -1,5 +1,5 @@
 -- Any device has these bytes, which no memory content. Assumes `Logic`.
-use Rattle.std.proofs.Common.{◌≡◌, List, [], ◌∷◌, ◌++◌, refl, ap, subst, w8}
+use Rattle.std.proofs.{Common.{◌≡◌, List, [], ◌∷◌, ◌++◌, refl, ap, subst, w8}, raw_atomic.Walks.proved}
 use mir.Val.{Val, vstruct, vcons, vint, vnil, of_list}
 use base.Logic.{id⊢}
 use base.Fml.{ftrue}
@@ -15,13 +15,12 @@ use denote.Triple.Clauses.{lasts}
 use denote.Triple.Spec.{triple_of}
 use denote.Triple.Walked.{Stays, says, ends_at}
 use denote.Triple.Table.{framed}
-use Rattle.std.proofs.raw_atomic.Walks.{proved}
-use Rattle.window.specs.declared.holds.DeviceHolds.{DeviceHolds}
+use Rattle.window.specs.{declared.holds.DeviceHolds.DeviceHolds}
+use Rattle.window.proofs.{holds.DeviceHolds.any.Met.met}
+use Rattle.store_calls.proofs.{holding.device_holding.Statement.statement}
 use Rattle.window.specs.contracts.holds.DeviceHolds as made
 use Rattle.window.specs.contracts.holds.DeviceHolds.any as g
-use Rattle.window.proofs.holds.DeviceHolds.any.Met.{met}
 use Rattle.store_calls.specs.contracts.holding.device_holding as f
-use Rattle.store_calls.proofs.holding.device_holding.Statement.{statement}
 use Rattle.store_calls.proofs.holding.device_holding.Code as code
 
 abbrev stayed : Stays f.ended.signature.params f.ended.kept

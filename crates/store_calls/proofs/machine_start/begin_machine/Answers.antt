@@ -1,8 +1,7 @@
-use Rattle.std.proofs.Common.{rules}
-use Rattle.window.specs.Window.{mirror_of}
-use Rattle.store_calls.specs.MachineStart.{IsStoreReserve}
-use Rattle.store_calls.proofs.MachineStarted.{no_medium, refused, started}
-use Rattle.store_calls.proofs.machine_start.begin_machine.Goals.{In_ok-medium}
+use Rattle.std.proofs.{Common.rules}
+use Rattle.window.specs.{Window.mirror_of}
+use Rattle.store_calls.specs.{MachineStart.IsStoreReserve}
+use Rattle.store_calls.proofs.{MachineStarted.{no_medium, refused, started}, machine_start.begin_machine.Goals.In_ok-medium}
 use Rattle.store_calls.proofs.machine_start.begin_machine.Goals as goal
 
 -- as much is reserved as the image wants

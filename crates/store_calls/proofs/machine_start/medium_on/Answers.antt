@@ -1,10 +1,9 @@
-use Rattle.std.proofs.Common.{◌≡◌, ◌<◌, length, inr, refl, ◌∙◌, arith}
-use Rattle.std.proofs.lemmas.Bool.{false≢true}
+use Rattle.std.proofs.{Common.{◌≡◌, ◌<◌, length, inr, refl, ◌∙◌, arith}, lemmas.Bool.false≢true}
 use Rattle.window.specs.Window.{Window, fresh, HasPlace}
-use Rattle.store_calls.specs.Sights.{laid}
+use Rattle.store_calls.specs.{Sights.laid}
 use Rattle.store_calls.proofs.Sighted.{HasRoomBeside, has_place, no_sight, none_beside, not_shown, place, shown, some_sight}
-use Rattle.store_calls.proofs.machine_start.medium_on.Goals.{In_ok-medium}
-use Rattle.store_calls.proofs.machine_start.medium_on.Goals.{else-len-gt0-via-then-len-gt0+else-not-fill, else-len-gt0-via-else-len-gt0}
+use Rattle.store_calls.proofs.machine_start.medium_on.Goals.{In_ok-medium, else-len-gt0-via-then-len-gt0+else-not-fill}
+use Rattle.store_calls.proofs.{machine_start.medium_on.Goals.else-len-gt0-via-else-len-gt0}
 use Rattle.store_calls.proofs.machine_start.medium_on.Goals as goal
 
 -- the medium before it is shown anything

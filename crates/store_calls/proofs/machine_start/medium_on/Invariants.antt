@@ -1,4 +1,4 @@
-use Rattle.store_calls.specs.Sights.{laid}
+use Rattle.store_calls.specs.{Sights.laid}
 use Rattle.store_calls.proofs.machine_start.medium_on.Given as goal
 
 abbrev pub ghost-device_laid : goal.ghost-device_laid

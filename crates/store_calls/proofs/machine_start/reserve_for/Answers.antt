@@ -1,4 +1,4 @@
-use Rattle.std.proofs.Common.{rules}
+use Rattle.std.proofs.{Common.rules}
 use Rattle.store_calls.proofs.machine_start.reserve_for.Goals as goal
 
 pub returns-in-Some : goal.returns-in-Some

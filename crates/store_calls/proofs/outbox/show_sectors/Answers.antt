@@ -1,4 +1,4 @@
-use Rattle.store_calls.proofs.Untouched.{shown_untouched}
+use Rattle.store_calls.proofs.{Untouched.shown_untouched}
 use Rattle.store_calls.proofs.outbox.show_sectors.Goals as goal
 
 pub returns : goal.returns

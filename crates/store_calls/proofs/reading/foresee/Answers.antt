@@ -1,7 +1,6 @@
-use Rattle.std.proofs.Common.{subst}
-use Rattle.window.specs.Parts.{PartsFollow}
-use Rattle.window.specs.Window.{Window, mirror_of, ComesAfter, CoversDevice, IsServed}
-use Rattle.store_calls.specs.Rooms.{Foresees}
+use Rattle.std.proofs.{Common.subst}
+use Rattle.window.specs.{Parts.PartsFollow, Window.{Window, mirror_of, ComesAfter, CoversDevice, IsServed}}
+use Rattle.store_calls.specs.{Rooms.Foresees}
 use Rattle.store_calls.proofs.reading.foresee.Goals as goal
 
 foreseen : (m : Window) → PartsFollow → ((new : Window) → ComesAfter m new → CoversDevice m new)

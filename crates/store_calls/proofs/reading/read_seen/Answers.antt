@@ -1,12 +1,8 @@
 use Rattle.std.proofs.Common.{refl, ◌/◌, ℕ, length}
-use Rattle.window.specs.Window.{state_of, ComesAfter}
-use Rattle.medium.specs.Sent.{SendsUpTo}
-use Rattle.blocks.specs.Passing.{KeepsStore}
-use Rattle.blocks.specs.Turns.{IsTurn}
-use Rattle.store_calls.specs.Stores.{Store}
-use Rattle.window.specs.Sight.{AreInSight}
-use Rattle.store_calls.specs.Rooms.{Foresees}
-use Rattle.store_calls.specs.Calls.{KeepsAll, home_of}
+use Rattle.window.specs.{Window.{state_of, ComesAfter}, Sight.AreInSight}
+use Rattle.medium.specs.{Sent.SendsUpTo}
+use Rattle.blocks.specs.{Passing.KeepsStore, Turns.IsTurn}
+use Rattle.store_calls.specs.{Stores.Store, Rooms.Foresees, Calls.{KeepsAll, home_of}}
 use Rattle.store_calls.proofs.Served.{appends_read, unread}
 use Rattle.store_calls.proofs.reading.read_seen.Goals as goal
 
@@ -25,14 +21,14 @@ pub returns-in-Ok-clause-ok : goal.returns-in-Ok-clause-ok
 returns-in-Ok-clause-ok c = record {
   bytes = λ book fits. c.in-Ok.ensures.ok book fits;
   all = keeps_all c.args.address (length c.args.to.now / 512) c.args.store.now c.read.new.self c.foresee.ensures c.read.ensures.keeps
-      c.read.ensures.turn c.in-Ok.ensures.cost.none_sent c.requires.seen;
+      c.read.ensures.keeps.turn c.in-Ok.ensures.cost.none_sent c.requires.seen;
 }
 
 pub returns-in-Err-clause-err : goal.returns-in-Err-clause-err
 returns-in-Err-clause-err c =
     let all : KeepsAll c.args.address (length c.args.to.now / 512) c.args.store.now c.read.new.self =
     keeps_all c.args.address (length c.args.to.now / 512) c.args.store.now c.read.new.self c.foresee.ensures c.read.ensures.keeps
-    c.read.ensures.turn c.in-Err.ensures.cost.none_sent c.requires.seen in (
+    c.read.ensures.keeps.turn c.in-Err.ensures.cost.none_sent c.requires.seen in (
       refl,
       record {
         unseen = unread c.args.store.now c.read.new.self c.in-Err.field-0 c.in-Err.ensures.refuses.err c.requires.may.live all.appends;

@@ -1,7 +1,7 @@
 use Rattle.std.proofs.Common.{arith, ap, refl, length}
-use Rattle.window.specs.Window.{Window}
-use Rattle.store_calls.proofs.OutboxTaken as taking
+use Rattle.window.specs.{Window.Window}
 use Rattle.store_calls.proofs.Untouched.{none_yet, one_more}
+use Rattle.store_calls.proofs.OutboxTaken as taking
 use Rattle.store_calls.proofs.refused.drain.Goals as goal
 
 pub loop-gone-init : goal.loop-gone-init

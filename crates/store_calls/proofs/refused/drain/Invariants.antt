@@ -1,7 +1,7 @@
-use Rattle.std.proofs.Common.{◌≡◌}
-use Rattle.blocks.specs.Passing.{IsUntouched}
-use Rattle.window.specs.Window.{state_of}
-use Rattle.store_calls.specs.Outbox.{without}
+use Rattle.std.proofs.{Common.◌≡◌}
+use Rattle.blocks.specs.{Passing.IsUntouched}
+use Rattle.window.specs.{Window.state_of}
+use Rattle.store_calls.specs.{Outbox.without}
 use Rattle.store_calls.proofs.refused.drain.Given as goal
 
 -- `_gone` calls left the outbox

@@ -1,4 +1,4 @@
-use Rattle.store_calls.proofs.Untouched.{is_refused}
+use Rattle.store_calls.proofs.{Untouched.is_refused}
 use Rattle.store_calls.proofs.refused.refuse.Goals as goal
 
 pub returns : goal.returns

@@ -1,11 +1,8 @@
 use Rattle.std.proofs.Common.{◌≡◌, true, refl, rules}
-use Rattle.window.specs.Window.{state_of}
-use Rattle.window.specs.WindowLaws.{is_sound}
-use Rattle.blocks.proofs.TurnsJoined.{stays}
-use Rattle.store_calls.specs.WritingBack.{IsLeft}
-use Rattle.store_calls.specs.declared.writing_back.Aim.TheVariants.{Batch}
-use Rattle.blocks.specs.declared.work.Work.TheVariants.{Ahead}
-use Rattle.store_calls.specs.Idling.{IsShort}
+use Rattle.window.specs.{Window.state_of, WindowLaws.is_sound}
+use Rattle.blocks.proofs.{TurnsJoined.stays}
+use Rattle.store_calls.specs.{WritingBack.IsLeft, declared.writing_back.Aim.TheVariants.Batch, Idling.IsShort}
+use Rattle.blocks.specs.{declared.work.Work.TheVariants.Ahead}
 use Rattle.store_calls.proofs.Stepping.{none_made, steps_append}
 use Rattle.store_calls.proofs.resting.work_at_rest.Goals as goal
 

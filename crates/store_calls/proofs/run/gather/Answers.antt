@@ -1,8 +1,6 @@
 use Rattle.std.proofs.Common.{sym, ◌∙◌, ap, refl}
-use Rattle.window.specs.OutboxMedium.{first_of}
-use Rattle.window.specs.Window.{Window}
-use Rattle.store_calls.proofs.OutboxTaken.{more}
-use Rattle.store_calls.proofs.Untouched.{none_yet, one_more}
+use Rattle.window.specs.{OutboxMedium.first_of, Window.Window}
+use Rattle.store_calls.proofs.{OutboxTaken.more, Untouched.{none_yet, one_more}}
 use Rattle.store_calls.proofs.run.gather.Goals as goal
 
 pub loop-at-init : goal.loop-at-init

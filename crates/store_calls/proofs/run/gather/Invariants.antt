@@ -1,6 +1,6 @@
-use Rattle.blocks.specs.Passing.{IsUntouched}
-use Rattle.window.specs.Window.{state_of}
-use Rattle.store_calls.specs.Outbox.{IsRun}
+use Rattle.blocks.specs.{Passing.IsUntouched}
+use Rattle.window.specs.{Window.state_of}
+use Rattle.store_calls.specs.{Outbox.IsRun}
 use Rattle.store_calls.proofs.run.gather.Given as goal
 
 -- `at` writes were handed out

@@ -1,11 +1,9 @@
-use Rattle.std.proofs.Common.{Bool, subst}
+use Rattle.std.proofs.{Common.{Bool, subst}, lemmas.Bool.false≢true}
 use Rattle.std.specs.Prelude.{Result, Ok, Err, IsOk, OnOk, MatchResult}
-use Rattle.std.proofs.lemmas.Bool.{false≢true}
-use Rattle.spec.specs.Book.{write_of}
-use Rattle.blocks.specs.Turns.{IsWriteTurn}
-use Rattle.blocks.specs.declared.fault.StoreFault.{StoreFault}
-use Rattle.window.specs.Window.{state_of}
-use Rattle.store_calls.proofs.Served.{appends_none}
+use Rattle.spec.specs.{Book.write_of}
+use Rattle.blocks.specs.{Turns.IsWriteTurn, declared.fault.StoreFault.StoreFault}
+use Rattle.window.specs.{Window.state_of}
+use Rattle.store_calls.proofs.{Served.appends_none}
 use Rattle.store_calls.proofs.writing.put_blocks.Goals as goal
 
 -- what holds where the answer is Ok
@@ -23,7 +21,7 @@ returns-clause-is c =
     let old = c.args.store.now in
     let new = c.write-taken.new.self in
     let says = c.write-taken.ensures in
-    let quiet = says.quiet c.requires.at_once in
+    let quiet = says.answers.quiet c.requires.at_once in
     let ok = quiet.1 c.requires.may.live in record {
       keeps = record {
         turn = subst (λ (b : Bool). IsWriteTurn (write_of c.args.address c.args.bytes.now) b (state_of old.medium) (state_of new.medium)
@@ -38,7 +36,7 @@ returns-clause-is c =
 pub returns-clause-cost : goal.returns-clause-cost
 returns-clause-cost c =
     let says = c.write-taken.ensures in
-    let quiet = says.quiet c.requires.at_once in
+    let quiet = says.answers.quiet c.requires.at_once in
     let ok = quiet.1 c.requires.may.live in record {
       at_once = c.requires.at_once;
       none = quiet.0;

@@ -1,8 +1,7 @@
 use Rattle.std.proofs.Common.{inl, inr, rules, ◌≤◌, ◌≡◌}
-use Rattle.blocks.specs.declared.work.Work.TheVariants.{WriteBack}
-use Rattle.store_calls.specs.WritingBack.{MayWriteBack}
-use Rattle.store_calls.proofs.Stepping.{none_made, one_more}
-use Rattle.store_calls.proofs.WrittenBack.{writes_back}
+use Rattle.blocks.specs.{declared.work.Work.TheVariants.WriteBack}
+use Rattle.store_calls.specs.{WritingBack.MayWriteBack}
+use Rattle.store_calls.proofs.{Stepping.{none_made, one_more}, WrittenBack.writes_back}
 use Rattle.store_calls.proofs.writing_back.write_records.Goals as goal
 
 pub loop-made-init : goal.loop-made-init

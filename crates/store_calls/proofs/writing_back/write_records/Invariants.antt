@@ -1,6 +1,5 @@
-use Rattle.blocks.specs.declared.work.Work.TheVariants.{WriteBack}
-use Rattle.store_calls.specs.Idling.{AreSteps}
-use Rattle.store_calls.specs.WritingBack.{MayWriteBack}
+use Rattle.blocks.specs.{declared.work.Work.TheVariants.WriteBack}
+use Rattle.store_calls.specs.{Idling.AreSteps, WritingBack.MayWriteBack}
 use Rattle.store_calls.proofs.writing_back.write_records.Given as goal
 
 -- `_made` steps were made

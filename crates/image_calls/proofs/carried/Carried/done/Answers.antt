@@ -1,6 +1,6 @@
 use Rattle.std.proofs.Common.{◌∙◌, ap}
+use Rattle.image_calls.proofs.{Carrying.read_heard}
 use Rattle.image_calls.specs.declared.asked.Asked.TheVariants as asked
-use Rattle.image_calls.proofs.Carrying.{read_heard}
 use Rattle.image_calls.proofs.carried.Carried.done.Goals as goal
 
 pub returns-in-Read-clause-carried : goal.returns-in-Read-clause-carried

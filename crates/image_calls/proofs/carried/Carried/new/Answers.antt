@@ -1,5 +1,5 @@
-use Rattle.std.proofs.Common.{refl}
-use Rattle.image_calls.proofs.Carrying.{begun}
+use Rattle.std.proofs.{Common.refl}
+use Rattle.image_calls.proofs.{Carrying.begun}
 use Rattle.image_calls.proofs.carried.Carried.new.Goals as goal
 
 pub returns-clause-begins : goal.returns-clause-begins

@@ -1,4 +1,4 @@
-use Rattle.image_calls.proofs.Keeping.{done_goes}
+use Rattle.image_calls.proofs.{Keeping.done_goes}
 use Rattle.image_calls.proofs.machine.ImageMachine.done.Goals as goal
 
 pub returns : goal.returns

@@ -1,7 +1,6 @@
-use Rattle.std.proofs.Common.{refl}
-use Rattle.image_calls.specs.Formats.{BeginsFormat}
-use Rattle.image_calls.specs.Plans.{shape_by, medium_by}
-use Rattle.image_calls.proofs.AtRest.{begins}
+use Rattle.std.proofs.{Common.refl}
+use Rattle.image_calls.specs.{Formats.BeginsFormat, Plans.{shape_by, medium_by}}
+use Rattle.image_calls.proofs.{AtRest.begins}
 use Rattle.image_calls.proofs.machine.ImageMachine.format.Goals as goal
 
 pub returns : goal.returns

@@ -1,8 +1,7 @@
 use Rattle.std.proofs.Common.{◌≤◌, inr, refl, subst, ap, length, arith, rules}
 use Rattle.window.specs.Window.{Window, fresh}
 use Rattle.image_calls.specs.Images.{IsMigratedOn, IsMigratedNot, IsWhole}
-use Rattle.image_calls.proofs.AtRest.{begins}
-use Rattle.image_calls.proofs.Migrations.{never, no_medium}
+use Rattle.image_calls.proofs.{AtRest.begins, Migrations.{never, no_medium}}
 use Rattle.image_calls.proofs.machine.ImageMachine.migrate.Goals as goal
 
 pub returns-in_err-medium : goal.returns-in_err-medium

@@ -1,4 +1,4 @@
-use Rattle.image_calls.proofs.Keeping.{asks_goes}
+use Rattle.image_calls.proofs.{Keeping.asks_goes}
 use Rattle.image_calls.proofs.machine.ImageMachine.next.Goals as goal
 
 pub returns-clause-goes : goal.returns-clause-goes

@@ -1,4 +1,4 @@
-use Rattle.image_calls.proofs.AtRest.{begins_since}
+use Rattle.image_calls.proofs.{AtRest.begins_since}
 use Rattle.image_calls.proofs.machine.ImageMachine.over.Goals as goal
 
 pub returns-clause-since : goal.returns-clause-since

@@ -1,4 +1,4 @@
-use Rattle.image_calls.proofs.AtRest.{rests}
+use Rattle.image_calls.proofs.{AtRest.rests}
 use Rattle.image_calls.proofs.machine.ImageMachine.rest.Goals as goal
 
 pub returns : goal.returns

@@ -1,5 +1,5 @@
 use Rattle.std.proofs.Common.{◌≡◌, ◌∙◌, ℕ, List, length, ap, inr, arith}
-use Rattle.image_calls.specs.Reading.{Reading}
+use Rattle.image_calls.specs.{Reading.Reading}
 use Rattle.image_calls.proofs.Kept.{not_put, told_others, taken, seen}
 use Rattle.image_calls.proofs.opening.Opening.take_first.Goals as goal
 

@@ -1,8 +1,6 @@
 use Rattle.std.proofs.Common.{◌≤◌, ◌≡◌, ◌++◌, ◌*◌, List, ℕ, length, take, ap, subst, sym, arith}
-use Rattle.image_calls.specs.Reading.{Reading, IsUntil}
-use Rattle.image_calls.specs.declared.reach.Reach.{Reach}
-use Rattle.image_calls.proofs.Kept.{near_length}
-use Rattle.image_calls.proofs.Until.{goes_on, tells}
+use Rattle.image_calls.specs.{Reading.{Reading, IsUntil}, declared.reach.Reach.Reach}
+use Rattle.image_calls.proofs.{Kept.near_length, Until.{goes_on, tells}}
 use Rattle.image_calls.proofs.opening.Opening.until_with.Goals as goal
 
 pub returns-then-self-gt0-clause-is : goal.returns-then-self-gt0-clause-is

@@ -1,10 +1,8 @@
 use Rattle.std.proofs.Common.{◌≡◌, ◌∙◌, refl, sym, subst}
-use Rattle.medium.specs.Tally.{none}
-use Rattle.window.specs.Window.{state_of}
-use Rattle.recovery.specs.HoldsStart.{HoldsStart}
-use Rattle.recovery.specs.Starting.{start_left}
-use Rattle.recovery.specs.declared.starting.Starting.{Starting}
-use Rattle.image_calls.specs.Recovering.{stage_of}
+use Rattle.medium.specs.{Tally.none}
+use Rattle.window.specs.{Window.state_of}
+use Rattle.recovery.specs.{HoldsStart.HoldsStart, Starting.start_left, declared.starting.Starting.Starting}
+use Rattle.image_calls.specs.{Recovering.stage_of}
 use Rattle.image_calls.proofs.Recoveries.{over_left, ended}
 use Rattle.image_calls.proofs.recovering.Recovering.end.Goals as goal
 

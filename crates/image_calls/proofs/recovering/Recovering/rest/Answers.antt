@@ -1,4 +1,4 @@
-use Rattle.window.specs.Window.{mirror_of}
+use Rattle.window.specs.{Window.mirror_of}
 use Rattle.image_calls.proofs.recovering.Recovering.rest.Goals as goal
 
 pub returns : goal.returns

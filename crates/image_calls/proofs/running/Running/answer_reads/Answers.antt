@@ -1,6 +1,5 @@
 use Rattle.std.proofs.Common.{refl, sym, ◌∙◌, subst}
-use Rattle.image_calls.specs.Running.{IsAtRest}
-use Rattle.image_calls.specs.declared.asked.Asked.{Asked}
+use Rattle.image_calls.specs.{Running.IsAtRest, declared.asked.Asked.Asked}
 use Rattle.image_calls.proofs.Stepped.{hands_none, answers_on, fewer_calls, asked_same}
 use Rattle.image_calls.proofs.running.Running.answer_reads.Goals as goal
 

@@ -1,6 +1,6 @@
 use Rattle.std.proofs.Common.{◌≡◌, []}
-use Rattle.medium.specs.Tally.{of_all}
-use Rattle.image_calls.specs.Running.{Hands}
+use Rattle.medium.specs.{Tally.of_all}
+use Rattle.image_calls.specs.{Running.Hands}
 use Rattle.image_calls.proofs.running.Running.answer_reads.Given as goal
 
 abbrev pub invariant-reads : goal.invariant-reads

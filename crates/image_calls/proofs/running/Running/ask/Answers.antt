@@ -1,4 +1,4 @@
-use Rattle.std.proofs.Common.{refl}
+use Rattle.std.proofs.{Common.refl}
 use Rattle.image_calls.proofs.Stepped.{asked_nothing, hands_same, first_write, gathered_in, hands_flush, hands_read}
 use Rattle.image_calls.proofs.running.Running.ask.Goals as goal
 

@@ -1,5 +1,5 @@
-use Rattle.std.proofs.Common.{refl}
-use Rattle.image_calls.proofs.Handing.{handed_none}
+use Rattle.std.proofs.{Common.refl}
+use Rattle.image_calls.proofs.{Handing.handed_none}
 use Rattle.image_calls.proofs.running.Running.done.Goals as goal
 
 pub returns-in-Ok-clause-hears : goal.returns-in-Ok-clause-hears

@@ -1,4 +1,4 @@
-use Rattle.std.proofs.Common.{refl}
+use Rattle.std.proofs.{Common.refl}
 use Rattle.image_calls.proofs.Stepped.{run_on, none_read}
 use Rattle.image_calls.proofs.running.Running.end_call.Goals as goal
 

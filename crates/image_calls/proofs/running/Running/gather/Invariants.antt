@@ -1,6 +1,6 @@
 use Rattle.std.proofs.Common.{◌≡◌, ◌≤◌, ℕ}
-use Rattle.medium.specs.Writes.{sector_of}
-use Rattle.image_calls.specs.Running.{GathersOn}
+use Rattle.medium.specs.{Writes.sector_of}
+use Rattle.image_calls.specs.{Running.GathersOn}
 use Rattle.image_calls.proofs.running.Running.gather.Given as goal
 
 abbrev pub invariant-loop-count : goal.invariant-loop-count

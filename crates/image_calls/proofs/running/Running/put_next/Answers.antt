@@ -1,6 +1,5 @@
 use Rattle.std.proofs.Common.{refl, sym, ◌∙◌, ap, subst}
-use Rattle.image_calls.specs.Running.{IsAtRest}
-use Rattle.image_calls.specs.declared.asked.Asked.{Asked}
+use Rattle.image_calls.specs.{Running.IsAtRest, declared.asked.Asked.Asked}
 use Rattle.image_calls.proofs.Stepped.{run_ends, gathers_still, gathers_through, gathers_more}
 use Rattle.image_calls.proofs.running.Running.put_next.Goals as goal
 

@@ -1,4 +1,4 @@
-use Rattle.std.proofs.Common.{refl}
+use Rattle.std.proofs.{Common.refl}
 use Rattle.image_calls.proofs.Stepped.{hands_none, settled}
 use Rattle.image_calls.proofs.running.Running.settle.Goals as goal
 

@@ -1,6 +1,5 @@
 use Rattle.std.proofs.Common.{◌≡◌, ◌*◌, length, inr, refl, sym, subst, arith}
-use Rattle.image_calls.specs.Runs.{HoldsRead}
-use Rattle.image_calls.specs.declared.run.Run.{Run}
+use Rattle.image_calls.specs.{Runs.HoldsRead, declared.run.Run.Run}
 use Rattle.image_calls.proofs.Stepped.{first_told, read_on}
 use Rattle.image_calls.proofs.running.Running.take_read.Goals as goal
 

@@ -1,8 +1,6 @@
 use Rattle.std.proofs.Common.{inr, refl, sym, ◌∙◌, ap, Some}
-use Rattle.window.specs.OutboxMedium.{first_of}
-use Rattle.window.specs.declared.call.DeviceCall.{DeviceCall}
-use Rattle.window.specs.Window.{Window}
-use Rattle.store_calls.proofs.Handing.{none_first}
+use Rattle.window.specs.{OutboxMedium.first_of, declared.call.DeviceCall.DeviceCall, Window.Window}
+use Rattle.store_calls.proofs.{Handing.none_first}
 use Rattle.store_calls.proofs.machine.StoreMachine.ask_in_order.Goals as goal
 
 pub returns-in-Some-Flush : goal.returns-in-Some-Flush

@@ -1,5 +1,5 @@
-use Rattle.std.proofs.Common.{refl}
-use Rattle.store_calls.proofs.Hearing.{done_safe}
+use Rattle.std.proofs.{Common.refl}
+use Rattle.store_calls.proofs.{Hearing.done_safe}
 use Rattle.store_calls.proofs.machine.StoreMachine.done.Goals as goal
 
 pub returns : goal.returns

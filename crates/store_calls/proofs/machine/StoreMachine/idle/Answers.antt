@@ -1,6 +1,5 @@
 use Rattle.std.proofs.Common.{inr, refl, rules}
-use Rattle.store_calls.specs.StoreMachine.{Machine}
-use Rattle.store_calls.specs.Transfers.{IsIdle}
+use Rattle.store_calls.specs.{StoreMachine.Machine, Transfers.IsIdle}
 use Rattle.store_calls.proofs.Doing.{done_free, turn_serves}
 use Rattle.store_calls.proofs.machine.StoreMachine.idle.Goals as goal
 

@@ -1,4 +1,4 @@
-use Rattle.store_calls.proofs.Handing.{asks_safe}
+use Rattle.store_calls.proofs.{Handing.asks_safe}
 use Rattle.store_calls.proofs.machine.StoreMachine.next.Goals as goal
 
 pub returns-in-Nothing : goal.returns-in-Nothing

@@ -1,6 +1,6 @@
 use Rattle.std.proofs.Common.{inl, inr, refl}
-use Rattle.window.specs.declared.ask.DeviceRead.{DeviceRead}
-use Rattle.store_calls.proofs.Doing.{wait_safe}
+use Rattle.window.specs.{declared.ask.DeviceRead.DeviceRead}
+use Rattle.store_calls.proofs.{Doing.wait_safe}
 use Rattle.store_calls.proofs.machine.StoreMachine.read.Goals as goal
 
 pub returns-in-Some : goal.returns-in-Some

@@ -1,5 +1,5 @@
-use Rattle.std.proofs.Common.{refl}
-use Rattle.store_calls.proofs.Doing.{read_safe}
+use Rattle.std.proofs.{Common.refl}
+use Rattle.store_calls.proofs.{Doing.read_safe}
 use Rattle.store_calls.proofs.machine.StoreMachine.read_in_sight.Goals as goal
 
 pub returns-in-Ok : goal.returns-in-Ok

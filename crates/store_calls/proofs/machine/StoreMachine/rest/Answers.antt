@@ -1,7 +1,6 @@
-use Rattle.std.proofs.Common.{subst}
-use Rattle.window.specs.Parts.{PartsFollow}
-use Rattle.window.specs.Window.{Window, mirror_of, ComesAfter, CoversDevice}
-use Rattle.store_calls.specs.Rooms.{CoversParts}
+use Rattle.std.proofs.{Common.subst}
+use Rattle.window.specs.{Parts.PartsFollow, Window.{Window, mirror_of, ComesAfter, CoversDevice}}
+use Rattle.store_calls.specs.{Rooms.CoversParts}
 use Rattle.store_calls.proofs.AtRest.{begins_behind, serves_at_rest}
 use Rattle.store_calls.proofs.machine.StoreMachine.rest.Goals as goal
 

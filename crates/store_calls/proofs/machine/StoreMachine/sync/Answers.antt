@@ -1,8 +1,6 @@
 use Rattle.std.proofs.Common.{◌≡◌, false, inr, refl, rules}
 use Rattle.blocks.specs.StoreValue.{is_dead, unwritten}
-use Rattle.store_calls.specs.StoreMachine.{IsCaughtUp}
-use Rattle.store_calls.specs.WritingBack.{IsLeft}
-use Rattle.store_calls.specs.declared.writing_back.Aim.TheVariants.{Records}
+use Rattle.store_calls.specs.{StoreMachine.IsCaughtUp, WritingBack.IsLeft, declared.writing_back.Aim.TheVariants.Records}
 use Rattle.store_calls.proofs.Doing.{promises, puts_off}
 use Rattle.store_calls.proofs.machine.StoreMachine.sync.Goals as goal
 

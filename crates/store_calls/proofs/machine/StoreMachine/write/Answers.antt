@@ -1,8 +1,6 @@
 use Rattle.std.proofs.Common.{◌≡◌, ◌/◌, false, length, inr, refl, rules}
-use Rattle.blocks.specs.Prepared.{IsTakenAtOnce}
-use Rattle.store_calls.specs.StoreMachine.{IsCaughtUp}
-use Rattle.store_calls.specs.WritingBack.{IsLeft}
-use Rattle.store_calls.specs.declared.writing_back.Aim.TheVariants.{Batch}
+use Rattle.blocks.specs.{Prepared.IsTakenAtOnce}
+use Rattle.store_calls.specs.{StoreMachine.IsCaughtUp, WritingBack.IsLeft, declared.writing_back.Aim.TheVariants.Batch}
 use Rattle.store_calls.proofs.Doing.{accepts, puts_off}
 use Rattle.store_calls.proofs.machine.StoreMachine.write.Goals as goal
 
