@@ -42,6 +42,10 @@ LacksNone s packet = WantsNone s.disk packet
     ⊎ ((home : DeviceRead) × Wants s.disk packet home.first home.count
     × (s.lack ≡ lack.Unread home))
 
+-- the packet is no longer than those of the disk
+abbrev pub HasSize : Machine → List ℕ → Type 0
+HasSize s packet = length packet ≤ s.disk.line.packet_size
+
 -- ---- what a packet does
 
 -- a status that promises waits where the device is behind

@@ -1,8 +1,8 @@
 //! What a machine does with a packet to Bulk-Out.
 ghost use Rattle.std.specs.Prelude.{◌≡◌, ◌≤◌, ◌⊎◌, ◌↔◌, IsTrue, MatchOption, length};
 ghost use Rattle.disk_machine.specs.Plays.{medium_of};
-ghost use Rattle.disk_machine.specs.Packets.{HoldsBack, Lacks, LacksNone};
-ghost use Rattle.disk_machine.specs.Packets.{PlaysOut, TakesOut};
+ghost use Rattle.disk_machine.specs.Packets.{HasSize, HoldsBack, Lacks, LacksNone};
+ghost use Rattle.disk_machine.specs.Packets.{PlaysOut, TakesOne, TakesOut};
 ghost use Rattle.disk_machine.specs.Packets.{is_reading, is_starting};
 ghost use Rattle.disk_machine.specs.Moves.{is_behind};
 ghost use Rattle.disk_machine.specs.PuttingOff.{IsPromise};
@@ -28,6 +28,14 @@ impl DiskMachine {
         if packet.len() > self.disk.packet_size() as usize {
             return TOO_LONG;
         }
+        self.take_packet(packet)
+    }
+
+    // The same of a packet that is no longer than those of the disk.
+    pub(crate) fn take_packet(&mut self, packet: &[u8]) -> u32
+        requires { HasSize self.old packet.now }
+        ensures { TakesOne self.old packet.now self.new result }
+    {
         if self.holds_back() {
             return NAK;
         }

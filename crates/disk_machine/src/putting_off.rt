@@ -20,6 +20,10 @@ impl DiskMachine {
         requires { MayBePlain self.old packet.now promises }
         ensures { TellsPutOff promises packet.now result self.old self.new }
     {
+        // (what promises nothing asks for no write then, whatever it is)
+        if !promises && self.disk.has_free_batch() {
+            return false;
+        }
         if self.disk.is_quiet(packet) {
             return false;
         }

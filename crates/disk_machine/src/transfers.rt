@@ -20,7 +20,7 @@ impl DiskMachine {
         for number in 0..count_of(bytes.len(), most) {
             let at = number * most;
             let size = most.min(bytes.len() - at);
-            let code = self.bulk_out(&bytes[at..at + size]);
+            let code = self.take_packet(&bytes[at..at + size]);
             if code != ACK {
                 *taken = at;
                 return code;

@@ -1,9 +1,9 @@
-use Rattle.std.proofs.Common.{◌≡◌, ◌≤◌, length, ◌∙◌, inl, inr, refl, sym, arith}
+use Rattle.std.proofs.Common.{◌≡◌, ◌∙◌, inl, inr, refl, sym}
 use Rattle.std.proofs.lemmas.Bool.{false≢true}
 use Rattle.disk_machine.specs.{Packets.HoldsBack, PuttingOff.{IsPromise, PutsOff}}
-use Rattle.disk_machine.proofs.{Playing.out_serves, Handing.reading_safe, machine.DiskMachine.bulk_out.Goals.Else-holds_back}
-use Rattle.disk_machine.proofs.{machine.DiskMachine.bulk_out.Goals.{Else-put_off, After-promises-promises}}
-use Rattle.disk_machine.proofs.machine.DiskMachine.bulk_out.Goals as goal
+use Rattle.disk_machine.proofs.{Playing.out_serves, Handing.reading_safe, machine.DiskMachine.take_packet.Goals.Else-holds_back}
+use Rattle.disk_machine.proofs.{machine.DiskMachine.take_packet.Goals.{Else-put_off, After-promises-promises}}
+use Rattle.disk_machine.proofs.machine.DiskMachine.take_packet.Goals as goal
 
 free : (c : Else-holds_back) → ¬ HoldsBack c.args.self.now
 free c held = false≢true (sym c.if-holds_back.false ∙ c.holds_back.ensures.1 held)
@@ -24,18 +24,17 @@ play-code-requires-clause-told c =
 
 pub returns-in-None : goal.returns-in-None
 returns-in-None c =
-    let fits : length c.args.packet.now ≤ c.args.self.now.disk.line.packet_size = omega arith in
     let is = same (goal.at.returns-in-None c).Else-put_off in
     let lacks = rw is at c.in-None.ensures in
     let serves = out_serves _ _ _ _ (c.put_off.ensures.ready c.if-put_off.false).0 (rw is at c.play-code.ensures) c.rest.ensures.serves in
-    record { one = inr (fits, inr (free (goal.at.returns-in-None c).Else-holds_back, inr (inl (lacks, serves)))) }
+    inr (c.requires, inr (free (goal.at.returns-in-None c).Else-holds_back, inr (inl (lacks, serves))))
 
 pub returns-in-Some : goal.returns-in-Some
 returns-in-Some c =
     let is = same (goal.at.returns-in-Some c).Else-put_off in
     let lacks = rw is at c.in-Some.ensures in
     let free = free (goal.at.returns-in-Some c).Else-holds_back in
-    record { one = inr (omega arith, inr (free, inl (c.in-Some.home, lacks, refl, rw is refl, rw is (reading_safe c.args.self.now _)))) }
+    inr (c.requires, inr (free, inl (c.in-Some.home, lacks, refl, rw is refl, rw is (reading_safe c.args.self.now _))))
 
 pub returns-then-put_off : goal.returns-then-put_off
 returns-then-put_off c =
@@ -47,4 +46,4 @@ returns-then-put_off c =
       code_is = refl;
       waits = off.1;
     } in
-    record { one = inr (omega arith, inr (free (goal.at.returns-then-put_off c).Else-holds_back, inr (inr puts))) }
+    inr (c.requires, inr (free (goal.at.returns-then-put_off c).Else-holds_back, inr (inr puts)))
