@@ -65,7 +65,9 @@ const core = {
     const at = page_room();
     const start = Number(at);
     new Uint8Array(memory.buffer).set(bytes, start);
-    const kind = page_sector(head[0], head[1], head[3], BigInt(sector), at, at + 512n);
+    // The sizes stand behind the words that are told: the format, the slots and the blocks.
+    new Uint32Array(memory.buffer, start + 576, 3).set([head[0], head[1], head[3]]);
+    const kind = page_sector(at + 576n, BigInt(sector), at, at + 512n);
     return { kind, words: Array.from(new BigUint64Array(memory.buffer.slice(start + 512, start + 576)), Number) };
   },
 };

@@ -3,3 +3,4 @@ pub mod Words
 pub mod Streams
 pub mod Program
 pub mod Status
+pub mod Texts

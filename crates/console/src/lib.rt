@@ -1,8 +1,11 @@
 //! What the programs share: which of them is asked for, their words, the numbers in them, the
-//! standard streams, the writing of answers, and how a refused file or start is told.
+//! standard streams, the writing of answers, how a refused file or start is told, and which calls a
+//! file was asked.
 #![tactic(auto)]
 
 mod fault;
+mod left;
+mod migration;
 mod number;
 mod output;
 mod program;
@@ -10,6 +13,8 @@ mod streams;
 mod words;
 
 pub use fault::{file_status, file_text, start_status, start_text};
+pub use left::{LockedFile, foresee};
+pub use migration::migration_line;
 pub use number::read_number;
 pub use output::write_out;
 pub use program::{Program, take_program};

@@ -1,6 +1,5 @@
 -- An image in a file is migrated.
-use Rattle.std.specs.Prelude.{◌≡◌, ◌⊎◌, ℕ, Bool, true, false, List, [], codes, Option, Some}
-use Rattle.std.specs.Prelude.{None}
+use Rattle.std.specs.Prelude.{◌≡◌, ◌⊎◌, ℕ, Bool, true, false, List, [], Option, Some, None}
 use Rattle.journal.specs.declared.super_sector.Super.{Super}
 use Rattle.window.specs.Window.{Window, state_of, ComesAfter, CoversDevice}
 use Rattle.recovery.specs.Recovered.{IsMigrationBy, IsMigrationRefusal, MigrationLeaves}
@@ -13,7 +12,6 @@ use Rattle.device_file.specs.Outbox.{IsCarriedOut}
 use Rattle.device_file.specs.declared.fault.FileFault.{FileFault}
 use Rattle.device_file.specs.declared.opening.FirstSectors.{FirstSectors}
 use Rattle.images.specs.Opened.{IsWindowOver, HaveImage, WithFirst, HasNoFirst}
-use Rattle.images.specs.Texts.{ended}
 use Rattle.images.specs.declared.refusal.Refusal.{Refusal}
 use Rattle.images.specs.declared.refusal.Refusal.TheVariants as refused
 
@@ -21,11 +19,6 @@ use Rattle.images.specs.declared.refusal.Refusal.TheVariants as refused
 abbrev pub migration_room : Option Super → ℕ
 migration_room (Some sizes) = most_migration_sends sizes.format sizes.slots
 migration_room None = 1
-
--- what is told of an image that is of format 2 now: whether it was of format 1
-abbrev pub migration_text : Bool → List ℕ
-migration_text true = ended (codes "migrated")
-migration_text false = ended (codes "already format 2")
 
 -- The image over these first sectors, with these bytes behind them, was migrated in a window over
 -- its file. What waits there then

@@ -9,14 +9,14 @@ use Rattle.device_file.specs.Asked.{Told, begun}
 use Rattle.device_file.specs.FileValue.{FileValue, GivesBlock}
 use Rattle.device_file.specs.declared.fault.FileFault.{FileFault}
 use Rattle.console.specs.Streams.{AppendsSome}
+use Rattle.console.specs.Texts.{ended, migration_text}
 use Rattle.console.specs.declared.words.ArgumentFault.{ArgumentFault}
 use Rattle.console.specs.declared.words.ArgumentFault.TheVariants as argument
 use Rattle.images.specs.NewImage.{IsAskedToBe}
-use Rattle.images.specs.Texts.{ended}
 use Rattle.images.specs.Limits.{IsSizesRefusal, MayHave, shape_wanted}
 use Rattle.images.specs.Opened.{IsOpened, IsPlainUnopened, IsUnmade, made_at}
 use Rattle.images.specs.Showing.{IsShownOf, IsNotShownOf}
-use Rattle.images.specs.Migrating.{IsMigratedOf, IsNotMigratedOf, migration_text}
+use Rattle.images.specs.Migrating.{IsMigratedOf, IsNotMigratedOf}
 use Rattle.images.specs.Status.{refusal_of_argument}
 use Rattle.images.specs.Exported.{IsExportedOf, IsNotExportedOf}
 use Rattle.images.specs.Imported.{IsImage, IsImportUnbegun, IsNoImage}
@@ -34,7 +34,7 @@ help_text = ended (codes "usbdisk_image make IMAGE --blocks N --slots K --format
     ++ ended (codes "usbdisk_image export IMAGE RAW [--replace]")
 
 abbrev pub version_text : List ℕ
-version_text = ended (codes "usbdisk_image 1.9")
+version_text = ended (codes "usbdisk_image 1.10")
 
 abbrev pub made_text : List ℕ
 made_text = ended (codes "made")

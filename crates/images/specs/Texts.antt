@@ -1,9 +1,5 @@
 -- The texts of answers.
-use Rattle.std.specs.Prelude.{◌++◌, ◌∷◌, [], ℕ, List, codes, decimal}
-
--- a text and a line feed
-abbrev pub ended : List ℕ → List ℕ
-ended text = text ++ 10 ∷ []
+use Rattle.std.specs.Prelude.{◌++◌, ℕ, List, codes, decimal}
 
 -- a word with a space behind it, and how many blocks there were
 abbrev pub blocks_text : List ℕ → ℕ → List ℕ

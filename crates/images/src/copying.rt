@@ -4,10 +4,10 @@ ghost use Rattle.std.specs.Io.KnownBytes.{Appends};
 ghost use Rattle.console.specs.Streams.{AppendsSome};
 ghost use Rattle.images.specs.Texts.{blocks_text};
 
-use crate::ended::{LockedFile, Stopped};
+use crate::ended::Stopped;
 use crate::refusal::Refusal;
 use crate::text::blocks_line;
-use console::write_out;
+use console::{LockedFile, write_out};
 use device_file::CopyBuffer;
 use std::alloc::{AllocError, Global};
 use std::io::Write;

@@ -1,11 +1,6 @@
 //! How a command ended, and what it has left of its files.
 use crate::refusal::Refusal;
-use device_file::SystemFile;
-use medium::OpenedFile;
-use std::fs::File;
-
-/// A plain file of the system, open and locked.
-pub type LockedFile = SystemFile<OpenedFile<File>>;
+use console::LockedFile;
 
 /// A file that was opened or made, where there is one.
 pub(crate) type LeftFile = Option<LockedFile>;

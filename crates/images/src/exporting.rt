@@ -26,11 +26,12 @@ ghost use Rattle.images.specs.Opened.{HasNoFirst, WithFirst, made_in};
 ghost use Rattle.images.specs.Program.{IsExport, IsExportRefused};
 
 use crate::copying::{CopyRoom, copy_room, tell_of};
-use crate::ended::{LeftFiles, LockedFile, Refused, Stopped};
+use crate::ended::{LeftFiles, Refused, Stopped};
 use crate::gauge::Gauge;
 use crate::image::{FilePlace, new_target};
 use crate::opening::{first_of, open_file, window_over};
 use crate::refusal::Refusal;
+use console::LockedFile;
 use device_file::{
     CopyBuffer, CopyFault, CopyRange, DeviceFile, FileCall, FileFault, FirstSectors, Meter, Run,
     carry_moved, copy_sectors,

@@ -9,10 +9,9 @@ ghost use Rattle.images.specs.Limits.{AreLimits, IsPage, IsSizesRefusal, MayHave
 ghost use Rattle.images.specs.Opened.{IsTargetUnmade, IsUnmade};
 ghost use Rattle.images.specs.declared.refusal.Refusal.TheVariants as refused;
 
-use crate::ended::LockedFile;
 use crate::refusal::Refusal;
 use crate::task::NewSizes;
-use console::guard_streams;
+use console::{LockedFile, guard_streams};
 use device_file::Existing;
 use journal::{LogFormat, Super};
 use std::fs::{File, Files};

@@ -10,13 +10,14 @@ ghost use Rattle.images.specs.Opened.{IsTargetUnmade, made_at};
 ghost use Rattle.images.specs.Program.{IsImport, IsImportRefused};
 
 use crate::copying::{CopyRoom, copy_room, tell_of};
-use crate::ended::{LeftFile, LeftFiles, LockedFile, Refused, Stopped};
+use crate::ended::{LeftFile, LeftFiles, Refused, Stopped};
 use crate::gauge::Gauge;
 use crate::image::{FilePlace, new_target, sizes_of};
 use crate::making::ask_to_be;
 use crate::opening::open_plain;
 use crate::refusal::Refusal;
 use crate::task::ImageOptions;
+use console::LockedFile;
 use device_file::{CopyBuffer, CopyFault, CopyRange, DeviceFile, Meter, Run, copy_sectors};
 use journal::Super;
 use std::fs::{File, Files};

@@ -17,7 +17,7 @@ mod showing;
 mod task;
 mod text;
 
-pub use ended::{Ended, LockedFile, Stopped};
+pub use ended::{Ended, Stopped};
 pub use exporting::{RecoveredImage, export_blocks, export_file, recover_in_window};
 pub use image::FilePlace;
 pub use importing::import_blocks;

@@ -5,14 +5,14 @@ ghost use Rattle.device_file.specs.Outbox.{CarriesOut};
 ghost use Rattle.device_file.specs.InRuns.{AsksInRuns, IsAskedInRuns};
 ghost use Rattle.images.specs.Migrating.{IsMigratedIn, IsMigratedOn, IsNotMigratedOn};
 ghost use Rattle.images.specs.Migrating.{IsMigratedOf, IsNotMigratedOf};
-ghost use Rattle.images.specs.Migrating.{migration_room, migration_text};
+ghost use Rattle.images.specs.Migrating.{migration_room};
 ghost use Rattle.images.specs.Program.{IsMigration, IsMigrationRefused};
 
 use crate::ended::{LeftFile, Stopped};
 use crate::exporting::room_to_recover;
 use crate::opening::{first_of, open_file, window_over};
 use crate::refusal::Refusal;
-use console::write_out;
+use console::{migration_line, write_out};
 use device_file::{DeviceFile, FileFault, FirstSectors, Run, carry_out};
 use journal::{LogFormat, Super};
 use medium::Access;
@@ -152,16 +152,5 @@ fn room_to_migrate(sizes: &Option<Super>) -> usize
             to_recover + (sizes.format.slot_sectors() * sizes.slots + 5) as usize
         }
         _ => to_recover,
-    }
-}
-
-// What is told of an image that is of format 2 now.
-fn migration_line(was_one: bool) -> &'static [u8]
-    ensures { result.now ≡ migration_text was_one }
-{
-    if was_one {
-        b"migrated\n"
-    } else {
-        b"already format 2\n"
     }
 }

@@ -11,9 +11,8 @@ ghost use Rattle.images.specs.Opened.{
   refusal_of_open,
 };
 
-use crate::ended::LockedFile;
 use crate::refusal::Refusal;
-use console::guard_streams;
+use console::{LockedFile, guard_streams};
 use device_file::{DeviceFile, FileCall, FileFault, FirstSectors, OpenFault};
 use medium::Access;
 use std::alloc::Global;

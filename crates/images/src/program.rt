@@ -34,7 +34,7 @@ use crate::migrating::migrate;
 use crate::refusal::Refusal;
 use crate::showing::show;
 use crate::task::{ImageTask, NewSizes, Task, read_words};
-use console::{ArgumentFault, words_of, write_out};
+use console::{ArgumentFault, foresee, words_of, write_out};
 use device_file::Run;
 use journal::Super;
 use std::fs::{File, Files};
@@ -47,7 +47,7 @@ usbdisk_image show IMAGE\nusbdisk_image migrate IMAGE\n\
 usbdisk_image import RAW IMAGE --slots K --format 1|2 [--replace]\n\
 usbdisk_image export IMAGE RAW [--replace]\n";
 
-const VERSION: &[u8] = b"usbdisk_image 1.9\n";
+const VERSION: &[u8] = b"usbdisk_image 1.10\n";
 
 /// Does what the words after the program's name ask for, and gives the exit status.
 ///
@@ -78,7 +78,7 @@ pub fn command<R: Files<File = File> + AllocGlobal, O: Write, E: Write + IsTermi
 {
     match dispatch(rt, words, device, out, err) {
         Ok(left) => end(0, left),
-        Err(refused) => end(report(refused.refusal, words, err), refused.files),
+        Err(refused) => refuse(refused, words, err),
     }
 }
 
@@ -94,15 +94,6 @@ fn end(status: u8, left: LeftFiles) -> Ended
         status,
         file: left.file,
         raw: left.raw,
-    }
-}
-
-// Does nothing. Its contract says by which calls of the system a file did what it was asked.
-fn foresee(left: &LeftFile)
-    ensures { AreCalls left.now }
-{
-    if let Some(file) = left {
-        file.foresee();
     }
 }
 
@@ -269,16 +260,21 @@ fn make_with<R: Files<File = File>, O: Write>(
     }
 }
 
-// Writes why a command was refused, and gives the exit status, also where that cannot be written.
-fn report<E: Write>(refusal: Refusal, words: &[&str], err: &mut E) -> u8
-    ensures { result ≡ status_of refusal }
+// Writes why a command was refused, where that can be written, and tells how it ended.
+fn refuse<E: Write>(refused: Refused, words: &[&str], err: &mut E) -> Ended
+    ensures is { result ≡ record {
+      status = status_of refused.refusal;
+      file = refused.files.file;
+      raw = refused.files.raw;
+    } }
+    ensures calls { AreCalls refused.files.file × AreCalls refused.files.raw }
 {
-    let text = refusal.text();
-    let _ = match name_of(refusal, words) {
+    let text = refused.refusal.text();
+    let _ = match name_of(refused.refusal, words) {
         Some(name) => writeln!(err, "{name}: {text}"),
         None => writeln!(err, "{text}"),
     };
-    refusal.status()
+    end(refused.refusal.status(), refused.files)
 }
 
 // The file of a command that its refusal names: the second behind the command's name, or the first.
@@ -314,23 +310,10 @@ pub fn run_program<R: Files<File = File> + AllocGlobal, O: Write, E: Write + IsT
 {
     let args = match args {
         Ok(args) => args,
-        Err(fault) => return refuse(Refusal::from(fault), err),
+        Err(fault) => return refuse(Refused::from(Refusal::from(fault)), &[], err),
     };
     match words_of(rt.alloc(), args.as_slice()) {
         Ok(words) => command(rt, words.as_slice(), device, out, err),
-        Err(_) => refuse(Refusal::NoMemory, err),
-    }
-}
-
-// Refuses before a command is known.
-fn refuse<E: Write>(refusal: Refusal, err: &mut E) -> Ended
-    ensures status { result.status ≡ status_of refusal }
-    ensures file { result.file ≡ None }
-    ensures raw { result.raw ≡ None }
-{
-    Ended {
-        status: report(refusal, &[], err),
-        file: None,
-        raw: None,
+        Err(_) => refuse(Refused::from(Refusal::NoMemory), &[], err),
     }
 }

@@ -1,5 +1,5 @@
 -- A disk over a file that was ready is ready again, and what an event reads is in sight.
-use Rattle.std.proofs.Common.{◌≡◌, ◌⊎◌, ◌<◌, ◌≤◌, ◌+◌, ◌/◌, ℕ, true, List, length, inl, inr, arith, sym, ◌∙◌, ap, subst}
+use Rattle.std.proofs.Common.{◌≡◌, ◌⊎◌, ◌≤◌, ◌+◌, ◌/◌, ℕ, true, List, length, inl, inr, arith, refl, sym, ◌∙◌, ap, subst}
 use Rattle.std.specs.Prelude.{Option, Some, None}
 use Rattle.std.proofs.lemmas.Bool.{cases_Bool, cases_lt}
 use Rattle.medium.specs.Sent.{sent}
@@ -15,11 +15,15 @@ use Rattle.scsi_unit.specs.{Reading.ReadsBack, declared.reading.HomeSectors.Home
 use Rattle.bot_machine.specs.{Device.Device, Disk.{IsStep, IsRearmed}, Opening.IsOpened, Reading.{ReadsHome, ReadsAt, sectors_in}}
 use Rattle.bot_machine.specs.{Reading.sectors_for}
 use Rattle.spec.specs.declared.event.Event.TheVariants as event
-use Rattle.device_file.specs.Asked.{Told}
-use Rattle.live.specs.{FileWindows.Carries, Missing.{DiskOn, medium_of, window_of, Wants, WantsNone}, Playing.{SeesRead, Prepares}}
-use Rattle.live.specs.{Playing.{PlaysReady, MissesNothing}, Ready.{room_of, RefusesNone, KeepsAll, IsReadyToStart, HasRoomToStart}}
-use Rattle.live.specs.{Ready.{layout_on, IsReady, SeesHome}}
+use Rattle.device_file.specs.{Asked.Told, declared.fault.FileFault.FileFault}
+use Rattle.live.specs.{FileWindows.{Carries, is_well}, Missing.{DiskOn, medium_of, window_of, Wants, WantsNone}}
+use Rattle.live.specs.{Playing.{SeesRead, Prepares, PlaysReady, Plays, MissesNothing}, Ready.{room_of, RefusesNone, KeepsAll}}
+use Rattle.live.specs.{Ready.{IsReadyToStart, HasRoomToStart, layout_on, IsReady, SeesHome}}
 use Rattle.live.proofs.Rooms.{enough}
+
+well_none : (why : Option FileFault) → is_well why ≡ true → why ≡ None
+well_none None good = refl
+well_none (Some fault) good = cc
 
 -- what a disk keeps of being ready while calls wait
 record IsFit {D : Type 0} (disk : DiskOn D) : Type 0 where
@@ -199,7 +203,7 @@ module _ {D : Type 0} where
               (omega (arith, there.0, there.1, sees.whole, missing.end, high, begins, many))
         ]
 
-    pub ready_prepared : (old : DiskOn D) (event : Event) (new : DiskOn D) → Prepares told at_once holds refuses old event new
+    ready_prepared : (old : DiskOn D) (event : Event) (new : DiskOn D) → Prepares told at_once holds refuses old event new
         → IsReady old → IsReady new
     ready_prepared old (event.Out packet) new (inl (none, same)) ready = rw same ready
     ready_prepared old (event.Out packet) new (inr (first, count, wants, inl sees)) ready = ready_shown old new first count sees ready
@@ -211,7 +215,7 @@ module _ {D : Type 0} where
       sees_all : SeesHome ready event → MissesNothing told at_once holds refuses old event ready plays.played
       sees_all home = record { kept = plays.kept was; seen = inl (plays.served was home) }
 
-    pub misses_nothing : (old : DiskOn D) (event : Event) (answer : Answer) (ready new : DiskOn D)
+    misses_nothing : (old : DiskOn D) (event : Event) (answer : Answer) (ready new : DiskOn D)
         → Prepares told at_once holds refuses old event ready
         → (plays : PlaysReady told at_once holds refuses ready event answer new) → IsReady old
         → MissesNothing told at_once holds refuses old event ready plays.played
@@ -223,3 +227,16 @@ module _ {D : Type 0} where
     misses_nothing old (event.Out packet) answer ready new (inr (first, count, wants, inr misses)) plays was =
         record { kept = plays.kept (rw misses.1 was); seen = inr (first, count, wants, misses) }
     misses_nothing old other answer ready new same plays was = sees_all old other answer ready new plays (rw same was) tt
+
+    -- an event is played by a disk that was made ready for it
+    pub plays_prepared : (old : DiskOn D) (event : Event) (answer : Answer) (ready new : DiskOn D) (why : Option FileFault)
+        → Prepares told at_once holds refuses old event ready → PlaysReady told at_once holds refuses ready event answer new
+        → (medium_of new).fault ≡ why → Plays told at_once holds refuses old event answer (is_well why) new
+    plays_prepared old event answer ready new why prepares plays fault = record {
+      ready = ready;
+      prepares = prepares;
+      plays = plays;
+      is_good = ap is_well fault;
+      misses = misses_nothing old event answer ready new prepares plays;
+      again = λ was good. plays.again (ready_prepared old event ready prepares was) (fault ∙ well_none why good);
+    }

@@ -1,6 +1,5 @@
 -- No start and no event misses.
-use Rattle.std.proofs.Common.{◌≡◌, ◌<◌, ◌≤◌, ◌+◌, ℕ, length, inl, inr, arith}
-use Rattle.std.proofs.Common.{ap, subst}
+use Rattle.std.proofs.Common.{◌≡◌, ◌<◌, ◌≤◌, ◌+◌, ℕ, length, inl, inr, arith, ap}
 use Rattle.std.proofs.Math.Nat.{le-max_left, le-max_right}
 use Rattle.medium.specs.{Medium.State, Sent.sent, declared.fault.MediumFault.MediumFault}
 use Rattle.medium.specs.declared.fault.MediumFault.TheVariants as kind

@@ -1,5 +1,5 @@
 -- What holds of a window and its file at each moment.
-use Rattle.std.proofs.Common.{◌≡◌, refl, ◌∙◌}
+use Rattle.std.proofs.Common.{refl, ◌∙◌}
 use Rattle.medium.specs.Medium.{IsSound}
 use Rattle.window.specs.WindowLaws as window
 use Rattle.live.specs.{declared.file.FileWindow.FileWindow, FileWindows.{state_of, GoesOn}}

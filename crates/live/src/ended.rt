@@ -1,8 +1,6 @@
 //! How serving ended, and what it has left of its file.
 use crate::refusal::Refusal;
-use device_file::SystemFile;
-use medium::OpenedFile;
-use std::fs::File;
+use console::LockedFile;
 
 /// How the program ended, and the file that it opened, exactly as it was left. Nothing is behind it
 /// for a caller to do but to let go of it, which closes the file.
@@ -10,7 +8,7 @@ use std::fs::File;
 pub struct Ended {
     /// The exit status.
     pub status: u8,
-    pub file: Option<SystemFile<OpenedFile<File>>>,
+    pub file: Option<LockedFile>,
 }
 
 /// Why an input was not served to its end, and the file as it was left.

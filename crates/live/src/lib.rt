@@ -9,6 +9,7 @@ mod program;
 mod refusal;
 mod serving;
 mod starting;
+mod streams;
 
 pub use ended::{Ended, Stopped};
 pub use file::FileWindow;
@@ -17,3 +18,4 @@ pub use program::{live_command, run_live};
 pub use refusal::Refusal;
 pub use serving::serve_file;
 pub use starting::DiskOptions;
+pub use streams::Streams;

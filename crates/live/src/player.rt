@@ -1,9 +1,8 @@
 //! A disk over an open file, as a player of events.
-ghost use Rattle.std.specs.Prelude.{◌≡◌, ◌⊎◌, ◌*◌, ℕ, length, true, IfSome, IfNone};
+ghost use Rattle.std.specs.Prelude.{◌≡◌, ◌⊎◌, ◌*◌, length};
 ghost use Rattle.bot_machine.specs.Fitting.{IsWithin};
 ghost use Rattle.live.specs.Missing.{medium_of, window_of};
-ghost use Rattle.live.specs.Playing.{SeesRead, MissesRead, PreparesPacket, Prepares};
-ghost use Rattle.live.specs.Playing.{PlaysReady, Plays, IsUnanswered};
+ghost use Rattle.live.specs.Playing.{SeesRead, MissesRead, Prepares, PlaysReady};
 ghost use Rattle.live.specs.Ready.{Foresees};
 
 use crate::file::FileWindow;
@@ -85,26 +84,19 @@ fn show_read<D: DeviceFile>(disk: &mut Disk<FileWindow<D>>, first: u64, count: u
     }
 }
 
-// Reads of the file what a packet wants, and shows it.
-fn prepare_packet<D: DeviceFile>(disk: &mut Disk<FileWindow<D>>, bytes: &mut [u8], packet: &[u8])
-    requires { length bytes.old ≡ 122880 }
-    ensures { PreparesPacket D.told D.at_once D.holds D.refuses disk.old packet.now disk.new }
-{
-    let Some(read) = missing_for(disk, packet) else {
-        return;
-    };
-    let to = &mut bytes[..read.count as usize * SECTOR];
-    show_read(disk, read.first, read.count, to);
-}
-
-// Makes the disk ready for an event.
+// Makes the disk ready for an event: reads of the file what a packet wants, and shows it.
 fn prepare<D: DeviceFile>(disk: &mut Disk<FileWindow<D>>, bytes: &mut [u8], event: &Event)
     requires { length bytes.old ≡ 122880 }
     ensures { Prepares D.told D.at_once D.holds D.refuses disk.old event.now disk.new }
 {
-    if let Event::Out(packet) = event {
-        prepare_packet(disk, bytes, packet.as_slice());
-    }
+    let Event::Out(packet) = event else {
+        return;
+    };
+    let Some(read) = missing_for(disk, packet.as_slice()) else {
+        return;
+    };
+    let to = &mut bytes[..read.count as usize * SECTOR];
+    show_read(disk, read.first, read.count, to);
 }
 
 // Plays an event for which the disk is ready, and has the file carry out what waits.
@@ -116,27 +108,6 @@ fn play_ready<D: DeviceFile>(disk: &mut Disk<FileWindow<D>>, event: &Event) -> A
     let answer = answer_to(disk, event);
     disk.pop();
     answer
-}
-
-// Plays an event. It has no answer where the file refused a call that it sent.
-fn play_event<D: DeviceFile>(
-    disk: &mut Disk<FileWindow<D>>,
-    bytes: &mut [u8],
-    event: &Event,
-) -> Option<Answer>
-    requires room { length bytes.old ≡ 122880 }
-    requires within { IsWithin disk.old.line.packet_size event.now }
-    ensures played { IfSome result (λ answer.
-        Plays D.told D.at_once D.holds D.refuses disk.old event.now answer true disk.new) }
-    ensures stopped { IfNone result
-        (IsUnanswered D.told D.at_once D.holds D.refuses disk.old event.now disk.new) }
-{
-    prepare(disk, bytes, event);
-    let answer = play_ready(disk, event);
-    if let Some(_) = disk.medium().fault() {
-        return None;
-    }
-    Some(answer)
 }
 
 impl<D: DeviceFile> Player for FileDisk<D> {
@@ -159,7 +130,13 @@ impl<D: DeviceFile> Player for FileDisk<D> {
         }
     }
 
+    // It has no answer where the file refused a call that it sent.
     fn play(&mut self, event: &Event) -> Option<Answer> {
-        play_event(&mut self.disk, self.bytes.as_mut_slice(), event)
+        prepare(&mut self.disk, self.bytes.as_mut_slice(), event);
+        let answer = play_ready(&mut self.disk, event);
+        if let Some(_) = self.disk.medium().fault() {
+            return None;
+        }
+        Some(answer)
     }
 }

@@ -13,9 +13,9 @@ use crate::ended::{Ended, Stopped};
 use crate::refusal::Refusal;
 use crate::serving::serve_file;
 use crate::starting::DiskOptions;
-use console::{ArgumentFault, guard_streams, words_of};
-use device_file::SystemFile;
-use medium::{Access, OpenedFile};
+use crate::streams::Streams;
+use console::{ArgumentFault, LockedFile, foresee, guard_streams, words_of};
+use medium::Access;
 use runner::read_live_words;
 use std::alloc::Global;
 use std::fs::{File, Files};
@@ -23,7 +23,7 @@ use std::io::{Read, Write};
 use window::DeviceHolds;
 
 /// The file of an image, where one was opened.
-type LeftFile = Option<SystemFile<OpenedFile<File>>>;
+type LeftFile = Option<LockedFile>;
 
 /// Serves an image file, line by line of an input, and gives the exit status.
 ///
@@ -36,23 +36,21 @@ pub fn live_command<R: Files<File = File> + AllocGlobal, I: Read, O: Write, E: W
     rt: &R,
     words: &[&str],
     device: &DeviceHolds,
-    input: &mut I,
-    out: &mut O,
+    streams: &mut Streams<I, O>,
     err: &mut E,
 ) -> Ended
     ensures statuses { IsLiveStatus result.status result.file }
-    ensures done { result.status ≡ 0 → HasDoneLive device.now.bytes (O.contents out.old)
-        (O.contents out.new) (I.remaining input.old) (I.remaining input.new) result.file
-        (map (λ word. word.now) words.now) × (err.new ≡ err.old) }
+    ensures done { result.status ≡ 0 → HasDoneLive device.now.bytes (O.contents streams.old.out)
+        (O.contents streams.new.out) (I.remaining streams.old.input) (I.remaining streams.new.input)
+        result.file (map (λ word. word.now) words.now) × (err.new ≡ err.old) }
     ensures words { (result.status ≡ 2) ↔ (IsLiveLine (map (λ word. word.now) words.now) → ⊥) }
-    ensures refused { result.status ≢ 0
-        → (refusal : Refusal) × (result.status ≡ status_of refusal)
-        × IsLiveRefusedFor device.now.bytes (O.contents out.old) (O.contents out.new)
-        (I.remaining input.old) (I.remaining input.new) result.file
-        (map (λ word. word.now) words.now) refusal }
+    ensures refused { result.status ≢ 0 → (refusal : Refusal) × (result.status ≡ status_of refusal)
+        × IsLiveRefusedFor device.now.bytes (O.contents streams.old.out)
+        (O.contents streams.new.out) (I.remaining streams.old.input) (I.remaining streams.new.input)
+        result.file (map (λ word. word.now) words.now) refusal }
     ensures calls { AreCalls result.file }
 {
-    match serve_image(rt, words, device, input, out) {
+    match serve_image(rt, words, device, streams) {
         Ok(file) => {
             foresee(&file);
             Ended { status: 0, file }
@@ -74,21 +72,20 @@ pub fn run_live<R: Files<File = File> + AllocGlobal, I: Read, O: Write, E: Write
     rt: &R,
     args: Result<Vec<String>, ArgumentFault>,
     device: &DeviceHolds,
-    input: &mut I,
-    out: &mut O,
+    streams: &mut Streams<I, O>,
     err: &mut E,
 ) -> Ended
     ensures statuses { IsLiveStatus result.status result.file }
     ensures done { result.status ≡ 0 → MatchResult args (λ all. HasDoneLive device.now.bytes
-        (O.contents out.old) (O.contents out.new) (I.remaining input.old) (I.remaining input.new)
-        result.file (drop 1 (map string_bytes all.items))) (λ fault. ⊥) × (err.new ≡ err.old) }
-    ensures refused { result.status ≢ 0
-        → (refusal : Refusal) × (result.status ≡ status_of refusal)
-        × MatchResult args (λ all. IsProgramRefused device.now.bytes (O.contents out.old)
-        (O.contents out.new) (I.remaining input.old) (I.remaining input.new) result.file
-        (drop 1 (map string_bytes all.items)) refusal) (λ fault. HasNoWords (O.contents out.old)
-        (O.contents out.new) (I.remaining input.old) (I.remaining input.new) result.file fault
-        refusal) }
+        (O.contents streams.old.out) (O.contents streams.new.out) (I.remaining streams.old.input)
+        (I.remaining streams.new.input) result.file (drop 1 (map string_bytes all.items)))
+        (λ fault. ⊥) × (err.new ≡ err.old) }
+    ensures refused { result.status ≢ 0 → (refusal : Refusal) × (result.status ≡ status_of refusal)
+        × MatchResult args (λ all. IsProgramRefused device.now.bytes (O.contents streams.old.out)
+        (O.contents streams.new.out) (I.remaining streams.old.input) (I.remaining streams.new.input)
+        result.file (drop 1 (map string_bytes all.items)) refusal) (λ fault. HasNoWords
+        (O.contents streams.old.out) (O.contents streams.new.out) (I.remaining streams.old.input)
+        (I.remaining streams.new.input) result.file fault refusal) }
     ensures calls { AreCalls result.file }
 {
     let args = match args {
@@ -96,7 +93,7 @@ pub fn run_live<R: Files<File = File> + AllocGlobal, I: Read, O: Write, E: Write
         Err(fault) => return refuse(Refusal::from(fault), err),
     };
     match words_of(rt.alloc(), args.as_slice()) {
-        Ok(words) => live_command(rt, words.as_slice(), device, input, out, err),
+        Ok(words) => live_command(rt, words.as_slice(), device, streams, err),
         Err(_) => refuse(Refusal::NoMemory, err),
     }
 }
@@ -107,15 +104,15 @@ fn serve_image<R: Files<File = File> + AllocGlobal, I: Read, O: Write>(
     rt: &R,
     words: &[&str],
     device: &DeviceHolds,
-    input: &mut I,
-    out: &mut O,
+    streams: &mut Streams<I, O>,
 ) -> Result<LeftFile, Stopped<LeftFile>>
-    ensures done { IfOk result (λ back. HasDoneLive device.now.bytes (O.contents out.old)
-        (O.contents out.new) (I.remaining input.old) (I.remaining input.new) back
-        (map (λ word. word.now) words.now)) }
+    ensures done { IfOk result (λ back. HasDoneLive device.now.bytes (O.contents streams.old.out)
+        (O.contents streams.new.out) (I.remaining streams.old.input) (I.remaining streams.new.input)
+        back (map (λ word. word.now) words.now)) }
     ensures refused { IfErr result (λ stopped. IsLiveRefusedFor device.now.bytes
-        (O.contents out.old) (O.contents out.new) (I.remaining input.old) (I.remaining input.new)
-        stopped.file (map (λ word. word.now) words.now) stopped.refusal) }
+        (O.contents streams.old.out) (O.contents streams.new.out) (I.remaining streams.old.input)
+        (I.remaining streams.new.input) stopped.file (map (λ word. word.now) words.now)
+        stopped.refusal) }
 {
     let Some((image, size)) = read_live_words(words) else {
         return Err(stopped(Refusal::Words));
@@ -124,7 +121,7 @@ fn serve_image<R: Files<File = File> + AllocGlobal, I: Read, O: Write>(
         return Err(stopped(Refusal::Streams));
     };
     match device_file::open(rt, image, Access::Change) {
-        Ok(file) => serve_opened(rt.alloc(), file, DiskOptions { device, size }, input, out),
+        Ok(file) => serve_opened(rt.alloc(), file, DiskOptions { device, size }, streams),
         Err(fault) => Err(stopped(Refusal::File(fault))),
     }
 }
@@ -132,33 +129,24 @@ fn serve_image<R: Files<File = File> + AllocGlobal, I: Read, O: Write>(
 // Serves a file, which comes back.
 fn serve_opened<I: Read, O: Write>(
     alloc: Global,
-    file: SystemFile<OpenedFile<File>>,
+    file: LockedFile,
     options: DiskOptions,
-    input: &mut I,
-    out: &mut O,
+    streams: &mut Streams<I, O>,
 ) -> Result<LeftFile, Stopped<LeftFile>>
     ensures done { IfOk result (λ back. IsLiveOn options.entry.device.now.bytes
-        (O.contents out.old) (O.contents out.new) (I.remaining input.old) (I.remaining input.new)
-        back file (bytes_of options.entry.size)) }
+        (O.contents streams.old.out) (O.contents streams.new.out) (I.remaining streams.old.input)
+        (I.remaining streams.new.input) back file (bytes_of options.entry.size)) }
     ensures refused { IfErr result (λ stopped. IsStoppedOn options.entry.device.now.bytes
-        (O.contents out.old) (O.contents out.new) (I.remaining input.old) (I.remaining input.new)
-        stopped.file file (bytes_of options.entry.size) stopped.refusal) }
+        (O.contents streams.old.out) (O.contents streams.new.out) (I.remaining streams.old.input)
+        (I.remaining streams.new.input) stopped.file file (bytes_of options.entry.size)
+        stopped.refusal) }
 {
-    match serve_file(alloc, file, options, input, out) {
+    match serve_file(alloc, file, options, streams) {
         Ok(file) => Ok(Some(file)),
         Err(stopped) => Err(Stopped {
             refusal: stopped.refusal,
             file: Some(stopped.file),
         }),
-    }
-}
-
-// Does nothing. Its contract says by which calls of the system a file did what it was asked.
-fn foresee(left: &LeftFile)
-    ensures { AreCalls left.now }
-{
-    if let Some(file) = left {
-        file.foresee();
     }
 }
 

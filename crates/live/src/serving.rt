@@ -7,6 +7,7 @@ ghost use Rattle.live.specs.Status.{refusal_of_serving};
 use crate::ended::Stopped;
 use crate::refusal::Refusal;
 use crate::starting::{DiskOptions, start_on};
+use crate::streams::Streams;
 use device_file::{DeviceFile, FileFault};
 use runner::{ServeFault, serve_player};
 use std::alloc::Global;
@@ -25,22 +26,22 @@ pub fn serve_file<D: DeviceFile, I: Read, O: Write>(
     alloc: Global,
     file: D,
     options: DiskOptions,
-    input: &mut I,
-    out: &mut O,
+    streams: &mut Streams<I, O>,
 ) -> Result<D, Stopped<D>>
     ensures served { IfOk result (IsServedOn D.told D.at_once D.holds D.refuses D.size
-        options.entry.device.now.bytes (bytes_of options.entry.size) file (O.contents out.old)
-        (O.contents out.new) (I.remaining input.old) (I.remaining input.new)) }
+        options.entry.device.now.bytes (bytes_of options.entry.size) file
+        (O.contents streams.old.out) (O.contents streams.new.out) (I.remaining streams.old.input)
+        (I.remaining streams.new.input)) }
     ensures refused { IfErr result (λ stopped. IsNotServedOn D.told D.at_once D.holds D.refuses
         D.size options.entry.device.now.bytes (bytes_of options.entry.size) file
-        (O.contents out.old) (O.contents out.new) (I.remaining input.old) (I.remaining input.new)
-        stopped.file stopped.refusal) }
+        (O.contents streams.old.out) (O.contents streams.new.out) (I.remaining streams.old.input)
+        (I.remaining streams.new.input) stopped.file stopped.refusal) }
 {
     let mut disk = match start_on(alloc, file, options) {
         Ok(disk) => disk,
         Err(stopped) => return Err(stopped),
     };
-    match serve_player(&mut disk, input, out) {
+    match serve_player(&mut disk, &mut streams.input, &mut streams.out) {
         Ok(()) => Ok(disk.into_file()),
         Err(fault) => Err(Stopped {
             refusal: refusal_of(fault, disk.fault()),

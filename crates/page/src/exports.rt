@@ -37,21 +37,29 @@ pub extern "C" fn page_plain(
     play_plain_script(alloc, script, told, to)
 }
 
+/// The sizes of an image, as `docs/page` tells them.
+#[repr(C)]
+#[derive(Clone, Copy)]
+pub struct ImageSizes {
+    pub format: u32,
+    pub slots: u32,
+    pub blocks: u32,
+}
+
 /// Tells what a sector of an image of these sizes is, and what these bytes would say in it. 0 where
 /// the sizes are none of the page.
 #[unsafe(no_mangle)]
 pub extern "C" fn page_sector(
-    format: u32,
-    slots: u32,
-    blocks: u32,
+    sizes: &ImageSizes,
     sector: u64,
     bytes: &[u8; 512],
     words: &mut [u64; 8],
 ) -> u32
-    ensures role { AreSizes format slots blocks → TellsRole format slots blocks sector result }
-    ensures none { (AreSizes format slots blocks → ⊥) → result ≡ 0 }
+    ensures role { AreSizes sizes.now.format sizes.now.slots sizes.now.blocks
+        → TellsRole sizes.now.format sizes.now.slots sizes.now.blocks sector result }
+    ensures none { (AreSizes sizes.now.format sizes.now.slots sizes.now.blocks → ⊥) → result ≡ 0 }
 {
-    match look_at(format, slots, blocks, sector, bytes) {
+    match look_at(sizes.format, sizes.slots, sizes.blocks, sector, bytes) {
         Some(seen) => {
             let (role, said) = seen;
             *words = said;

@@ -19,4 +19,4 @@ mod sectors;
 mod step;
 mod watched;
 
-pub use exports::{page_plain, page_play, page_sector};
+pub use exports::{ImageSizes, page_plain, page_play, page_sector};

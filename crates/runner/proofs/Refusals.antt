@@ -39,9 +39,9 @@ unread_not_words refusal (inr (inr is)) words = cc
 module _ (was now : Option (List ℕ)) (back : Option Copied) (refusal : Refusal) where
   -- what is not done for other causes is no refusal of words
   not_words : (task : Task) → IsNotDone was now back task refusal → refusal ≡ refused.Words → ⊥
-  not_words (Format image format blocks slots) (inl (is, sizes, left)) same = cc
-  not_words (Format image format blocks slots) (inr (sizes, inl (is, why))) same = cc
-  not_words (Format image format blocks slots) (inr (sizes, inr (is, why))) same = cc
+  not_words (Format image sizes) (inl (is, wrong, left)) same = cc
+  not_words (Format image sizes) (inr (right, inl (is, why))) same = cc
+  not_words (Format image sizes) (inr (right, inr (is, why))) same = cc
   not_words (Migrate image) (inl without) same = unread_not_words refusal without.0 same
   not_words (Migrate image) (inr stopped) same = elim stopped.work [
     | inl why ↦ start_not_words why.fault (sym why.told ∙ same)

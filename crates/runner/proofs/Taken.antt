@@ -160,7 +160,7 @@ migrate_passes p = let a = p.stripped in let b = p.other in simp (a, b)
 
 takes_line : (words : List (List ℕ)) (task : Task) → SpellsTask words task → takes usbdisk_app words ≡ true
 unfolding clap_on_literals
-takes_line words (Format image format blocks slots) are =
+takes_line words (Format image sizes) are =
     rw are.words_are (takes_command (codes "format")
     (image.now ∷ codes "--blocks" ∷ are.blocks_word ∷ codes "--slots" ∷ are.slots_word ∷ are.ending) refl refl refl
     (format_passes (plain image.now are.image_word) (plain_digits are.blocks_are) (plain_digits are.slots_are) are.format_is))

@@ -1,6 +1,5 @@
 -- What the program's commands do.
-use Rattle.std.specs.Prelude.{◌≡◌, ◌⊎◌, ◌*◌, ℕ, Bool, true, false, List, [], length, codes, Option}
-use Rattle.std.specs.Prelude.{Some, None}
+use Rattle.std.specs.Prelude.{◌≡◌, ◌⊎◌, ◌*◌, ℕ, Bool, List, [], length, codes, Option, Some, None}
 use Rattle.std.specs.Io.KnownBytes.{Appends, Keeps}
 use Rattle.medium.specs.Medium.{State}
 use Rattle.medium.specs.FileStory.{IsReadWhole}
@@ -17,6 +16,7 @@ use Rattle.recovery.specs.declared.recovered.Recovered.{Recovered}
 use Rattle.spec.specs.Packets.{bytes_of}
 use Rattle.bot_machine.specs.StartFaults.{StartFault}
 use Rattle.console.specs.Streams.{AppendsSome}
+use Rattle.console.specs.Texts.{ended, migration_text}
 use Rattle.console.specs.declared.words.ArgumentFault.{ArgumentFault}
 use Rattle.runner.specs.declared.fault.ScriptFault.{ScriptFault}
 use Rattle.runner.specs.declared.refusal.Refusal.{Refusal}
@@ -27,7 +27,6 @@ use Rattle.runner.specs.Outcome.{IsPlayed, IsRefused}
 use Rattle.runner.specs.OutcomeOfLives.{ArePlayed, AreRefused}
 use Rattle.runner.specs.Status.{refusal_of_argument, refusal_of_fault, refusal_of_start}
 use Rattle.runner.specs.Task.{SpellsTask, IsCommandLine}
-use Rattle.runner.specs.Text.{ended}
 
 -- `blocks` blocks and `slots` log slots of this format make an image of at most 65,536 sectors
 abbrev pub AreImageSizes : LogFormat → ℕ → ℕ → Type 0
@@ -60,11 +59,6 @@ simulated image = record {
 abbrev pub IsUnread : Refusal → Type 0
 IsUnread refusal = (refusal ≡ refused.ImageLength)
     ⊎ ((refusal ≡ refused.File) ⊎ (refusal ≡ refused.NoMemory))
-
--- what is told of an image file that is of format 2 now: whether it was of format 1
-abbrev pub migration_text : Bool → List ℕ
-migration_text true = ended (codes "migrated")
-migration_text false = ended (codes "already format 2")
 
 -- the image file at this path was opened, and this is its medium before the first call
 pub record IsJustOpened (path : List ℕ) (opened : Copied) : Type 0 where
@@ -163,7 +157,7 @@ module _ (was now : Option (List ℕ)) where
 
     -- what is asked for was done
     abbrev pub IsDone : Task → Type 0
-    IsDone (Format image format blocks slots) = IsFormat image.now format blocks slots
+    IsDone (Format image sizes) = IsFormat image.now sizes.format sizes.blocks sizes.slots
     IsDone (Migrate image) = IsMigration image.now
     IsDone (Run image script size) = IsRun image.now (bytes_of size)
     IsDone (InMemory image script size) = IsSim (bytes_of size)
@@ -213,8 +207,8 @@ module _ (was now : Option (List ℕ)) where
 
     -- what is asked for was not done
     abbrev pub IsNotDone : Task → Refusal → Type 0
-    IsNotDone (Format image format blocks slots) refusal =
-        IsFormatRefused image.now format blocks slots refusal
+    IsNotDone (Format image sizes) refusal =
+        IsFormatRefused image.now sizes.format sizes.blocks sizes.slots refusal
     IsNotDone (Migrate image) refusal = IsMigrationRefused image.now refusal
     IsNotDone (Run image script size) refusal = IsRunRefused image.now (bytes_of size) refusal
     IsNotDone (InMemory image script size) refusal = IsSimRefused (bytes_of size) refusal

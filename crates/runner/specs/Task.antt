@@ -63,8 +63,8 @@ pub record AreScriptWords (verb : List ℕ) (words : List (List ℕ)) (image scr
 
 -- the words of a command line, exactly as shown
 abbrev pub SpellsTask : List (List ℕ) → Task → Type 0
-SpellsTask words (Format image format blocks slots) =
-    AreFormatWords words image.now format blocks slots
+SpellsTask words (Format image sizes) =
+    AreFormatWords words image.now sizes.format sizes.blocks sizes.slots
 SpellsTask words (Migrate image) = AreMigrateWords words image.now
 SpellsTask words (Run image script size) =
     AreScriptWords (codes "run") words image.now script.now size

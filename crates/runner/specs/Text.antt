@@ -1,15 +1,12 @@
 -- The lines that tell answers.
 use Rattle.std.specs.Prelude.{ℕ, List, [], ◌∷◌, ◌++◌, codes}
 use Rattle.hex.specs.Hex.{encode_lower}
+use Rattle.console.specs.Texts.{ended}
 use Rattle.spec.specs.declared.event.Event.{Event}
 use Rattle.spec.specs.declared.event.Event.TheVariants.{Tick}
 use Rattle.spec.specs.declared.event.Answer.{Answer}
 use Rattle.spec.specs.declared.event.Answer.TheVariants.{Ack, Nak, Stall, Data, Byte, Two, Ticked}
 use Rattle.spec.specs.declared.event.Answer.TheVariants.{Off}
-
--- a text and a line feed
-abbrev pub ended : List ℕ → List ℕ
-ended text = text ++ 10 ∷ []
 
 -- bytes, in hex digits of lower case
 abbrev pub data_line : List ℕ → List ℕ

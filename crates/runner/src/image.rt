@@ -21,24 +21,31 @@ const IMAGE_LIMIT: usize = 65_536 * 512;
 /// The unflushed writes that a simulated medium holds.
 const ROOM: usize = 16_384;
 
-/// Makes an image file of this format and `blocks` blocks of zeros, with `slots` log slots, in
-/// place of one that is there. The sizes are tested before the file is touched.
+/// The sizes of a new image: its format, its blocks, and the slots of its log.
+#[derive(Clone, Copy)]
+pub(crate) struct ImageSizes {
+    pub(crate) format: LogFormat,
+    pub(crate) blocks: u64,
+    pub(crate) slots: u64,
+}
+
+/// Makes an image file of these sizes, whose blocks are zeros, in place of one that is there. The
+/// sizes are tested before the file is touched.
 pub(crate) fn make_image<R: Files<File = File> + AllocGlobal>(
     rt: &R,
     path: &str,
-    format: LogFormat,
-    blocks: u64,
-    slots: u64,
+    sizes: ImageSizes,
 ) -> Result<FileMedium<File>, Refusal>
-    ensures made { IfOk result (IsMade path.now format blocks slots) }
-    ensures size { (result ≡ Err Refusal.ImageSize) ↔ ¬ AreImageSizes format blocks slots }
+    ensures made { IfOk result (IsMade path.now sizes.format sizes.blocks sizes.slots) }
+    ensures size { (result ≡ Err Refusal.ImageSize)
+        ↔ ¬ AreImageSizes sizes.format sizes.blocks sizes.slots }
     ensures refused { IfErr result (λ refusal. (refusal ≡ Refusal.ImageSize)
         ⊎ ((refusal ≡ Refusal.File) ⊎ (refusal ≡ Refusal.NoMemory))) }
 {
-    let sectors = image_sectors(format, blocks, slots).ok_or(Refusal::ImageSize)?;
+    let sectors = image_sectors(sizes).ok_or(Refusal::ImageSize)?;
     let _streams = hold(rt)?;
     let mut medium = FileMedium::create(rt, path, sectors)?;
-    format_medium(&mut medium, format, blocks, slots)?;
+    format_medium(&mut medium, sizes)?;
     Ok(medium)
 }
 
@@ -50,34 +57,30 @@ pub(crate) fn hold<R: Files>(rt: &R) -> Result<StreamGuard<R::File>, Refusal>
 }
 
 // Formats a medium of zeros, which has room for these sizes.
-fn format_medium<M: Medium>(
-    medium: &mut M,
-    format: LogFormat,
-    blocks: u64,
-    slots: u64,
-) -> Result<(), Refusal>
-    requires { AreSizes (M.state medium.old).size (new_shape format blocks slots) }
-    ensures { MatchResult result (λ _. IsFormatted (new_shape format blocks slots)
-        (M.state medium.new) × M.follows medium.old medium.new)
-        (λ refusal. refusal ≡ Refusal.File) }
+fn format_medium<M: Medium>(medium: &mut M, sizes: ImageSizes) -> Result<(), Refusal>
+    requires { AreSizes (M.state medium.old).size
+        (new_shape sizes.format sizes.blocks sizes.slots) }
+    ensures { MatchResult result (λ _. IsFormatted
+        (new_shape sizes.format sizes.blocks sizes.slots) (M.state medium.new)
+        × M.follows medium.old medium.new) (λ refusal. refusal ≡ Refusal.File) }
 {
-    match recovery::make(medium, format, blocks, slots) {
+    match recovery::make(medium, sizes.format, sizes.blocks, sizes.slots) {
         Ok(()) => Ok(()),
         Err(FormatFault::BadSize) => Err(Refusal::ImageSize),
         Err(FormatFault::Medium) => Err(Refusal::File),
     }
 }
 
-// The sectors of an image of this format with these sizes, if it may have them.
-fn image_sectors(format: LogFormat, blocks: u64, slots: u64) -> Option<u64>
-    ensures some { IfSome result (λ sectors. AreImageSizes format blocks slots
-        × (sectors ≡ sectors_of (new_shape format blocks slots))) }
-    ensures none { IfNone result (AreImageSizes format blocks slots → ⊥) }
+// The sectors of an image of these sizes, if it may have them.
+fn image_sectors(sizes: ImageSizes) -> Option<u64>
+    ensures some { IfSome result (λ sectors. AreImageSizes sizes.format sizes.blocks sizes.slots
+        × (sectors ≡ sectors_of (new_shape sizes.format sizes.blocks sizes.slots))) }
+    ensures none { IfNone result (AreImageSizes sizes.format sizes.blocks sizes.slots → ⊥) }
 {
-    if blocks < 1 || blocks > 65_536 || slots < 1 || slots > 64 {
+    if sizes.blocks < 1 || sizes.blocks > 65_536 || sizes.slots < 1 || sizes.slots > 64 {
         return None;
     }
-    let sectors = 2 + format.slot_sectors() * slots + blocks;
+    let sectors = 2 + sizes.format.slot_sectors() * sizes.slots + sizes.blocks;
     if sectors > 65_536 {
         return None;
     }

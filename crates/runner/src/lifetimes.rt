@@ -21,26 +21,34 @@ use medium::{Kept, SimMedium};
 use std::alloc::Global;
 use std::io::Write;
 
+/// The bytes of a script of several lives, or of one of its lines, and the size of its packets.
+#[derive(Clone, Copy)]
+pub(crate) struct ScriptText<'a> {
+    pub(crate) bytes: &'a [u8],
+    pub(crate) size: PacketSize,
+}
+
 /// Plays every line of a script, and writes the line of each answer at once. A start alone takes
 /// memory.
 pub(crate) fn play_lives<W: Write>(
     alloc: Global,
     mut lives: Lives,
     mut room: NumberRoom,
-    size: PacketSize,
-    script: &[u8],
+    script: ScriptText,
     out: &mut W,
 ) -> Result<SimMedium, ScriptError<SimMedium>>
-    requires good { All (IsScriptLine ScriptKind.Lives (bytes_of size)) (lines_of script.now) }
-    requires packets { lives.device.packet_size ≡ bytes_of size }
-    ensures played { IfOk result
-        (PlaysAll (W.contents out.old) (W.contents out.new) lives (bytes_of size)
-        (lines_of script.now)) }
+    requires good { All (IsScriptLine ScriptKind.Lives (bytes_of script.size))
+        (lines_of script.bytes.now) }
+    requires packets { lives.device.packet_size ≡ bytes_of script.size }
+    ensures played { IfOk result (PlaysAll (W.contents out.old) (W.contents out.new) lives
+        (bytes_of script.entry.size) (lines_of script.entry.bytes.now)) }
     ensures broken { IfErr result (λ error. PlaysUpTo (W.contents out.old) (W.contents out.new)
-        lives (bytes_of size) (lines_of script.now) error.fault error.medium) }
+        lives (bytes_of script.entry.size) (lines_of script.entry.bytes.now) error.fault
+        error.medium) }
 {
-    for line in Parts::lines(script) {
-        match play_line(alloc, &mut lives, room, size, line, out) {
+    let size = script.size;
+    for bytes in Parts::lines(script.bytes) {
+        match play_line(alloc, &mut lives, room, ScriptText { bytes, size }, out) {
             Ok(back) => room = back,
             Err(fault) => {
                 return Err(ScriptError {
@@ -58,20 +66,19 @@ fn play_line<W: Write>(
     alloc: Global,
     lives: &mut Lives,
     room: NumberRoom,
-    size: PacketSize,
-    line: &[u8],
+    line: ScriptText,
     out: &mut W,
 ) -> Result<NumberRoom, ScriptFault>
-    requires good { IsScriptLine ScriptKind.Lives (bytes_of size) line.now }
-    requires packets { lives.old.device.packet_size ≡ bytes_of size }
+    requires good { IsScriptLine ScriptKind.Lives (bytes_of line.size) line.bytes.now }
+    requires packets { lives.old.device.packet_size ≡ bytes_of line.size }
     ensures played { OnOk result ((actions : List Action)
-        × LineActs (bytes_of size) line.now actions
+        × LineActs (bytes_of line.entry.size) line.entry.bytes.now actions
         × TellsLives (W.contents out.old) (W.contents out.new) lives.old actions lives.new) }
     ensures broken { IfErr result (λ fault. (actions : List Action)
-        × LineActs (bytes_of size) line.now actions
+        × LineActs (bytes_of line.entry.size) line.entry.bytes.now actions
         × BreaksOff (W.contents out.old) (W.contents out.new) lives.old actions lives.new fault) }
 {
-    match read_line(ScriptKind::Lives, size, line).unwrap() {
+    match read_line(ScriptKind::Lives, line.size, line.bytes).unwrap() {
         ScriptLine::Fuse { writes } => {
             lives.fuse(writes);
             Ok(room)

@@ -12,18 +12,17 @@ ghost use Rattle.runner.specs.Program.{IsMigrated};
 ghost use Rattle.runner.specs.Program.{IsMigration, IsMigrationRefused, IsNotMigrated};
 ghost use Rattle.runner.specs.Outcome.{IsPlayed};
 ghost use Rattle.runner.specs.Program.{IsPlayRefused, IsRefusedFor, IsRun};
-ghost use Rattle.runner.specs.Program.{IsRunRefused, IsSim, IsSimRefused, migration_text};
+ghost use Rattle.runner.specs.Program.{IsRunRefused, IsSim, IsSimRefused};
 
 use crate::ended::{Ended, Stopped, stopped_with};
 use crate::fault::ScriptError;
-use crate::image::{hold, make_image, open_image, sim_medium};
+use crate::image::{ImageSizes, hold, make_image, open_image, sim_medium};
 use crate::refusal::Refusal;
 use crate::script::run_script;
 use crate::sim::sim_script;
 use crate::task::{Task, read_words};
 use bot_machine::PacketSize;
-use console::{ArgumentFault, words_of, write_out};
-use journal::LogFormat;
+use console::{ArgumentFault, migration_line, words_of, write_out};
 use medium::{FileMedium, Medium};
 use std::alloc::Global;
 use std::fs;
@@ -60,10 +59,7 @@ pub fn command<R: Files<File = File> + AllocGlobal, O: Write, E: Write>(
 {
     match dispatch(rt, words, out) {
         Ok(medium) => Ended { status: 0, medium },
-        Err(stopped) => Ended {
-            status: report(stopped.refusal, err),
-            medium: stopped.medium,
-        },
+        Err(stopped) => refuse(stopped, err),
     }
 }
 
@@ -86,31 +82,24 @@ pub fn run_program<R: Files<File = File> + AllocGlobal, O: Write, E: Write>(
 {
     let args = match args {
         Ok(args) => args,
-        Err(fault) => return refuse(Refusal::from(fault), err),
+        Err(fault) => return refuse(Stopped::from(Refusal::from(fault)), err),
     };
     match words_of(rt.alloc(), args.as_slice()) {
         Ok(words) => command(rt, words.as_slice(), out, err),
-        Err(_) => refuse(Refusal::NoMemory, err),
+        Err(_) => refuse(Stopped::from(Refusal::NoMemory), err),
     }
 }
 
-// Refuses a command that has opened no image file.
-fn refuse<E: Write>(refusal: Refusal, err: &mut E) -> Ended
-    ensures status { result.status ≡ status_of refusal }
-    ensures medium { result.medium ≡ None }
+// Writes why a command was refused, where that can be written, and tells how it ended.
+fn refuse<E: Write>(stopped: Stopped<LeftImage>, err: &mut E) -> Ended
+    ensures { result ≡ record { status = status_of stopped.refusal; medium = stopped.medium } }
 {
-    Ended {
-        status: report(refusal, err),
-        medium: None,
-    }
-}
-
-// Writes why a command was refused, and gives the exit status, also where that cannot be written.
-fn report<E: Write>(refusal: Refusal, err: &mut E) -> u8
-    ensures { result ≡ status_of refusal }
-{
+    let refusal = stopped.refusal;
     let _ = writeln!(err, "{refusal}");
-    refusal.status()
+    Ended {
+        status: refusal.status(),
+        medium: stopped.medium,
+    }
 }
 
 // Does what the words ask for. Its callees keep frames of their own, so that the stack has room for
@@ -126,12 +115,7 @@ fn dispatch<R: Files<File = File> + AllocGlobal, O: Write>(
         (O.contents out.new) stopped.medium (map (λ word. word.now) words.now) stopped.refusal) }
 {
     match read_words(rt.alloc(), words)? {
-        Task::Format {
-            image,
-            format,
-            blocks,
-            slots,
-        } => make(rt, image, format, blocks, slots, out),
+        Task::Format { image, sizes } => make(rt, image, sizes, out),
         Task::Migrate { image } => migrate(rt, image, out),
         Task::Run {
             image,
@@ -154,17 +138,16 @@ fn dispatch<R: Files<File = File> + AllocGlobal, O: Write>(
 fn make<R: Files<File = File> + AllocGlobal, O: Write>(
     rt: &R,
     image: &str,
-    format: LogFormat,
-    blocks: u64,
-    slots: u64,
+    sizes: ImageSizes,
     out: &mut O,
 ) -> Result<LeftImage, Stopped<LeftImage>>
     ensures done { IfOk result (λ back. IsFormat (O.contents out.old) (O.contents out.new) back
-        image.now format blocks slots) }
+        image.now sizes.format sizes.blocks sizes.slots) }
     ensures refused { IfErr result (λ stopped. IsFormatRefused (O.contents out.old)
-        (O.contents out.new) stopped.medium image.now format blocks slots stopped.refusal) }
+        (O.contents out.new) stopped.medium image.now sizes.format sizes.blocks sizes.slots
+        stopped.refusal) }
 {
-    let medium = make_image(rt, image, format, blocks, slots)?;
+    let medium = make_image(rt, image, sizes)?;
     tell_of(medium, b"formatted\n", out)
 }
 
@@ -217,17 +200,6 @@ fn migrate_medium<M: Medium, O: Write>(
     match recovery::migrate(&mut medium) {
         Ok((_, was_one)) => tell_of(medium, migration_line(was_one), out),
         Err(fault) => Err(stopped_with(Refusal::from(fault), medium)),
-    }
-}
-
-// What is told of an image file that is of format 2 now.
-fn migration_line(was_one: bool) -> &'static [u8]
-    ensures { result.now ≡ migration_text was_one }
-{
-    if was_one {
-        b"migrated\n"
-    } else {
-        b"already format 2\n"
     }
 }
 

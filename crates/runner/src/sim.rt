@@ -8,7 +8,7 @@ ghost use Rattle.runner.specs.OutcomeOfLives.{ArePlayed, AreRefused};
 
 use crate::fault::{ScriptError, ScriptFault};
 use crate::identity::disk_identity;
-use crate::lifetimes::play_lives;
+use crate::lifetimes::{ScriptText, play_lives};
 use crate::line::ScriptKind;
 use crate::number_room::NumberRoom;
 use crate::read_script::read_script;
@@ -53,5 +53,9 @@ pub fn sim_script<R: Read, W: Write>(
         return Err(ScriptError { fault, medium });
     };
     let lives = Lives::new_with(medium, disk_identity(), size);
-    play_lives(alloc, lives, room, size, script.as_slice(), out)
+    let script = ScriptText {
+        bytes: script.as_slice(),
+        size,
+    };
+    play_lives(alloc, lives, room, script, out)
 }

@@ -7,6 +7,7 @@ ghost use Rattle.runner.specs.Parser.{free_option_rule, bare_app};
 ghost use Rattle.runner.specs.Parser.{usbdisk_app, format_app, migrate_app, script_app};
 ghost use Rattle.runner.specs.Task.{SpellsTask, IsCommandLine, IsFormatEnding, IsPacketEnding};
 
+use crate::image::ImageSizes;
 use crate::refusal::Refusal;
 use bot_machine::PacketSize;
 use clap::{Arg, Command};
@@ -20,12 +21,10 @@ const MOST: u64 = 4_294_967_295;
 /// What a command line asks for.
 #[derive(Clone, Copy)]
 pub(crate) enum Task<'a> {
-    /// To make an image of `blocks` blocks of zeros, with `slots` slots for the log of a format.
+    /// To make an image of these sizes, whose blocks are zeros.
     Format {
         image: &'a str,
-        format: LogFormat,
-        blocks: u64,
-        slots: u64,
+        sizes: ImageSizes,
     },
     /// To bring an image file to format 2.
     Migrate {
@@ -43,6 +42,13 @@ pub(crate) enum Task<'a> {
         script: &'a str,
         size: PacketSize,
     },
+}
+
+/// The name of an option, and the word behind it.
+#[derive(Clone, Copy)]
+struct OptionWords<'a> {
+    name: &'a str,
+    value: &'a str,
 }
 
 /// Reads the words after the program's name: `format IMAGE --blocks N --slots K`, behind which
@@ -163,7 +169,15 @@ fn exactly<'a>(words: &'a [&'a str]) -> Option<Task<'a>>
     match words {
         [verb, image] => migrate_task(verb, image),
         [verb, image, first, blocks, second, slots, ending @ ..] => {
-            format_task(verb, image, first, blocks, second, slots, ending)
+            let first = OptionWords {
+                name: first,
+                value: blocks,
+            };
+            let second = OptionWords {
+                name: second,
+                value: slots,
+            };
+            format_task(verb, image, first, second, ending)
         }
         [verb, image, script, ending @ ..] => script_task(verb, image, script, ending),
         _ => None,
@@ -243,29 +257,32 @@ fn named_size(name: &str, bytes: &str) -> Option<PacketSize>
 fn format_task<'a>(
     verb: &str,
     image: &'a str,
-    first: &str,
-    blocks: &str,
-    second: &str,
-    slots: &str,
+    first: OptionWords,
+    second: OptionWords,
     ending: &[&str],
 ) -> Option<Task<'a>>
-    ensures task { IfSome result (SpellsTask (verb.now ∷ image.entry.now ∷ first.now
-        ∷ blocks.now ∷ second.now ∷ slots.now ∷ map (λ word. word.now) ending.now)) }
-    ensures none { IfNone result (IsCommandLine (verb.now ∷ image.entry.now ∷ first.now
-        ∷ blocks.now ∷ second.now ∷ slots.now ∷ map (λ word. word.now) ending.now) → ⊥) }
+    ensures task { IfSome result (SpellsTask (verb.now ∷ image.entry.now ∷ first.entry.name.now
+        ∷ first.entry.value.now ∷ second.entry.name.now ∷ second.entry.value.now
+        ∷ map (λ word. word.now) ending.now)) }
+    ensures none { IfNone result (IsCommandLine (verb.now ∷ image.entry.now ∷ first.entry.name.now
+        ∷ first.entry.value.now ∷ second.entry.name.now ∷ second.entry.value.now
+        ∷ map (λ word. word.now) ending.now) → ⊥) }
 {
-    if verb != "format" || first != "--blocks" || second != "--slots" || !is_file_word(image) {
+    if verb != "format" || first.name != "--blocks" || second.name != "--slots" {
         return None;
     }
-    let blocks = read_number(blocks.as_bytes(), 0, MOST)?;
-    let slots = read_number(slots.as_bytes(), 0, MOST)?;
+    if !is_file_word(image) {
+        return None;
+    }
+    let blocks = read_number(first.value.as_bytes(), 0, MOST)?;
+    let slots = read_number(second.value.as_bytes(), 0, MOST)?;
     let format = read_format_ending(ending)?;
-    Some(Task::Format {
-        image,
+    let sizes = ImageSizes {
         format,
         blocks,
         slots,
-    })
+    };
+    Some(Task::Format { image, sizes })
 }
 
 // The format that the words behind the sizes tell: format 1, where there are none.

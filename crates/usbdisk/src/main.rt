@@ -5,6 +5,7 @@
 #![tactic(auto)]
 
 use console::{ArgumentFault, Program, arguments, take_program};
+use live::Streams;
 use std::process::ExitCode;
 use window::DeviceHolds;
 
@@ -43,8 +44,11 @@ fn change_images(rt: &HostRuntime, args: Arguments) -> u8 {
 // Serves line by line.
 #[inline(never)]
 fn serve(rt: &HostRuntime, args: Arguments) -> u8 {
-    let (mut input, mut out, mut err) = (rt.stdin(), rt.stdout(), rt.stderr());
+    let mut streams = Streams {
+        input: rt.stdin(),
+        out: rt.stdout(),
+    };
     let device = DeviceHolds::any();
-    let ended = live::run_live(rt, args, &device, &mut input, &mut out, &mut err);
+    let ended = live::run_live(rt, args, &device, &mut streams, &mut rt.stderr());
     ended.status
 }

@@ -5,12 +5,11 @@ use Rattle.images.proofs.program.command.Goals as goal
 
 pub returns-in-Err-clause-statuses : goal.returns-in-Err-clause-statuses
 returns-in-Err-clause-statuses g c =
-    subst (λ (n : ℕ). n ≤ 5) (sym (ap (λ (e : Ended). e.status) c.end-in-Err.ensures.is ∙ c.report.ensures))
-    (at_most_5 c.in-Err.refused.refusal)
+    subst (λ (n : ℕ). n ≤ 5) (sym (ap (λ (e : Ended). e.status) c.refuse.ensures.is)) (at_most_5 c.in-Err.refused.refusal)
 
 pub returns-in-Err-clause-done : goal.returns-in-Err-clause-done
 returns-in-Err-clause-done g c = λ none.
-    absurd (never_0 c.in-Err.refused.refusal (sym (ap (λ (e : Ended). e.status) c.end-in-Err.ensures.is ∙ c.report.ensures) ∙ none))
+    absurd (never_0 c.in-Err.refused.refusal (sym (ap (λ (e : Ended). e.status) c.refuse.ensures.is) ∙ none))
 
 pub returns-in-Ok-clause-done : goal.returns-in-Ok-clause-done
 returns-in-Ok-clause-done g c = λ done. rw c.end.ensures.is c.in-Ok.ensures.done

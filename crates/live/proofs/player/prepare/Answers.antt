@@ -1,5 +1,6 @@
-use Rattle.std.proofs.Common.{◌≡◌}
+use Rattle.std.proofs.Common.{inl, refl}
 use Rattle.live.proofs.player.prepare.Goals as goal
 
-pub returns-in-Out : goal.returns-in-Out
-returns-in-Out g c = rw c.in-Out.is (rw c.as_slice.ensures.value at c.prepare_packet.ensures)
+pub returns-in_default-missing_for : goal.returns-in_default-missing_for
+returns-in_default-missing_for g c =
+    rw c.in-Out.is (inl (rw c.as_slice.ensures.value at (c.missing_for.ensures.none c.in_default-missing_for.is), refl))

@@ -1,4 +1,4 @@
-use Rattle.std.proofs.Common.{◌≡◌, ◌∙◌, ap, inl, inr, refl, map, drop}
+use Rattle.std.proofs.Common.{◌∙◌, ap, inl, inr, refl, map, drop}
 use Rattle.std.proofs.KnownBytes.{Keeps-refl}
 use Rattle.std.specs.Prelude.{string_bytes}
 use Rattle.live.specs.declared.ended.Ended.{Ended}
@@ -12,8 +12,11 @@ returns-clause-refused g c not =
       ap (λ (e : Ended). e.status) ended,
       rw c.in-Ok.is (inl (record {
         refused_is = refl;
-        untouched =
-            record { none = ap (λ (e : Ended). e.file) ended; unread = refl; kept = Keeps-refl (g.O.Write.contents c.args.out.now) };
+        untouched = record {
+          none = ap (λ (e : Ended). e.file) ended;
+          unread = refl;
+          kept = Keeps-refl (g.O.Write.contents c.args.streams.now.out);
+        };
       })),
     )
 

@@ -17,7 +17,7 @@ packets {D} told at_once holds size device most file new on =
 
 pub returns-in-Err-clause-refused : goal.returns-in-Err-clause-refused
 returns-in-Err-clause-refused g c =
-    inl (c.in-Err.ensures.refused, refl, Keeps-refl (g.O.Write.contents c.args.out.now))
+    inl (c.in-Err.ensures.refused, refl, Keeps-refl (g.O.Write.contents c.args.streams.now.out))
 
 pub returns-in-Ok-serve_player-clause-served : goal.returns-in-Ok-serve_player-clause-served
 returns-in-Ok-serve_player-clause-served g c =
@@ -34,7 +34,7 @@ returns-in-Ok-serve_player-clause-served g c =
       started = c.in-Ok.ensures.started;
       last = last;
       served = subst (λ (most : ℕ). IsServedBy (AnswersThrough told at_once holds refuses) (IsUnanswered told at_once holds refuses) most
-          (contents c.args.out.now) (contents c.serve_player.new.out) first last (remaining c.args.input.now)
+          (contents c.args.streams.now.out) (contents c.serve_player.new.out) first last (remaining c.args.streams.now.input)
           (remaining c.serve_player.new.source))
           (packets told at_once holds g.D.DeviceFile.size c.args.options.device.now.bytes _ c.args.file first c.in-Ok.ensures.started)
           c.in-Ok-serve_player.ensures.served;
@@ -57,7 +57,7 @@ returns-in-Err-serve_player-clause-refused g c =
       last = last;
       fault = c.in-Err-serve_player.fault;
       stopped = subst (λ (most : ℕ). IsStoppedBy (AnswersThrough told at_once holds refuses) (IsUnanswered told at_once holds refuses) most
-          (contents c.args.out.now) (contents c.serve_player.new.out) first last (remaining c.args.input.now)
+          (contents c.args.streams.now.out) (contents c.serve_player.new.out) first last (remaining c.args.streams.now.input)
           (remaining c.serve_player.new.source) c.in-Err-serve_player.fault)
           (packets told at_once holds g.D.DeviceFile.size c.args.options.device.now.bytes _ c.args.file first c.in-Ok.ensures.started)
           c.in-Err-serve_player.ensures.stopped;

@@ -21,7 +21,7 @@ pub play_events-requires : goal.play_events-requires
 play_events-requires g c =
     let spelled = rw c.unwrap.ensures at c.read_line.ensures.spelled in
     subst (λ (most : ℕ). AreWithin most (events_of c.unwrap.result)) (sym c.requires.packets)
-    (events_within (bytes_of c.args.size) c.args.line.now c.unwrap.result spelled.0)
+    (events_within (bytes_of c.args.line.size) c.args.line.bytes.now c.unwrap.result spelled.0)
 
 pub fail-requires : goal.fail-requires
 fail-requires g c =
@@ -33,7 +33,7 @@ returns-in-Cut-clause-played g c =
     let kept = c.in-Cut.kept in
     let spelled = rw c.in-Cut.ensures at c.read_line.ensures.spelled in (
       cuts (is_kept kept) ∷ [],
-      line_acts (bytes_of c.args.size) c.args.line.now (Cut kept) spelled.0,
+      line_acts (bytes_of c.args.line.size) c.args.line.bytes.now (Cut kept) spelled.0,
       tells-silently (g.W.Write.contents c.args.out.now) c.cut.ensures refl,
     )
 
@@ -42,7 +42,7 @@ returns-in-Fuse-clause-played g c =
     let writes = c.in-Fuse.writes in
     let spelled = rw c.in-Fuse.ensures at c.read_line.ensures.spelled in (
       arms writes ∷ [],
-      line_acts (bytes_of c.args.size) c.args.line.now (Fuse writes) spelled.0,
+      line_acts (bytes_of c.args.line.size) c.args.line.bytes.now (Fuse writes) spelled.0,
       tells-silently (g.W.Write.contents c.args.out.now)
           (acted-fuse c.args.lives.now c.fuse.new.self writes c.fuse.ensures.goes_on) refl,
     )
@@ -52,7 +52,7 @@ returns-in-Fail-clause-played g c =
     let call = c.in-Fail.call in
     let spelled = rw c.in-Fail.ensures at c.read_line.ensures.spelled in (
       fails call ∷ [],
-      line_acts (bytes_of c.args.size) c.args.line.now (Fail call) spelled.0,
+      line_acts (bytes_of c.args.line.size) c.args.line.bytes.now (Fail call) spelled.0,
       tells-silently (g.W.Write.contents c.args.out.now)
           (acted-fail c.args.lives.now c.fail.new.self call c.fail.ensures.goes_on c.fail.ensures.failing) refl,
     )
@@ -62,8 +62,8 @@ returns-in-Ok-clause-played g c =
     let asked = c.unwrap.result in
     let spelled = rw c.unwrap.ensures at c.read_line.ensures.spelled in (
       flat_map comes (events_of asked),
-      event_line_acts (bytes_of c.args.size) c.args.line.now asked c.in_default.not-Fuse c.in_default.not-Fail c.in_default.not-Cut
-          spelled.0,
+      event_line_acts (bytes_of c.args.line.size) c.args.line.bytes.now asked c.in_default.not-Fuse c.in_default.not-Fail
+          c.in_default.not-Cut spelled.0,
       c.in-Ok.ensures.played,
     )
 
@@ -72,7 +72,7 @@ returns-in-Err-clause-broken g c =
     let asked = c.unwrap.result in
     let spelled = rw c.unwrap.ensures at c.read_line.ensures.spelled in (
       flat_map comes (events_of asked),
-      event_line_acts (bytes_of c.args.size) c.args.line.now asked c.in_default.not-Fuse c.in_default.not-Fail c.in_default.not-Cut
-          spelled.0,
+      event_line_acts (bytes_of c.args.line.size) c.args.line.bytes.now asked c.in_default.not-Fuse c.in_default.not-Fail
+          c.in_default.not-Cut spelled.0,
       c.in-Err.ensures.broken,
     )

@@ -7,9 +7,9 @@ use Rattle.runner.specs.Lines.{lines_of}
 use Rattle.runner.proofs.ActingLines.{ArePlayedTo}
 use Rattle.runner.proofs.lifetimes.play_lives.Given as goal
 
-abbrev pub invariant-loop-line : goal.invariant-loop-line
-invariant-loop-line g l = record {
-  left : All (IsScriptLine Lives (bytes_of l.size)) (parts_left l.line-iterator);
-  so_far : ArePlayedTo (bytes_of l.size) (g.W.Write.contents l.fn.out) (g.W.Write.contents l.out) l.fn.lives (lines_of l.script)
-      (parts_left l.line-iterator) l.lives;
+abbrev pub invariant-loop-bytes : goal.invariant-loop-bytes
+invariant-loop-bytes g l = record {
+  left : All (IsScriptLine Lives (bytes_of l.script.size)) (parts_left l.bytes-iterator);
+  so_far : ArePlayedTo (bytes_of l.script.size) (g.W.Write.contents l.fn.out) (g.W.Write.contents l.out) l.fn.lives
+      (lines_of l.script.bytes.now) (parts_left l.bytes-iterator) l.lives;
 }

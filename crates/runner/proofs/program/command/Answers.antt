@@ -1,4 +1,5 @@
-use Rattle.std.proofs.Common.{map, sym, ◌∙◌}
+use Rattle.std.proofs.Common.{ap, map, refl, sym, ◌∙◌}
+use Rattle.runner.specs.declared.ended.Ended.{Ended}
 use Rattle.runner.proofs.Refusals.{some_status, no_line_at_two, two_or_five}
 use Rattle.runner.proofs.program.command.Goals as goal
 
@@ -6,12 +7,17 @@ pub returns-in-Ok-clause-other_words : goal.returns-in-Ok-clause-other_words
 returns-in-Ok-clause-other_words g c not = let done = c.in-Ok.ensures.done in absurd (not (done.0, done.1))
 
 pub returns-in-Err-clause-done : goal.returns-in-Err-clause-done
-returns-in-Err-clause-done g c zero = absurd (some_status c.in-Err.stopped.refusal (sym c.report.ensures ∙ zero))
+returns-in-Err-clause-done g c zero =
+    absurd (some_status c.in-Err.stopped.refusal (sym (ap (λ (e : Ended). e.status) c.refuse.ensures) ∙ zero))
 
 pub returns-in-Err-clause-words : goal.returns-in-Err-clause-words
 returns-in-Err-clause-words g c two =
-    no_line_at_two _ _ _ _ (map (λ word. word.now) c.args.words.now) c.in-Err.ensures.refused (sym c.report.ensures ∙ two)
+    no_line_at_two _ _ _ _ (map (λ word. word.now) c.args.words.now) c.in-Err.ensures.refused
+    (sym (ap (λ (e : Ended). e.status) c.refuse.ensures) ∙ two)
 
 pub returns-in-Err-clause-other_words : goal.returns-in-Err-clause-other_words
 returns-in-Err-clause-other_words g c never =
-    rw c.report.ensures (two_or_five _ _ _ _ (map (λ word. word.now) c.args.words.now) c.in-Err.ensures.refused never)
+    rw c.refuse.ensures (two_or_five _ _ _ _ (map (λ word. word.now) c.args.words.now) c.in-Err.ensures.refused never)
+
+pub returns-in-Err-clause-refused : goal.returns-in-Err-clause-refused
+returns-in-Err-clause-refused g c not = rw c.refuse.ensures (c.in-Err.stopped.refusal, refl, c.in-Err.ensures.refused)

@@ -1,5 +1,6 @@
 use Rattle.std.proofs.Common.{◌∙◌, ap, inl, refl, map, drop}
 use Rattle.std.specs.Prelude.{string_bytes}
+use Rattle.runner.specs.declared.ended.Ended.{Ended}
 use Rattle.runner.specs.declared.refusal.Refusal.TheVariants.{NoMemory}
 use Rattle.runner.proofs.Refusals.{untouched}
 use Rattle.runner.proofs.program.run_program.Goals as goal
@@ -16,8 +17,9 @@ returns-in-Ok-words_of g c =
     })
 
 pub returns-clause-refused : goal.returns-clause-refused
-returns-clause-refused g c not = (
-  NoMemory,
-  c.refuse-in-Err-words_of.ensures.status,
-  rw c.in-Ok.is (inl (refl, (c.refuse-in-Err-words_of.ensures.medium, (untouched (g.O.Write.contents c.args.out.now)).1))),
-)
+returns-clause-refused g c not =
+    let ended = rw c.from-in-Err-words_of.ensures at c.refuse-in-Err-words_of.ensures in (
+      NoMemory,
+      ap (λ (e : Ended). e.status) ended,
+      rw c.in-Ok.is (inl (refl, (ap (λ (e : Ended). e.medium) ended, (untouched (g.O.Write.contents c.args.out.now)).1))),
+    )

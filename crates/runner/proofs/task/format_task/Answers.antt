@@ -14,7 +14,7 @@ few ending size (inr is) = omega (arith, ap length is.0)
 -- behind six words there must be an ending
 no_line : (a b c d e f : List ℕ) (ending : List (List ℕ)) → ((format : LogFormat) → IsFormatEnding ending format → ⊥)
     → (task : Task) → SpellsTask (a ∷ b ∷ c ∷ d ∷ e ∷ f ∷ ending) task → ⊥
-no_line a b c d e f ending none (Format image format blocks slots) are = none format (rw (ap (drop 6) are.words_are) are.format_is)
+no_line a b c d e f ending none (Format image sizes) are = none sizes.format (rw (ap (drop 6) are.words_are) are.format_is)
 no_line a b c d e f ending none (Migrate image) are = omega (arith, ap length are.words_are)
 no_line a b c d e f ending none (Run image script size) are =
     omega (arith, few are.ending size are.size_is, ap length are.words_are)

@@ -9,7 +9,7 @@ use Rattle.runner.proofs.task.script_task.Goals as goal
 -- behind three words, and few more, there must be an ending
 no_line : (a b c : List ℕ) (ending : List (List ℕ)) → length ending ≤ 2 → ((size : PacketSize) → IsPacketEnding ending size → ⊥)
     → (task : Task) → SpellsTask (a ∷ b ∷ c ∷ ending) task → ⊥
-no_line a b c ending few none (Format image format blocks slots) are = omega (arith, few, ap length are.words_are)
+no_line a b c ending few none (Format image sizes) are = omega (arith, few, ap length are.words_are)
 no_line a b c ending few none (Migrate image) are = omega (arith, ap length are.words_are)
 no_line a b c ending few none (Run image script size) are = none size (rw (ap (drop 3) are.words_are) are.size_is)
 no_line a b c ending few none (Sim image script size) are = none size (rw (ap (drop 3) are.words_are) are.size_is)

@@ -1,8 +1,14 @@
-use Rattle.std.proofs.Common.{◌≡◌, refl}
-use Rattle.std.proofs.lemmas.Option.{IfSome_then}
+use Rattle.std.proofs.Common.{◌∙◌, ap, refl, sym}
+use Rattle.live.specs.declared.file.FileWindow.{FileWindow}
+use Rattle.live.proofs.Ready.{plays_prepared}
 use Rattle.live.proofs.player.FileDiskPlayer.play.Goals as goal
+
+pub returns-in-Some-clause-stopped : goal.returns-in-Some-clause-stopped
+returns-in-Some-clause-stopped g c =
+    let fault = sym (ap (λ (m : FileWindow g.row.D.Denot). m.fault) c.medium.ensures.is) ∙ sym c.fault.ensures ∙ c.in-Some.is in
+    rw (← c.self.view_is) (_, plays_prepared _ _ _ _ _ _ _ _ _ _ c.prepare.ensures c.play_ready-answer.ensures fault)
 
 pub returns-clause-played : goal.returns-clause-played
 returns-clause-played g c =
-    rw (← c.self.view_is)
-    (IfSome_then c.play_event.result c.play_event.ensures.played (λ answer plays. (c.play_event.new.disk, plays, refl)))
+    let fault = sym (ap (λ (m : FileWindow g.row.D.Denot). m.fault) c.medium.ensures.is) ∙ sym c.fault.ensures ∙ c.in_default.is in
+    rw (← c.self.view_is) (_, plays_prepared _ _ _ _ _ _ _ _ _ _ c.prepare.ensures c.play_ready-answer.ensures fault, refl)
