@@ -84,6 +84,31 @@ def over_five():
     return [f"{it} has {len(it.clauses)}" for it in proved_bodies() if len(it.clauses) > 5]
 
 
+def parts_of(text):
+    """The parts between the first bracket and the one that closes it, which commas part that no other bracket holds."""
+    depth, parts = 0, [""]
+    for before, sign in zip(" " + text, text):
+        opens, closes = sign in "([{<", sign in ")]}" or sign == ">" and before not in "-="
+        depth += opens - closes
+        if not depth and closes:
+            break
+        if depth == 1 and sign == ",":
+            parts.append("")
+        elif depth > 1 or depth and not opens:
+            parts[-1] += sign
+    return [it for it in parts if it.strip()]
+
+
+def over_five_parameters():
+    """The functions of crates that have more than five parameters, `self` among them."""
+    for it in proved_bodies():
+        head = "\n".join(it.function.lines[it.function.at : it.function.begin + 1])
+        behind = re.split(r"\bfn \w+", head, maxsplit=1)[1]
+        many = len(parts_of(behind[behind.index("(") :]))
+        if many > 5:
+            yield f"{it} has {many}"
+
+
 def repeated(word):
     """The clauses of this word that stand the same in another function. Those that an `impl` has to repeat are not counted."""
     places = collections.defaultdict(list)
