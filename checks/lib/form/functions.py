@@ -104,7 +104,8 @@ def over_five_parameters():
     for it in proved_bodies():
         head = "\n".join(it.function.lines[it.function.at : it.function.begin + 1])
         behind = re.split(r"\bfn \w+", head, maxsplit=1)[1]
-        many = len(parts_of(behind[behind.index("(") :]))
+        of_types = len(f"<{','.join(parts_of(behind))}>") if behind.startswith("<") else 0
+        many = len(parts_of(behind[behind.index("(", of_types) :]))
         if many > 5:
             yield f"{it} has {many}"
 

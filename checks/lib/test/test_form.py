@@ -1,13 +1,21 @@
-"""What checks/form counts in C, and what it takes for a branch on the format."""
+"""What checks/form counts in C, what it takes for a branch on the format, and which parameters it counts."""
 
 import unittest
 
 from lib import c_text
-from lib.form import borders
+from lib.form import borders, functions
 
 
 def lines(count, text):
     return [*count(c_text.tree_of(text))]
+
+
+class OfParameters(unittest.TestCase):
+    """The parts between brackets, as parameters stand there."""
+
+    def test_parts(self):
+        for text, many in (("()", 0), ("(&self)", 1), ("(a: u8, b: [u8; 2],\n)", 2), ("(a: Vec<(u8, u8)>, b: &dyn Fn(u8) -> Option<u8>, c: u8)", 3)):
+            self.assertEqual(len(functions.parts_of(text)), many, text)
 
 
 class OfC(unittest.TestCase):
