@@ -1,8 +1,7 @@
 -- How the books that a store fits go on from turn to turn.
-use Rattle.std.proofs.Common.{rules}
-use Rattle.std.{specs.Prelude.{if◌then◌else◌, ◌==◌, nat_le, get_or, slice_range, unwrap_or}, proofs.lemmas.List.{take-append-le, drop-drop}}
-use Rattle.std.proofs.{Math.Seq.take-length, lemmas.Bool.Decides.nat_tests, Common.{◌≡◌, ◌≤◌, ◌<◌, ℕ, ◌+◌, ◌*◌, ◌-◌, ⊎_elim, arith, ◌∙◌}}
-use Rattle.std.proofs.Common.{sym, ap, refl, Bool, Option, Some, List, [], ◌∷◌, ◌++◌, length, take, drop, length-append, zero, suc, get_or}
+use Rattle.std.proofs.Common.{rules, ◌≡◌, ◌≤◌, ◌<◌, ℕ, ◌+◌, ◌*◌, ◌-◌, ⊎_elim, arith, ◌∙◌, sym, ap, refl, List, [], ◌∷◌, ◌++◌, length, drop}
+use Rattle.std.{proofs.Common.{length-append, zero, suc, get_or}, specs.Prelude.{if◌then◌else◌, nat_le, get_or, unwrap_or}}
+use Rattle.std.proofs.{lemmas.{List.{take-append-le, drop-drop}, Bool.Decides.nat_tests}, Math.Seq.take-length}
 use Rattle.medium.specs.Medium.{State, Image}
 use Rattle.spec.specs.{Blocks.{Array, Write, apply, after, chunks}, Book.{Book, after_first, array_of, with_write, promised}}
 use Rattle.journal.specs.{Places.Shape, Record.with_blocks, Standing.IsOurs}
@@ -32,28 +31,14 @@ first_same book w k le = ap (after book.opening) (take-append-le k book.writes (
 pub first_all : (book : Book) → after_first (length book.writes) book ≡ array_of book
 first_all book = ap (after book.opening) (take-length book.writes)
 
--- one test for both
-both : (t : Bool) (x y z d : List ℕ) (o : Option (List ℕ)) → x ≡ y → z ≡ unwrap_or o d
-    → (if t then x else z) ≡ unwrap_or (if t then Some y else o) d
-both t x y z d o here there = grind (arith, here, there)
-
--- the i-th block of some bytes
-range_is : (bytes : List ℕ) (i : ℕ) → slice_range bytes (512 * i) (512 * i + 512) ≡ take 512 (drop (512 * i) bytes)
-range_is bytes i =
-    let size : 512 * i + 512 - 512 * i ≡ 512 = omega arith in
-    ap (λ (n : ℕ). take n (drop (512 * i) bytes)) size
-
 -- the blocks of a batch, as a record has them from the i-th on
 entries_over : (i : ℕ) (numbers bytes : List ℕ) (a : Array) (b : ℕ)
     → with_blocks (entries_from i numbers bytes) a b ≡ over (blocks_of numbers (drop (512 * i) bytes)) a b
 entries_over i [] bytes a b = refl
 entries_over i (n ∷ numbers) bytes a b =
+    let size : 512 * i + 512 - 512 * i ≡ 512 = omega arith in
     let next : 512 * i + 512 ≡ 512 * (i + 1) = omega arith in
-    both (n == b) (slice_range bytes (512 * i) (512 * i + 512)) (take 512 (drop (512 * i) bytes))
-    (with_blocks (entries_from (i + 1) numbers bytes) a b) (a b) (blocks_of numbers (drop 512 (drop (512 * i) bytes)) b)
-    (range_is bytes i)
-    (entries_over (i + 1) numbers bytes a b
-    ∙ ap (λ (l : List ℕ). over (blocks_of numbers l) a b) (sym (drop-drop 512 (512 * i) bytes ∙ ap (λ (k : ℕ). drop k bytes) next)))
+    grind (arith, entries_over (i + 1) numbers bytes a b, drop-drop 512 (512 * i) bytes, size, next)
 
 -- a record's blocks laid over an array are the batch over it
 pub with_entries : (numbers bytes : List ℕ) (a : Array) (b : ℕ)
@@ -72,8 +57,6 @@ wants_some numbers some = grind arith
 pub stands_as : (size blocks : ℕ) (shape : Shape) (image : Image) (a c : Array) (next : ℕ) → shape.blocks ≡ blocks → Same blocks a c
     → IsOurs size shape image a next → StandsAs size blocks image c next
 stands_as size blocks shape image a c next is same ours = grind (arith, nat_tests)
-
--- ---- what a store shows
 
 -- the log goes on, with the same array
 pub moves : {m m' : State} {s : Cached} {book : Book} {log' : LogValue} {view' : View} (f : FitsBook m s book) → HoldsView log' m' view'
@@ -148,8 +131,6 @@ finds m s book f image left =
     (λ b below. rw (f.under_way whole.0) (with_entries s.frozen.numbers s.frozen.bytes f.view.array b) ∙ a.middle_is b below) whole.1
     (omega (arith, f.stamps, as_many, f.some whole.0)))
     (may_leave_ours m.size s.log f.view image left)
-
--- ---- the batches of a store
 
 -- each number of a list is in it
 pub listed_at : (numbers : List ℕ) (k d : ℕ) → k < length numbers → Listed numbers (get_or numbers k d)

@@ -8,9 +8,7 @@ use Rattle.redo_log.{specs.Value.{LogValue, Owes, CanPass, IsAway}, proofs.{Held
 use Rattle.blocks.specs.{Settled.{IsAtHome, IsSettled}, OneBatch.SendsOneBatch, Written.IsWritten, Ahead.is_covered, Prepared.RestsAhead}
 use Rattle.blocks.specs.{Work.{IsAheadStep, GoesOnAhead}, StoreValue.{Cached, layout_of, is_dead, steps_left, FitsBook, FitsBeside}}
 use Rattle.blocks.{specs.StoreValue.{active_of, transfer_limit, unwritten}, proofs.BookTurns.{over_none, settles}}
-use Rattle.blocks.{specs.Background.with_counted, proofs.LogTurns.nothing_left}
-
--- ---- a store at rest has everything at home
+use Rattle.blocks.{specs.Background.with_counted, proofs.TurnsJoined.nothing_left}
 
 -- a list without elements is empty
 pub none_of : {A : Type 0} (l : List A) → length l ≤ 0 → l ≡ []

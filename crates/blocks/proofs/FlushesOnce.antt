@@ -9,26 +9,21 @@ use Rattle.blocks.specs.{Ahead.counted, Background.{IsBackgroundStep, with_count
 use Rattle.blocks.specs.{Retiring.{finished_with, finished}, Headroom.{IsInOrder, RestsWithRoom, HasHeadroom, next_durable, IsSparing}}
 use Rattle.blocks.specs.{Headroom.AreSparing, StoreValue.{Cached, is_dead, steps_left, unwritten, StoreValue, firsts_in, wants}}
 use Rattle.blocks.specs.Work.{GoesOnAhead, IsAheadStep, IsWriteBackStep, MayWrite, SparesSlots, RetiresNone, WorksBy, DoesWork}
-use Rattle.blocks.{specs.declared.work.Work.TheVariants.{Settle, Ahead, WriteBack}, proofs.EmptyBatches.{written_live, steps_to_write}}
-use Rattle.blocks.proofs.{Room.{writes_on, steps_once}, Headroom.{order_more, headroom_finished, two_with_headroom, rests_finished}}
-use Rattle.blocks.proofs.{Headroom.{rests_stepped, landed_stepped, landed_begun, headroom_stepped}, Steady.{behind_more, with_more}}
-use Rattle.blocks.proofs.Steady.{finished_is}
+use Rattle.blocks.{specs.declared.work.Work.TheVariants.{Settle}, proofs.EmptyBatches.{written_live, steps_to_write}}
+use Rattle.blocks.proofs.{Steady.{writes_on, steps_once, behind_more, with_more, finished_is}, Headroom.{order_more, headroom_finished}}
+use Rattle.blocks.proofs.Headroom.{two_with_headroom, rests_finished, rests_stepped, landed_stepped, landed_begun, headroom_stepped}
 
--- ---- whether a record is left to write
-
+-- whether a record is left to write
 written_or_not : (s : Cached) → IsWritten s ⊎ (IsWritten s → ⊥)
 written_or_not s = grind (arith, cases_Bool (is_dead s), written_live s)
 
 pub to_write : (s : Cached) → ¬ IsWritten s → (is_dead s ≡ false) × (0 < steps_left s) × (0 < unwritten s)
 to_write s left = grind (arith, cases_Bool (is_dead s), cases_lt 0 (unwritten s), left, steps_to_write s)
 
--- ---- slots are spared, or a step ahead does something
-
+-- slots are spared, or a step ahead does something
 may_or_goes : (log : LogValue) → RestsWithRoom log → (MayWrite true log × SparesSlots log)
     ⊎ ((MayWrite true log → ⊥) × (CanPass (counted log) ⊎ IsAway (counted log)))
 may_or_goes log r = grind (arith, nat_tests, r)
-
--- ---- room stays
 
 -- a record that is begun where slots are spared
 pub rests_spared : (numbers : List ℕ) (firsts : List (List ℕ)) (copy : List ℕ) (log : LogValue) → IsInOrder log → 0 < length numbers
@@ -37,8 +32,7 @@ rests_spared numbers firsts copy log r some spare =
     let longer = length-append log.waiting (numbers ∷ []) in
     grind (arith, nat_tests, r, spare, order_more numbers firsts copy log r some, behind_more log.waiting numbers, longer)
 
--- ---- one step ahead
-
+-- one step ahead
 rests_ahead : (before after : State) (old new : Cached) → GoesOnAhead before after old new → is_dead new ≡ false
     → IsRetireStepped old.log new.log ⊎ (new.log ≡ old.log)
 rests_ahead before after old new goes live = grind (arith, nat_tests, goes)
@@ -47,6 +41,10 @@ rests_ahead before after old new goes live = grind (arith, nat_tests, goes)
 rests_counted : (log : LogValue) → RestsWithRoom log → RestsWithRoom (counted log) × ((counted log).next ≡ log.next)
 rests_counted log r = grind (arith, nat_tests, rests_stepped log (counted log) r)
 
+-- it leaves headroom, and its flushes are those of the records that became durable
+abbrev Spared : State → State → Cached → Cached → Type 0
+Spared before after old new = HasHeadroom new.log × (after.made Flush + next_durable old.log ≡ before.made Flush + next_durable new.log)
+
 steps_ahead : (before after : State) (old new : Cached) → IsAheadStep true before after old new → RestsWithRoom old.log
     → is_dead new ≡ false → RestsWithRoom new.log × (new.log.next ≡ old.log.next)
 steps_ahead before after old new step r live =
@@ -54,13 +52,15 @@ steps_ahead before after old new step r live =
     rests_ahead before after (with_counted old) new (step.goes refl alive r.order.idle) live in
     grind (arith, cases_Bool (is_dead old), step.dead, r, rests_counted old.log r, goes, rests_stepped (counted old.log) new.log)
 
+spared_ahead : (before after : State) (old new : Cached) → IsAheadStep true before after old new → HasHeadroom old.log
+    → is_dead new ≡ false → Spared before after old new
+spared_ahead before after old new step head live = grind (arith, nat_tests, steps_ahead)
+
 -- no flush is counted where no step is left
 pub none_counted : (s : Cached) → steps_left s ≡ 0 → counted s.log ≡ s.log
 none_counted s none = grind (arith, nat_tests)
 
--- ---- a batch becomes durable
-
--- its record is one more, and an empty one has none
+-- a batch becomes durable: its record is one more, and an empty one has none
 pub one_durable : (numbers : List ℕ) (firsts : List (List ℕ)) (copy : List ℕ) (log : LogValue) → HasHeadroom log
     → (0 < log.steps_left → 0 < length numbers)
     → next_durable (finished_with true numbers firsts copy log) ≡ next_durable log + wants numbers
@@ -70,8 +70,6 @@ one_durable numbers firsts copy log head under_way = search (rules, arith, lengt
 pub both_durable : (frozen active : Entries) (log : LogValue) → HasHeadroom log → (0 < log.steps_left → 0 < length frozen.numbers)
     → next_durable (finished true active (finished true frozen log)) ≡ next_durable log + (wants frozen.numbers + wants active.numbers)
 both_durable frozen active log head under_way = grind (arith, one_durable, headroom_finished)
-
--- ---- a step of the work
 
 -- the last step of a record is its one flush
 step_once : (progress : Progress) (old new : LogValue) → HasHeadroom old → 0 < old.steps_left → IsStepped progress old new
@@ -83,25 +81,13 @@ settles_once : (ahead : Bool) (before after : State) (old new : Cached) → IsBa
     → after.made Flush + next_durable old.log ≡ before.made Flush + next_durable new.log
 settles_once ahead before after old new order kind head live = grind (arith, nat_tests, cases_Bool, step_once)
 
--- it leaves headroom, and its flushes are those of the records that became durable
-abbrev Spared : State → State → Cached → Cached → Type 0
-Spared before after old new = HasHeadroom new.log × (after.made Flush + next_durable old.log ≡ before.made Flush + next_durable new.log)
-
-spared_ahead : (before after : State) (old new : Cached) → IsAheadStep true before after old new → HasHeadroom old.log
-    → is_dead new ≡ false → Spared before after old new
-spared_ahead before after old new step head live = grind (arith, nat_tests, steps_ahead)
-
 spared_back : (before after : State) (old new : Cached) → IsWriteBackStep true before after old new → HasHeadroom old.log
     → is_dead new ≡ false → Spared before after old new
 spared_back before after old new step head live = elim (written_or_not old) [
-  | inl done ↦ (rw (step.written done).0 head, grind (arith, step.written done))
+  | inl done ↦ grind (arith, step.written done, head)
   | inr left ↦ elim (cases_lt 0 old.log.steps_left) [
-    | inl some ↦
-        let made = (step.goes_on left some).live live in
-        let one = step_once made.1 old.log new.log head some made.2.log in
-        (rw (landed_stepped made.1 old.log new.log some made.2.log) head, omega (arith, (step.goes_on left some).flushed, one))
+    | inl some ↦ grind (arith, step.goes_on left some, live, head, step_once, landed_stepped)
     | inr few ↦
-        let idle : old.log.steps_left ≡ 0 = omega (arith, few) in
         let r : RestsWithRoom old.log = grind (arith, head) in
         let more = to_write old left in
         elim (may_or_goes old.log r) [
@@ -111,8 +97,8 @@ spared_back before after old new step head live = elim (written_or_not old) [
               let rests = rests_spared new.frozen.numbers (firsts_in new.frozen) new.frozen.bytes old.log r.order some may.1 in
               grind (arith, b, live, rests, landed_begun new.frozen.numbers (firsts_in new.frozen) new.frozen.bytes old.log)
           | inr not ↦
-              let goes = (step.makes_way left idle not.0).goes not.1 in
-              spared_ahead before after old new (grind (arith, more, idle, goes)) head live
+              let goes = (step.makes_way left (omega (arith, few)) not.0).goes not.1 in
+              spared_ahead before after old new (grind (arith, more, few, goes)) head live
         ]
   ]
 ]
@@ -121,15 +107,10 @@ spared_back before after old new step head live = elim (written_or_not old) [
 pub does_work : {M : Type 0} {state : M → State} {Follows : M → M → Type 0} {work : Work} {old new : StoreValue M}
     → WorksBy state Follows work old new → DoesWork state Follows work old new
 does_work {state = state} {work = Settle} {old = old} {new = new} made =
-    let head = headroom_stepped (state old.medium) (state new.medium) old.cached new.cached in
-    grind (arith, made, settles_once true (state old.medium) (state new.medium) old.cached new.cached, head)
-does_work {state = state} {work = Ahead} {old = old} {new = new} made =
-    grind (arith, made, spared_ahead (state old.medium) (state new.medium) old.cached new.cached)
-does_work {state = state} {work = WriteBack} {old = old} {new = new} made =
-    grind (arith, made, spared_back (state old.medium) (state new.medium) old.cached new.cached)
+    grind (arith, made, settles_once true (state old.medium) (state new.medium) old.cached new.cached, headroom_stepped)
+does_work {old = old} {new = new} made = grind (arith, made, spared_ahead, spared_back)
 
--- ---- one call after another
-
+-- one call after another
 sparing_both : {M : Type 0} (state : M → State) (old mid new : StoreValue M) → IsSparing state old mid → IsSparing state mid new
     → IsSparing state old new
 sparing_both state old mid new first last = grind (arith, first, last, cases_Bool (is_dead mid.cached))

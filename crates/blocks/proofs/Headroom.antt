@@ -7,10 +7,8 @@ use Rattle.redo_log.specs.{Value.{LogValue, IsRetireStepped, IsStepped, begun, o
 use Rattle.blocks.specs.{Started.IsStartedBy, declared.start.Keeping.Keeping, Flushing.{finish_flushes, both_flushes}, Retiring.HasSlots}
 use Rattle.blocks.specs.{Retiring.finished_with, Background.{IsBackgroundStep, MayBegin}, Ahead.{oldest_retired, passed, sent_home}}
 use Rattle.blocks.specs.{Ahead.{ahead_room, may_go_by}, Headroom.{IsInOrder, RestsWithRoom, HasHeadroom, landed}, StoreValue.Cached}
-use Rattle.blocks.{specs.StoreValue.{is_dead, firsts_in, wants}, proofs.{Room.{idle_behind, steps_once}, Steady.blocks_more}}
-use Rattle.blocks.proofs.Steady.{blocks_behind, behind_more, first_owed, with_more, finished_is}
-
--- ---- order and room are kept by each retire step
+use Rattle.blocks.{specs.StoreValue.{is_dead, firsts_in, wants}, proofs.Steady.{idle_behind, steps_once, blocks_more, blocks_behind}}
+use Rattle.blocks.proofs.Steady.{behind_more, first_owed, with_more, finished_is}
 
 -- of the record behind the oldest no step is made
 next_owed : (log : LogValue) → IsInOrder log → 0 < length (drop 1 log.waiting) → 3 ≤ of_oldest (oldest_retired log)
@@ -22,8 +20,6 @@ order_retired log r one = grind (arith, r, blocks_behind log.waiting r.blocks, n
 
 pub rests_stepped : (old new : LogValue) → RestsWithRoom old → IsRetireStepped old new → RestsWithRoom new
 rests_stepped old new r stepped = search (rules, arith, cases_lt, order_retired)
-
--- ---- room for which the store goes ahead
 
 -- three slots are free, or two are, and the oldest record is home
 record IsReady (log : LogValue) : Type 0 where
@@ -45,8 +41,7 @@ ready_still log r free = grind (arith, nat_tests)
 ready_room : (log : LogValue) → RestsWithRoom log → IsReady (ahead_room log)
 ready_room log r = grind (arith, nat_tests, passes log r, ready_retired log r, ready_still log r.order)
 
--- ---- one record more
-
+-- one record more
 module _ (numbers : List ℕ) (firsts : List (List ℕ)) (copy : List ℕ) (log : LogValue) where
   pub order_more : IsInOrder log → 0 < length numbers → IsInOrder (with_more numbers firsts copy log)
   order_more r some = grind (arith, r, blocks_more, behind_more, length-append)
@@ -69,8 +64,6 @@ module _ (numbers : List ℕ) (firsts : List (List ℕ)) (copy : List ℕ) (log 
   pub headroom_finished : HasHeadroom log → HasHeadroom (finished_with true numbers firsts copy log)
   headroom_finished head = grind (arith, nat_tests, head, rests_finished)
 
--- ---- one flush a record
-
 -- a log with headroom is of format 2
 pub two_with_headroom : (log : LogValue) → HasHeadroom log → log.shape.format ≡ Two
 two_with_headroom log head = grind (arith, nat_tests)
@@ -84,8 +77,6 @@ one_each numbers log head under_way = grind (arith, nat_tests, two_with_headroom
 pub both_each : (frozen active : List ℕ) (log : LogValue) → HasHeadroom log → (0 < log.steps_left → 0 < length frozen)
     → both_flushes true frozen active log ≡ wants frozen + wants active
 both_each frozen active log head under_way = grind (arith, one_each, headroom_finished, idle_behind)
-
--- ---- a background step
 
 -- a step of a record changes nothing of what it leaves
 pub landed_stepped : (progress : Progress) (old new : LogValue) → 0 < old.steps_left → IsStepped progress old new → landed new ≡ landed old
@@ -113,8 +104,7 @@ headroom_stepped before after old new order head live =
       ]
     ]
 
--- ---- a store that starts
-
+-- a store that starts
 pub starts_with_room : {keeping : Keeping} {before after : State} {s : Cached} → IsStartedBy keeping before after s
     → may_go_by s.log.shape.format s.log.ring ≡ true → HasHeadroom s.log
 starts_with_room started may = grind (arith, nat_tests, started.log, may)

@@ -1,36 +1,29 @@
 -- What is known of an image by the books for which it stands, and the store that a recovery starts.
 use Rattle.std.{specs.Prelude.{Bool, true}, proofs.Common.{◌≡◌, ◌≤◌, ◌<◌, ◌^◌, ℕ, ⊎_elim, arith, ◌∙◌, sym, ap, subst, refl, Bool, true}}
-use Rattle.std.proofs.{Common.{Option, None, Some, List, [], ◌∷◌, rules}, lemmas.Bool.false≢true}
+use Rattle.std.proofs.{Common.{Option, List, [], ◌∷◌, rules}, lemmas.Bool.{false≢true, Decides.nat_tests}}
 use Rattle.medium.{specs.{Medium.{State, Image, IsSound}, Moments.{EachCut, IsFlushed, LeavesOnly}}, proofs.Moments.{at_exit, only_image}}
-use Rattle.spec.specs.{Blocks.{Array, Write, apply, after}, Book.{Book, after_first, opened, with_write}}
-use Rattle.journal.specs.{Places.{Shape, limit_of}, declared.log_format.LogFormat.LogFormat, Formats.{shape_of, CarriesBelow}}
-use Rattle.journal.{specs.Standing.{StandsFor, Stands, IsOurs, Keeps}, proofs.StandingLaws.{StandsFor-one, HasFault-stands}}
+use Rattle.spec.specs.{Blocks.{Array, Write, apply, after}, Book.{Book, opened}}
+use Rattle.journal.specs.{Places.{Shape, limit_of}, declared.log_format.LogFormat.LogFormat, Formats.shape_of, Standing.{StandsFor, Stands}}
+use Rattle.journal.{specs.Standing.{IsOurs, Keeps}, proofs.StandingLaws.{StandsFor-one, HasFault-stands}}
 use Rattle.cache.specs.Entries.{Entries}
-use Rattle.redo_log.{specs.Held.{resting_view, HasNoRecord, HoldsView}, proofs.StoreFacts.empty_holds}
+use Rattle.redo_log.{specs.Held.{resting_view, HoldsView}, proofs.StoreFacts.empty_holds}
 use Rattle.recovery.specs.{declared.{start_fault.StartFault.StartFault, recovered.Recovered.Recovered}, Recovered.IsOursForSome}
 use Rattle.recovery.specs.Recovered.{StandsForOneOf, IsRecoveredFrom}
 use Rattle.blocks.specs.{Book.Same, Finding.{StandsAs, MayFind, FoundWith}, Started.{IsStartCause, IsStartedBy, started_log, ring_by}}
 use Rattle.blocks.specs.{Started.keeps_by, Opening.{StandsForOpening, OpensOn, IsCauseFor}, declared.start.Keeping.Keeping}
-use Rattle.blocks.{specs.StoreValue.{Cached, layout_of, blocks_of, FitsBook}, proofs.BookTurns.{stands_as, apply_same, shows_book}}
-use Rattle.blocks.proofs.BookTurns.{may_find}
+use Rattle.blocks.{specs.StoreValue.{Cached, layout_of, blocks_of, FitsBook}, proofs.BookTurns.{apply_same, shows_book, may_find}}
 use Rattle.journal.specs.Standing as image
 use Rattle.recovery.specs.Recovered as recovered
-
--- ---- what an image stands for
 
 -- writes to arrays with the same block leave the same there
 after_same : (writes : List Write) (a c : Array) (b : ℕ) → a b ≡ c b → after a writes b ≡ after c writes b
 after_same [] a c b e = e
 after_same (w ∷ writes) a c b e = after_same writes (apply a w) (apply c w) b (apply_same w a c b e)
 
-may_find_ours : (size : ℕ) (book : Book) (image : Image) → MayFind size book image → IsOursForSome size image
-may_find_ours size book image m = (m.stands.0, after_first m.count book, m.next, m.stands.2)
-
 -- what may be found of a book is ours
 pub found_ours : (size : ℕ) (book : Book) (write : Option Write) (image : Image) → FoundWith size book write image
     → IsOursForSome size image
-found_ours size book None image m = may_find_ours size book image m
-found_ours size book (Some w) image m = ⊎_elim (may_find_ours size book image) (may_find_ours size (with_write book w) image) m
+found_ours size book write image m = grind (arith, m)
 
 -- every image that a cut may leave is ours, where the book says so
 pub each_ours : (m : State) (book : Book) → OpensOn m book → book.ours ≡ true → EachCut (IsOursForSome m.size) m
@@ -40,11 +33,7 @@ each_ours m book on is_ours image cut = grind (arith)
 pub ours_for_opening : (size : ℕ) (book : Book) (image : Image) → StandsForOpening size book image → IsOursForSome size image
     → StandsAs size book.blocks image book.opening book.stamp
 ours_for_opening size book image there is =
-    let one = StandsFor-one _ _ _ _ _ _ _ _ _ is.3.stands there.2 in
-    let blocks_same : is.0.blocks ≡ book.blocks = ap (λ (x : Shape). x.blocks) one.0 ∙ there.1 in
-    let arrays : Same book.blocks is.1 book.opening = subst (λ (n : ℕ). Same n is.1 book.opening) blocks_same one.2 in
-    subst (λ (t : ℕ). StandsAs size book.blocks image book.opening t) one.1
-    (stands_as size book.blocks is.0 image is.1 book.opening is.2 blocks_same arrays is.3)
+    let one = StandsFor-one _ _ _ _ _ _ _ _ _ is.3.stands there.2 in grind (arith, nat_tests, one, there, is)
 
 -- it stands for the opening of each book for which it is ours, and so for something
 pub stands_for_opening : (size : ℕ) (book : Book) (image : Image) → StandsAs size book.blocks image book.opening book.stamp
@@ -53,8 +42,6 @@ stands_for_opening size book image is = (is.0, is.1, is.2.stands)
 
 pub stands_for_some : (size : ℕ) (book : Book) (image : Image) → StandsForOpening size book image → Stands size image
 stands_for_some size book image there = (there.0, book.opening, book.stamp, there.2)
-
--- ---- a start that is good
 
 -- what fits a book fits one that opened with the same blocks
 reopened : (m : State) (s : Cached) (book : Book) (c : Array) → Same book.blocks book.opening c → FitsBook m s book
@@ -67,11 +54,8 @@ pub serves : (before after : State) (s : Cached) (array : Array) (next : ℕ) �
     → (book : Book) → OpensOn before book → FitsBook after s book
 serves before after s array next stood fits book on =
     let one = StandsFor-one _ _ _ _ _ _ _ _ _ stood on.stands.2 in
-    let blocks : blocks_of s ≡ book.blocks = ap (λ (x : Shape). x.blocks) one.0 ∙ on.stands.1 in
     let f = reopened after s (opened (blocks_of s) array next book.ours) book.opening one.2 (fits book.ours (each_ours before book on)) in
-    rw (on.opens, ← blocks, ← one.1) f
-
--- ---- what a start leaves
+    grind (arith, f, on.opens, on.stands, one)
 
 module _ (before after : State) (sound : IsSound after) (size_stays : after.size ≡ before.size) (book : Book) (on : OpensOn before book)
     (flushed : IsFlushed before) where
@@ -79,10 +63,8 @@ module _ (before after : State) (sound : IsSound after) (size_stays : after.size
   pub finds : LeavesOnly (StandsForOneOf before) before after → EachCut (MayFind after.size book) after
   finds cuts image cut =
       let one = at_exit (StandsForOneOf before) before after sound cuts image cut in
-      let was : IsOurs before.size one.shape before.content one.array one.next =
-      subst (λ (i : Image). IsOurs before.size one.shape i one.array one.next)
-      (only_image before.content before.may_leave flushed one.before one.allowed) one.was in
-      let same = StandsFor-one _ _ _ _ _ _ _ _ _ on.stands.2 was.stands in
+      let is = only_image before.content before.may_leave flushed one.before one.allowed in
+      let same = StandsFor-one _ _ _ _ _ _ _ _ _ on.stands.2 (rw is at one.was).stands in
       let blocks_same : one.shape.blocks ≡ book.blocks = sym (ap (λ (x : Shape). x.blocks) same.0) ∙ on.stands.1 in
       let arrays : Same book.blocks book.opening one.array = subst (λ (n : ℕ). Same n book.opening one.array) on.stands.1 same.2 in
       let stamps : book.stamp ≡ one.next = same.1 in
@@ -92,8 +74,6 @@ module _ (before after : State) (sound : IsSound after) (size_stays : after.size
       (λ is. may_find 0 (omega (arith, none)) (omega arith) blocks_same found is (omega (arith, stamps)))
       (λ is. may_find 0 (omega (arith, none)) (omega arith) blocks_same found is (omega (arith, stamps)))
       one.is)
-
--- ---- why a start is refused
 
 module _ (before after : State) (book : Book) (on : OpensOn before book) where
   no_fault : (fault : image.ImageFault) → image.HasFault before.size before.content fault → ⊥
@@ -107,18 +87,6 @@ module _ (before after : State) (book : Book) (on : OpensOn before book) where
   pub is_cause_for : (fault : StartFault) → IsStartCause before after fault → IsCauseFor book before after fault
   is_cause_for fault h =
       grind (arith, h, no_fault image.BadSuper, no_fault image.BadVersion, no_fault image.BadSize, no_fault image.BadHead, used_up)
-
--- ---- the store that a recovery starts
-
--- the log of an image that was recovered is fresh
-fresh_log : (shape : Shape) (array : Array) (next : ℕ) (image : Image) → recovered.IsFresh shape array next image
-    → HasNoRecord shape next array image
-fresh_log shape array next image f = search (rules, arith, f)
-
--- what was recovered is at home, with the head and no record
-found_home : (before after : State) (answer : Recovered) (from : IsRecoveredFrom before after answer)
-    → Keeps (shape_of answer.sizes) after.content answer.next [] from.array
-found_home before after answer from = grind (arith)
 
 -- an empty batch with room for as many blocks as a record of this format
 abbrev pub empty_batch : LogFormat → Entries
@@ -139,33 +107,26 @@ opens : (keeping : Keeping) (shape : Shape) (array : Array) (next : ℕ) (ours :
 opens keeping shape array next ours m holds = grind (arith, resting_view)
 
 module _ (keeping : Keeping) (before after : State) (answer : Recovered) (from : IsRecoveredFrom before after answer)
-    (sound : IsSound before) (sound_then : IsSound after)
-    (size_stays : after.size ≡ before.size)
+    (sound : IsSound before) (size_stays : after.size ≡ before.size)
     (fresh : (shape : Shape) (array : Array) (next : ℕ) → IsOurs before.size shape before.content array next
     → EachCut (recovered.IsFresh shape array next) after) where
   -- where the contents were ours for some array, they were ours for the one that is served
   was_ours : EachCut (IsOursForSome before.size) before → IsOurs before.size (shape_of answer.sizes) before.content from.array answer.next
   was_ours each =
       let e = each before.content sound.holds_content in
-      let one = StandsFor-one _ _ _ _ _ _ _ _ _ from.stood e.3.stands in
-      let carries = subst (λ (s : Shape). CarriesBelow s before.content e.2) (sym one.0) e.3.carries in
-      record {
-        stands = from.stood;
-        carries = subst (λ (n : ℕ). CarriesBelow (shape_of answer.sizes) before.content n) (sym one.1) carries;
-      }
+      let one = StandsFor-one _ _ _ _ _ _ _ _ _ from.stood e.3.stands in grind (arith, from.stood, e, one)
 
-  -- the log and the medium hold the array, and under the premise what a cut may leave
-  rests : (ours : Bool) → (ours ≡ true → EachCut (IsOursForSome before.size) before)
-      → HoldsView (started_log keeping (shape_of answer.sizes) answer.next) after (resting_view from.array ours)
-  rests ours premise =
-      empty_holds (shape_of answer.sizes) answer.next (ring_by keeping answer.sizes.slots) (keeps_by keeping) from.array ours after
-      (omega (arith, from.stood.fits, size_stays)) (found_home before after answer from)
-      (λ is image cut. fresh_log (shape_of answer.sizes) from.array answer.next image
-      (fresh (shape_of answer.sizes) from.array answer.next (was_ours (premise is)) image cut))
-
-  abbrev fits : (ours : Bool) → (ours ≡ true → EachCut (IsOursForSome before.size) before)
+  -- under the premise the log and the medium hold what a cut may leave, too
+  fits : (ours : Bool) → (ours ≡ true → EachCut (IsOursForSome before.size) before)
       → FitsBook after (started keeping (shape_of answer.sizes) answer.next) (opened answer.sizes.blocks from.array answer.next ours)
-  fits ours premise = opens keeping (shape_of answer.sizes) from.array answer.next ours after (rests ours premise)
+  fits ours premise =
+      opens keeping (shape_of answer.sizes) from.array answer.next ours after (empty_holds (shape_of answer.sizes) answer.next
+      (ring_by keeping answer.sizes.slots) (keeps_by keeping) from.array ours after (omega (arith, from.stood.fits, size_stays))
+      (grind (arith)) (λ is image cut. search (
+        rules,
+        arith,
+        fresh (shape_of answer.sizes) from.array answer.next (was_ours (premise is)) image cut,
+      )))
 
   pub starts : IsStartedBy keeping before after (started keeping (shape_of answer.sizes) answer.next)
   starts = record {

@@ -8,7 +8,5 @@ pub mod Headroom
 pub mod FlushesOnce
 pub mod OneBatchSent
 pub mod EmptyBatches
-pub mod Room
 pub mod Steady
-pub mod LogTurns
 pub mod TurnsJoined

@@ -1,57 +1,43 @@
 -- What a read gives, and how many calls of the medium it makes.
-use Rattle.std.proofs.Common.{rules, ◌≡◌, ℕ, zero, suc, ◌+◌, ◌*◌, ◌≤◌, ◌<◌, List, [], ◌∷◌, ◌++◌, length, take, drop, None, sym, ◌∙◌, ap}
-use Rattle.std.{proofs.Common.{arith, inl, inr, append_assoc, append-nil, add-zero, add-one, Result, false, refl}, specs.Prelude.{Ok, Err}}
-use Rattle.std.{specs.Prelude.{OnOk, Contains, true, get_or}, proofs.lemmas.List.{length-drop, length-take-le, take_all}}
+use Rattle.std.proofs.Common.{rules, ◌≡◌, ℕ, zero, suc, ◌+◌, ◌*◌, ◌≤◌, ◌<◌, List, [], ◌∷◌, ◌++◌, length, take, drop, None, ◌∙◌}
+use Rattle.std.{proofs.Common.{arith, inl, inr, ◌⊎◌, append_assoc, append-nil, add-zero, Result, false, refl}, specs.Prelude.{Ok, Err}}
+use Rattle.std.{specs.Prelude.{OnOk, IsOk, Contains, true, get_or}, proofs.lemmas.List.{length-drop, length-take-le}}
 use Rattle.std.proofs.lemmas.{Slice.take-put_mid, Bool.{cases_Bool, false≢true, cases_eq, Decides.nat_tests}}
 use borrow.Rule.Slice.PartMut.{put_mid}
-use Rattle.medium.specs.{Medium.{State, Passes, IsSound, LooksOnly, Stays, Within}, Sent.SendsUpTo, declared.fault.MediumFault.MediumFault}
+use Rattle.medium.specs.{Medium.{State, Passes, IsSound, LooksOnly, Stays, Within}, declared.fault.MediumFault.MediumFault}
 use Rattle.medium.{specs.declared.fault.MediumFault.TheVariants.Read, proofs.{CallsSent.read_sends, Moments.{quiet_joined, quiet_call}}}
 use Rattle.medium.proofs.{Moments.quiet_start, SectorsRead.{one_look, looks_wider}}
 use Rattle.journal.specs.Places.{first_home}
 use Rattle.redo_log.specs.{Steps.{KeepsLog, ReadsCopy}, Value.{LogValue, IsNewestCopy, HasNoCopy}}
 use Rattle.spec.specs.{Blocks.Array, Book.{Book, array_of, blocks_at}}
 use Rattle.cache.{specs.{Blocks.{is_listed, Listed, unlisted}, Entries.{map_of, Entries}}, proofs.{Maps.listed_is, Arrays.unlisted_most}}
-use Rattle.blocks.specs.{Reads.{IsInBatch, IsInNone, ReadsBlock, told}, Looks.IsReadFor, StoreValue.{Cached, blocks_of, layout_of}}
+use Rattle.blocks.specs.{Reads.{IsInBatch, IsInNone, ReadsBlocks, told}, Looks.IsReadFor, StoreValue.{Cached, blocks_of, layout_of}}
 use Rattle.blocks.specs.{StoreValue.{FitsBook, StoreValue}, Calls.{block_reads, reads_of, is_logged, log_reads}, Passing.KeepsStore}
+use Rattle.blocks.specs.declared.fault.StoreFault.{StoreFault}
 use Rattle.blocks.proofs.{SectorsRead.{one_more, fewer_read, none_read}, TurnsJoined.{quiet_turn, turns}, BookTurns.listed_at}
-
--- ---- what a read gives
 
 -- a block that no batch holds is the durable one
 pub durable_is : (m : State) (s : Cached) (book : Book) (f : FitsBook m s book) (b : ℕ) → b < blocks_of s → map_of s.active b ≡ None
-    → map_of s.frozen b ≡ None → f.view.array b ≡ array_of book b
-durable_is m s book f b below active frozen = rw (active, frozen) at (f.arrays.now_is b (omega (arith, below, f.blocks)))
+    → map_of s.frozen b ≡ None → f.view.array b ≡ blocks_at (array_of book) b 1
+durable_is m s book f b below active frozen = rw append-nil (rw (active, frozen) at (f.arrays.now_is b (omega (arith, below, f.blocks))))
 
 -- a block that a batch holds is the newest one
 pub newest_is : (m : State) (s : Cached) (b : ℕ) (bytes : List ℕ) → b < blocks_of s → IsInBatch s b bytes → (book : Book)
-    → FitsBook m s book → bytes ≡ array_of book b
-newest_is m s b bytes below (inl active) book f = rw active at (f.arrays.now_is b (omega (arith, below, f.blocks)))
-newest_is m s b bytes below (inr both) book f = rw (both.0, both.1) at (f.arrays.now_is b (omega (arith, below, f.blocks)))
+    → FitsBook m s book → bytes ≡ blocks_at (array_of book) b 1
+newest_is m s b bytes below (inl active) book f = rw append-nil (rw active at (f.arrays.now_is b (omega (arith, below, f.blocks))))
+newest_is m s b bytes below (inr both) book f = rw append-nil (rw (both.0, both.1) at (f.arrays.now_is b (omega (arith, below, f.blocks))))
 
-one_block_suc : (array : Array) (address i : ℕ) → blocks_at array address (suc i) ≡ blocks_at array address i ++ array (address + i)
-one_block_suc array address zero = append-nil (array address) ∙ ap array (sym (add-zero address))
+one_block_suc : (array : Array) (address i : ℕ)
+    → blocks_at array address (suc i) ≡ blocks_at array address i ++ blocks_at array (address + i) 1
+one_block_suc array address zero = rw add-zero refl
 one_block_suc array address (suc i) =
     let last : address + 1 + i ≡ address + suc i = omega arith in
-    cc (one_block_suc array (address + 1) i, append_assoc (array address) (blocks_at array (address + 1) i) (array (address + 1 + i)), last)
-
--- one block more
-one_block : (array : Array) (address i : ℕ) → blocks_at array address (i + 1) ≡ blocks_at array address i ++ array (address + i)
-one_block array address i = rw add-one (one_block_suc array address i)
-
--- a slice that begins with i blocks begins with i + 1 where the next block is put behind them
-pub put_block : (array : Array) (address i at size end : ℕ) (to block : List ℕ) → at ≡ 512 * i → size ≡ 512 → end ≡ 512 * (i + 1)
-    → end ≤ length to → length block ≡ length (take size (drop at to)) → take (512 * i) to ≡ blocks_at array address i
-    → block ≡ array (address + i) → take end (put_mid at size to block) ≡ blocks_at array address (i + 1)
-put_block array address i at size end to block at_is size_is end_is inside alike so_far is =
-    search (rules, arith, length-take-le, length-drop, take-put_mid, one_block)
+    let behind = append_assoc (array address) (blocks_at array (address + 1) i) (blocks_at array (address + 1 + i) 1) in
+    cc (one_block_suc array (address + 1) i, behind, last)
 
 reads_suc : (s : Cached) (address i : ℕ) → reads_of s address (suc i) ≡ reads_of s address i + block_reads s (address + i)
 reads_suc s address zero = grind arith
 reads_suc s address (suc i) = grind (arith, reads_suc s (address + 1) i)
-
--- one block more
-pub reads_more : (s : Cached) (address i : ℕ) → reads_of s address (i + 1) ≡ reads_of s address i + block_reads s (address + i)
-reads_more s address i = rw add-one (reads_suc s address i)
 
 -- fewer blocks take no more calls
 pub reads_within : (s : Cached) (address i count : ℕ) → i ≤ count → reads_of s address i ≤ reads_of s address count
@@ -105,7 +91,11 @@ pub reads_few : (s : Cached) (address count : ℕ) → reads_of s address count 
 reads_few s address zero = omega arith
 reads_few s address (suc count) = grind (arith, reads_few s (address + 1) count)
 
--- ---- a block that no batch has is read by one call
+-- a block that no batch has is read by one call, or its copy by none where the log keeps it
+pub copied : {M : Type 0} {m n : M} {call : Result (Unit {0}) MediumFault} (state : M → State) (log : LogValue) (b : ℕ)
+    → ReadsCopy state log.keeps call m n → is_logged log.waiting b ≡ true → (let calls : ℕ = log_reads log.keeps log.waiting b in
+    (Passes Read call (state m) (state n) × (calls ≡ 1)) ⊎ (IsOk call × (n ≡ m) × (calls ≡ 0)))
+copied state log b called logged = grind (arith, cases_Bool log.keeps, called, logged)
 
 module _ {M : Type 0} {state : M → State} {Follows : M → M → Type 0} {n : M} {old : StoreValue M} {block : ℕ} where
   -- it reads a copy in the log, or the sector at home
@@ -127,35 +117,19 @@ module _ {M : Type 0} {state : M → State} {Follows : M → M → Type 0} {n : 
       let turn = quiet_turn (state old.medium) (state n) old.cached sound quiet in
       record { stays = refl; turn = turn; quiet = quiet; follows = follows.0; looks = looks; policy = refl }
 
-  pub reads_one : {bytes : List ℕ} (call : Result (Unit {0}) MediumFault) → Passes Read call (state old.medium) (state n)
-      → block < blocks_of old.cached → IsInNone old.cached block → log_reads old.cached.log.keeps old.cached.log.waiting block ≡ 1
-      → KeepsStore state Follows block 1 old (record old { medium = n })
+  -- by one call, or by none where a record has it and the log keeps it
+  pub reads_one : {bytes : List ℕ} (call : Result (Unit {0}) MediumFault)
+      → (let calls : ℕ = log_reads old.cached.log.keeps old.cached.log.waiting block in
+      (Passes Read call (state old.medium) (state n) × (calls ≡ 1)) ⊎ (IsOk call × (n ≡ old.medium) × (calls ≡ 0)))
+      → block < blocks_of old.cached → IsInNone old.cached block → KeepsStore state Follows block 1 old (record old { medium = n })
       → ((book : Book) → (fits : FitsBook (state old.medium) old.cached book) → OnOk call (bytes ≡ fits.view.array block))
-      → ReadsBlock state Follows (told call) block bytes old (record old { medium = n })
-  reads_one (Ok done) passes below none one keeps ok =
+      → ReadsBlocks state Follows (told call) block 1 bytes old (record old { medium = n })
+  reads_one (Ok done) called below none keeps ok =
       let newest = λ (book : Book) (fits : FitsBook (state old.medium) old.cached book).
       ok book fits ∙ durable_is (state old.medium) old.cached book fits block below none.0 none.1 in
-      grind (arith, newest, keeps, passes, read_sends (state old.medium) (state n) passes, reads_copy old.cached block none.0 none.1, one)
-  reads_one (Err fault) passes below none one keeps ok =
-      grind (arith, keeps, passes, read_sends (state old.medium) (state n) passes, reads_copy old.cached block none.0 none.1, one)
-
-  -- or it reads none, where the log keeps it
-  pub reads_copied : {bytes : List ℕ} (call : Result (Unit {0}) MediumFault) → ReadsCopy state old.cached.log.keeps call old.medium n
-      → block < blocks_of old.cached → IsInNone old.cached block → is_logged old.cached.log.waiting block ≡ true
-      → KeepsStore state Follows block 1 old (record old { medium = n })
-      → ((book : Book) → (fits : FitsBook (state old.medium) old.cached book) → OnOk call (bytes ≡ fits.view.array block))
-      → ReadsBlock state Follows (told call) block bytes old (record old { medium = n })
-  reads_copied (Ok done) copied below none logged keeps ok = elim (cases_Bool old.cached.log.keeps) [
-    | inl kept ↦
-        let newest = λ (book : Book) (fits : FitsBook (state old.medium) old.cached book).
-        ok book fits ∙ durable_is (state old.medium) old.cached book fits block below none.0 none.1 in
-        grind (arith, rw kept at copied, kept, logged, keeps, newest, reads_copy old.cached block none.0 none.1)
-    | inr not ↦ reads_one (Ok done) (rw not at copied) below none (grind (arith, not)) keeps ok
-  ]
-  reads_copied (Err fault) copied below none logged keeps ok = elim (cases_Bool old.cached.log.keeps) [
-    | inl kept ↦ grind (arith, rw kept at copied)
-    | inr not ↦ reads_one (Err fault) (rw not at copied) below none (grind (arith, not)) keeps ok
-  ]
+      grind (arith, called, newest, keeps, read_sends, reads_copy old.cached block none.0 none.1)
+  reads_one (Err fault) called below none keeps ok =
+      grind (arith, called, keeps, read_sends, reads_copy old.cached block none.0 none.1)
 
 -- ---- blocks are read one after another
 
@@ -172,53 +146,45 @@ pub none_at : (batch : Entries) (address count i : ℕ) → unlisted batch.numbe
 none_at batch address count i all lt =
     grind (arith, listed_is batch.numbers batch.bytes (address + i), unlisted_at batch.numbers address count i all lt)
 
--- so many blocks were read so far, from an address on, and these are the first bytes
-pub record HasRead {M : Type 0} (state : M → State) (Follows : M → M → Type 0) (address count : ℕ) (bytes : List ℕ)
-    (old new : StoreValue M) : Type 0 where
-  pub keeps : KeepsStore state Follows address count old new
-  pub calls : (state new.medium).calls ≤ (state old.medium).calls + count
-  pub reads : (state new.medium).calls ≡ (state old.medium).calls + reads_of old.cached address count
-  pub none_sent : SendsUpTo 0 (state old.medium) (state new.medium)
-  pub so_far : (book : Book) → FitsBook (state old.medium) old.cached book
-      → take (512 * count) bytes ≡ blocks_at (array_of book) address count
-
 module _ {M : Type 0} {state : M → State} {Follows : M → M → Type 0} {address : ℕ} {old : StoreValue M} where
-  -- none was
-  pub keeps_none : {count : ℕ} → IsSound (state old.medium) → Follows old.medium old.medium
-      → KeepsStore state Follows address count old old
+  -- none is
+  pub keeps_none : {count : ℕ} → IsSound (state old.medium) → Follows old.medium old.medium → KeepsStore state Follows address count old old
   keeps_none {count} sound itself = search (rules, arith, quiet_start, none_read, quiet_turn)
 
-  pub reads_none : {bytes : List ℕ} → IsSound (state old.medium) → Follows old.medium old.medium
-      → HasRead state Follows address 0 bytes old old
-  reads_none sound itself = grind (arith, keeps_none {count = 0} sound itself)
+  pub reads_none : (bytes : List ℕ) → IsSound (state old.medium) → Follows old.medium old.medium
+      → ReadsBlocks state Follows (Ok tt) address 0 (take (512 * 0) bytes) old old
+  reads_none bytes sound itself = grind (arith, keeps_none {count = 0} sound itself)
 
-  -- all were
-  pub all_read : {count : ℕ} {bytes : List ℕ} {new : StoreValue M} → HasRead state Follows address count bytes old new
-      → length bytes ≤ 512 * count → (book : Book) → FitsBook (state old.medium) old.cached book
-      → bytes ≡ blocks_at (array_of book) address count
-  all_read {count} {bytes} read long book fits = sym (take_all (512 * count) bytes long) ∙ read.so_far book fits
+  keeps_more : ((m n k : M) → Follows m n → Follows n k → Follows m k) → {i : ℕ} {mid new : StoreValue M}
+      → KeepsStore state Follows address i old mid → KeepsStore state Follows (address + i) 1 mid new
+      → KeepsStore state Follows address (i + 1) old new
+  keeps_more through first last = search (rules, arith, quiet_joined, one_more, turns)
 
-  module _ {i : ℕ} {bytes : List ℕ} {mid : StoreValue M} (read : HasRead state Follows address i bytes old mid) where
+  module _ {i : ℕ} {front block : List ℕ} {mid new : StoreValue M} {done : Unit {0}} (through : (m n k : M) → Follows m n → Follows n k
+      → Follows m k) (read : ReadsBlocks state Follows (Ok done) address i front old mid) where
     -- one more is, good or refused
-    pub keeps_more : ((m n k : M) → Follows m n → Follows n k → Follows m k) → {count : ℕ} {new : StoreValue M} → i + 1 ≤ count
-        → KeepsStore state Follows (address + i) 1 mid new → KeepsStore state Follows address count old new
-    keeps_more through {count} {new} more last = search (rules, arith, quiet_joined, fewer_read, one_more, turns)
+    pub reads_more : {result : Result (Unit {0}) StoreFault} → ReadsBlocks state Follows result (address + i) 1 block mid new
+        → ReadsBlocks state Follows result address (i + 1) (front ++ block) old new
+    reads_more {result = Ok x} one =
+        let newest = λ (book : Book) (fits : FitsBook (state old.medium) old.cached book). one.ok book (read.keeps.turn.fits book fits) in
+        grind (arith, keeps_more through read.keeps one.keeps, read, one, newest, one_block_suc, reads_suc)
+    reads_more {result = Err e} one = grind (arith, keeps_more through read.keeps one.keeps, read, one, reads_suc)
 
-    pub calls_more : {count : ℕ} (new : StoreValue M) → i + 1 ≤ count
-        → (state new.medium).calls ≤ (state mid.medium).calls + block_reads mid.cached (address + i)
-        → (state new.medium).calls ≤ (state old.medium).calls + reads_of old.cached address count
-    calls_more {count} new more few =
-        let same = ap (λ (s : Cached). block_reads s (address + i)) read.keeps.stays in
-        omega (arith, read.reads, few, same, reads_more old.cached address i, reads_within old.cached address (i + 1) count more)
+    -- so a slice holds the blocks so far where the next one is put behind them
+    pub block_more : (bytes : List ℕ) (at size : ℕ) → front ≡ take (512 * i) bytes → at ≡ 512 * i → size ≡ 512
+        → 512 * (i + 1) ≤ length bytes → length block ≡ length (take size (drop at bytes))
+        → ReadsBlocks state Follows (Ok done) (address + i) 1 block mid new
+        → ReadsBlocks state Follows (Ok done) address (i + 1) (take (512 * (i + 1)) (put_mid at size bytes block)) old new
+    block_more bytes at size is at_is size_is inside alike one =
+        let put : take (512 * (i + 1)) (put_mid at size bytes block) ≡ front ++ block =
+        search (rules, arith, length-take-le, length-drop, take-put_mid) in
+        rw put (reads_more one)
 
-    pub block_more : ((m n k : M) → Follows m n → Follows n k → Follows m k) → {done : Unit {0}} → {block : List ℕ} {new : StoreValue M}
-        → (at size : ℕ) → at ≡ 512 * i → size ≡ 512 → 512 * (i + 1) ≤ length bytes → length block ≡ length (take size (drop at bytes))
-        → ReadsBlock state Follows (Ok done) (address + i) block mid new
-        → HasRead state Follows address (i + 1) (put_mid at size bytes block) old new
-    block_more through {block = block} at size at_is size_is inside alike one =
-        let keeps = keeps_more through {count = i + 1} (omega arith) one.keeps in
-        let same = ap (λ (s : Cached). block_reads s (address + i)) read.keeps.stays in
-        let so_far = λ (book : Book) (fits : FitsBook (state old.medium) old.cached book).
-        put_block (array_of book) address i at size (512 * (i + 1)) bytes block at_is size_is refl inside alike
-        (read.so_far book fits) (one.ok book (read.keeps.turn.fits book fits)) in
-        grind (arith, keeps, read, one, same, reads_more old.cached address i, so_far)
+    -- one that is refused ends the reading
+    pub reads_refused : {bytes : List ℕ} {count : ℕ} {fault : StoreFault} → i + 1 ≤ count
+        → ReadsBlocks state Follows (Err fault) (address + i) 1 block mid new
+        → ReadsBlocks state Follows (Err fault) address count bytes old new
+    reads_refused {bytes} {count} more one =
+        let all = reads_more one in
+        let looks = fewer_read (state old.medium) (state new.medium) old.cached address (i + 1) count more all.keeps.looks in
+        grind (arith, all, looks, reads_within old.cached address (i + 1) count more)

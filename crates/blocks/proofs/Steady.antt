@@ -1,16 +1,182 @@
--- How records alone fill the ring of a store that goes ahead, how it stays steady, and what a record costs then.
-use Rattle.std.proofs.{Common.{rules, ◌≡◌, ◌⊎◌, ◌<◌, ◌≤◌, ◌+◌, ◌-◌, ◌*◌, arith, length-append}, lemmas.Bool.Decides.nat_tests}
-use Rattle.std.{proofs.lemmas.List.{Sums.{sum_by-cons, sum_by_push}, Elements.{All-append, All-cons}}, specs.Prelude.{ℕ, zero, suc, List}}
-use Rattle.std.specs.Prelude.{[], ◌∷◌, ◌++◌, length, drop, sum_by, All, true, false, Bool}
-use Rattle.medium.specs.Medium.{State}
+-- How room is made in the ring, what a batch costs that becomes durable, and how records alone fill the ring and keep it steady.
+use Rattle.std.proofs.Common.{rules, ◌≡◌, ◌⊎◌, ◌<◌, ◌≤◌, ◌+◌, ◌-◌, ◌*◌, arith, length-append, refl, inl, inr}
+use Rattle.std.proofs.lemmas.{Bool.Decides.nat_tests, List.{Sums.{sum_by-cons, sum_by_push}, Elements.{All-append, All-cons}}}
+use Rattle.std.specs.Prelude.{ℕ, zero, suc, List, [], ◌∷◌, ◌++◌, length, drop, sum_by, All, true, false, Bool}
+use Rattle.medium.specs.{Medium.State, Sent.sent, declared.fault.MediumFault.TheVariants.Flush}
 use Rattle.cache.specs.Entries.{Entries}
 use Rattle.redo_log.specs.Value.{LogValue, behind_oldest, of_oldest, ahead_of, home_calls, retire_steps_of, settled, begun, turns_calls}
-use Rattle.blocks.specs.{Started.IsStartedBy, StoreValue.{Cached, firsts_in}, declared.start.Keeping.Keeping, Ahead.oldest_retired}
-use Rattle.blocks.specs.{Ahead.{ahead_room, ahead_room_calls, may_go_by}, Retiring.{written_out, finished_with, finished, both_calls}}
-use Rattle.blocks.specs.Steady.{IsSteady, IsFilling, IsFuller, finished_each, ReachesSteady, second_of, steady_calls}
-use Rattle.blocks.proofs.Room.{begun_costs}
+use Rattle.redo_log.specs.Value.{HasRoom, IsStepped, IsRetireStepped, steps_of, turn_calls, turn_sends, turns_sends, turn_flushes}
+use Rattle.redo_log.specs.Value.{turns_flushes, next_step_flushes, steps_flushes, AllFirsts, IsAway, IsSentHome, next_calls, next_sends}
+use Rattle.redo_log.specs.{Value.{sends_of_oldest, most_retire_sends}, declared.progress.Progress.Progress}
+use Rattle.blocks.specs.{Started.IsStartedBy, StoreValue.{Cached, firsts_in, wants}, declared.start.Keeping.Keeping, Ahead.oldest_retired}
+use Rattle.blocks.specs.Ahead.{ahead_room, ahead_room_calls, may_go_by, passed, sent_home, passed_calls, sent_calls, gone_home, going_calls}
+use Rattle.blocks.specs.Retiring.{written_out, finished_with, finished, both_calls, with_room, finished_from, finish_calls, ready_calls}
+use Rattle.blocks.specs.{Retiring.{HasSlots, made_ready, record_calls, calls_from, to_begin, with_spare, room_calls}, Steady.IsSteady}
+use Rattle.blocks.specs.{Steady.{IsFilling, IsFuller, finished_each, ReachesSteady, second_of, steady_calls}, Prepared.NeedsNoneAhead}
+use Rattle.blocks.specs.Flushing.{left_flushes, room_flushes, finish_flushes, both_flushes}
+use Rattle.journal.specs.{declared.log_format.LogFormat.TheVariants.Two, Places.limit_of}
 
--- ---- the records
+-- ---- a count of calls, by how many each step makes
+
+-- between two moments calls, writes and flushes were made as for these steps: all but so many that are left
+pub record Spends (keeps : Bool) (left all : ℕ) (before after : State) : Type 0 where
+  pub calls : after.calls + turns_calls keeps left ≡ before.calls + turns_calls keeps all
+  pub sends : sent after + turns_sends left ≤ sent before + turns_sends all
+  pub flushes : after.made Flush + turns_flushes left ≡ before.made Flush + turns_flushes all
+
+-- so far nothing but retire steps of the oldest record were made, or it is retired
+pub record Retires (old new : LogValue) (before after : State) : Type 0 where
+  pub so_far : ((new ≡ record old { retire_steps_left = new.retire_steps_left; ahead = new.ahead })
+      × Spends old.keeps (of_oldest new) (of_oldest old) before after)
+      ⊎ ((new ≡ oldest_retired old) × Spends old.keeps 0 (of_oldest old) before after)
+
+pub retires_none : (log : LogValue) (m : State) → Retires log log m m
+retires_none log m = record { so_far = inl (refl, record { calls = refl; sends = omega arith; flushes = refl }) }
+
+-- a log without room, on the way from this one
+pub record IsFull (old mid : LogValue) : Type 0 where
+  pub full : HasRoom mid → ⊥
+  pub under_way : mid.under_way ≡ []
+  pub idle : mid.steps_left ≡ 0
+  pub ring : old.next ≤ old.head + old.ring
+  pub some : 1 ≤ old.ring
+
+module _ {old mid : LogValue} {before between : State} (f : IsFull old mid) (made : Retires old mid before between) where
+  -- one step more, good or refused
+  pub retires_more : {new : LogValue} {after : State} → IsRetireStepped mid new
+      → after.calls ≡ between.calls + turn_calls mid.keeps (of_oldest mid)
+      → sent after ≤ sent between + turn_sends (of_oldest mid) → after.made Flush ≡ between.made Flush + turn_flushes (of_oldest mid)
+      → Retires old new before after
+  retires_more {after = after} stepped calls sends flushes = grind (arith, nat_tests, stepped, calls, sends, flushes)
+
+  pub retires_refused : (after : State) → sent after ≤ sent between + turn_sends (of_oldest mid)
+      → sent after ≤ sent before + turns_sends (of_oldest old)
+  retires_refused after sends = grind (arith, sends)
+
+-- then there is room for one record: none is retired where a slot was free, and else the oldest
+pub retires_room : {old new : LogValue} {before after : State} → (HasRoom old → (new ≡ old) × (after ≡ before)) → HasRoom new
+    → Retires old new before after → (new ≡ with_room old) × (after.calls ≡ before.calls + room_calls old)
+    × (after.made Flush ≡ before.made Flush + room_flushes old)
+retires_room stays room made = grind (arith, nat_tests, stays, room, made.so_far)
+
+-- one step more of the record under way, which is not its last, or is
+pub writes_on : (old : LogValue) {mid new : LogValue} (progress : Progress) → 0 < mid.steps_left → IsStepped progress mid new
+    → mid ≡ record old { steps_left = mid.steps_left }
+    → (0 < new.steps_left → (new ≡ record old { steps_left = new.steps_left }) × (new.steps_left + 1 ≡ mid.steps_left))
+    × (new.steps_left ≡ 0 → (new ≡ written_out old) × (mid.steps_left ≡ 1)) × (left_flushes mid ≡ next_step_flushes mid + left_flushes new)
+writes_on old progress some stepped same = grind (arith, nat_tests, some, stepped, same)
+
+-- in format 2 the last step alone is a flush
+pub steps_once : (left : ℕ) → 0 < left → steps_flushes Two left ≡ 1
+steps_once zero some = absurd (omega (arith, some))
+steps_once (suc zero) some = refl
+steps_once (suc (suc left)) some = grind (arith, nat_tests, steps_once (suc left))
+
+-- its record was under way, or it is empty
+pub finishes_under_way : (ahead : Bool) (numbers : List ℕ) (firsts : List (List ℕ)) (copy : List ℕ) (log : LogValue) → 0 < log.steps_left
+    → written_out log ≡ finished_with ahead numbers firsts copy log
+finishes_under_way ahead numbers firsts copy log some = grind (arith, nat_tests)
+
+-- what that of a batch costs whose record is to be begun
+pub begun_costs : (ahead : Bool) (numbers : List ℕ) (log : LogValue) → log.steps_left ≡ 0 → 0 < length numbers
+    → (finish_calls ahead numbers log ≡ ready_calls ahead log + steps_of log.shape.format numbers)
+    × (finish_flushes numbers log ≡ room_flushes log + steps_flushes log.shape.format (steps_of log.shape.format numbers))
+begun_costs ahead numbers log idle some = grind (arith, nat_tests)
+
+-- where a slot is free a sync of one batch flushes once
+pub once : (ahead : Bool) (frozen active : List ℕ) (log : LogValue) → log.shape.format ≡ Two → HasRoom log → frozen ≡ []
+    → 0 < length active → both_flushes ahead frozen active log ≡ 1
+once ahead frozen active log two room none some = grind (arith, nat_tests, steps_once)
+
+-- what a batch costs does not depend on the bytes of the one before it
+calls_one : (numbers : List ℕ) (log : LogValue) (k : AllFirsts) (c : List (List ℕ))
+    → finish_calls true numbers (record log { firsts = k; copies = c }) ≡ finish_calls true numbers log
+calls_one numbers log k c = grind (arith, nat_tests)
+
+pub costs_behind : (ahead : Bool) (steps : ℕ) (frozen active : List ℕ) (firsts : List (List ℕ)) (copy : List ℕ) (log : LogValue)
+    → (finish_calls ahead active (finished_from ahead steps frozen firsts copy log)
+    ≡ finish_calls ahead active (finished_from ahead steps frozen [] [] log))
+    × (finish_flushes active (finished_from ahead steps frozen firsts copy log)
+    ≡ finish_flushes active (finished_from ahead steps frozen [] [] log))
+costs_behind true zero (n ∷ frozen) (m ∷ active) firsts copy log =
+    (calls_one (m ∷ active) (finished_from true 0 (n ∷ frozen) [] [] log) _ _, refl)
+costs_behind false zero (n ∷ frozen) (m ∷ active) firsts copy log = (refl, refl)
+costs_behind ahead steps frozen active firsts copy log = (refl, refl)
+
+-- the record of a batch is written behind a log that has room
+pub made_finished : (ahead : Bool) (numbers : List ℕ) (firsts : List (List ℕ)) (copy : List ℕ) (old mid new : LogValue) → old.steps_left ≡ 0
+    → 0 < length numbers → mid ≡ made_ready ahead old → new ≡ written_out (begun numbers firsts copy mid)
+    → new ≡ finished_with ahead numbers firsts copy old
+made_finished ahead numbers firsts copy old mid new idle some ready is = grind (arith, nat_tests)
+
+-- no step is left of a batch that is durable
+pub idle_behind : (ahead : Bool) (numbers : List ℕ) (log : LogValue) → (finished_with ahead numbers [] [] log).steps_left ≡ 0
+idle_behind ahead numbers log = grind (arith, nat_tests)
+
+-- where a slot is free for each record that is to be begun, a sync makes the calls of the records
+pub roomy_both : (ahead : Bool) (frozen active : List ℕ) (log : LogValue)
+    → HasSlots (with_spare ahead (to_begin frozen log + wants active)) log
+    → both_calls ahead frozen active log ≡ record_calls frozen log + calls_from 0 log.shape.format active
+roomy_both ahead frozen active log slots = grind (arith, nat_tests)
+
+-- a slot is free, and so still, or none is
+pub free_is : (log : LogValue) → HasRoom log → HasRoom (sent_home (passed log)) × (ahead_room log ≡ sent_home (passed log))
+    × (ahead_room_calls log ≡ passed_calls log + sent_calls (passed log)) × (room_flushes log ≡ 0)
+free_is log room = grind (arith, nat_tests)
+
+pub full_is : (log : LogValue) → (log.next - log.head < log.ring → ⊥) → (with_room log ≡ ahead_room log)
+    × (room_calls log ≡ ahead_room_calls log)
+full_is log full = grind (arith, nat_tests)
+
+-- ---- how the oldest record goes home ahead, turn by turn, and what that costs
+
+-- A block is away still, or none was; or the blocks that were away are home. With the calls of the steps that are left they are those of
+-- all steps, and with the writes and flushes of these no more than all.
+pub record GoesHome (old new : LogValue) (calls calls' sends sends' : ℕ) : Type 0 where
+  pub home : ((new ≡ record old { retire_steps_left = new.retire_steps_left }) × (2 < of_oldest old → 2 < of_oldest new)
+      × (of_oldest old ≤ 2 → new ≡ old))
+      ⊎ ((2 < of_oldest old) × (new ≡ record old { retire_steps_left = behind_oldest old + 2; ahead = ahead_of old }))
+  pub costs : calls' + turns_calls old.keeps (of_oldest new) ≡ calls + turns_calls old.keeps (of_oldest old)
+  pub sent : sends' + turns_sends (of_oldest new) ≤ sends + turns_sends (of_oldest old)
+
+pub begins_home : (log : LogValue) (calls sends : ℕ) → GoesHome log log calls calls sends sends
+begins_home log calls sends = grind (arith, nat_tests)
+
+-- two steps are three calls and sends, and more are never fewer
+rest : (keeps : Bool) (left : ℕ) → 2 ≤ left → (3 ≤ turns_calls keeps left) × (3 ≤ turns_sends left)
+rest keeps zero two = absurd (omega (arith, two))
+rest keeps (suc zero) two = absurd (omega (arith, two))
+rest keeps (suc (suc zero)) two = (omega arith, omega arith)
+rest keeps (suc (suc (suc left))) two = grind (arith, rest keeps (suc (suc left)))
+
+module _ {old mid : LogValue} {calls calls' sends sends' : ℕ} (so_far : GoesHome old mid calls calls' sends sends') where
+  pub goes_on_home : {new : LogValue} {calls'' sends'' : ℕ} → IsAway mid → IsSentHome mid new → calls'' ≡ calls' + next_calls mid
+      → sends'' ≤ sends' + next_sends mid → GoesHome old new calls calls'' sends sends''
+  goes_on_home away sent made few = grind (arith, nat_tests)
+
+  -- no block is away any more
+  pub all_home : (IsAway mid → ⊥) → mid ≡ gone_home old
+  all_home home = grind (arith, nat_tests)
+
+  pub all_costs : (IsAway mid → ⊥) → calls' ≡ calls + going_calls old
+  all_costs home = grind (arith, nat_tests, rest)
+
+  pub home_stays_head : mid.head ≡ old.head
+  home_stays_head = grind (arith, nat_tests)
+
+  -- one more turn, good or refused, and all that were made
+  pub few_home : {made : ℕ} → IsAway mid → made ≤ sends' + next_sends mid → sends_of_oldest old ≤ most_retire_sends old.shape.format
+      → made ≤ sends + limit_of old.shape.format
+  few_home away more few = grind (arith, nat_tests, rest old.keeps (of_oldest mid - 1))
+
+  pub all_sends : sends_of_oldest old ≤ most_retire_sends old.shape.format → sends' ≤ sends + limit_of old.shape.format
+  all_sends few = grind (arith, nat_tests, rest)
+
+-- where nothing is to be done ahead nothing is done, by no call
+pub none_ahead : (log : LogValue) → NeedsNoneAhead log
+    → (sent_home (passed log) ≡ log) × (passed_calls log ≡ 0) × (sent_calls (passed log) ≡ 0)
+none_ahead log (inl slots) = grind (arith, nat_tests, slots)
+none_ahead log (inr rests) = grind (arith, nat_tests, rests.counted, rests.past, rests.home)
 
 -- each of these records has blocks
 abbrev pub HaveBlocks : List (List ℕ) → Type 0
@@ -27,8 +193,7 @@ blocks_behind [] each = each
 blocks_behind (r ∷ records) each = λ j d below. each (suc j) d (omega arith)
 
 -- the steps of a ring are those of its oldest record, which are three at least, and of those behind it
-pub first_owed : (w : List (List ℕ)) → 0 < length w → HaveBlocks w
-    → 3 + sum_by retire_steps_of (drop 1 w) ≤ sum_by retire_steps_of w
+pub first_owed : (w : List (List ℕ)) → 0 < length w → HaveBlocks w → 3 + sum_by retire_steps_of (drop 1 w) ≤ sum_by retire_steps_of w
 first_owed [] some each = absurd (omega (arith, some))
 first_owed (a ∷ rest) some each = grind (arith, sum_by-cons retire_steps_of a rest, each 0 [])
 
@@ -37,8 +202,6 @@ pub behind_more : (w : List (List ℕ)) (numbers : List ℕ) → 0 < length w
     → sum_by retire_steps_of (drop 1 (w ++ numbers ∷ [])) ≡ sum_by retire_steps_of (drop 1 w) + retire_steps_of numbers
 behind_more [] numbers some = absurd (omega (arith, some))
 behind_more (a ∷ rest) numbers some = sum_by_push retire_steps_of rest numbers
-
--- ---- one record more
 
 -- the log with one record more, and the same log whose oldest record is home
 abbrev pub with_more : List ℕ → List (List ℕ) → List ℕ → LogValue → LogValue
@@ -57,11 +220,8 @@ then_steady : (numbers : List ℕ) (firsts : List (List ℕ)) (copy : List ℕ) 
     → IsSteady (with_more numbers firsts copy (home_of log))
 then_steady numbers firsts copy log under_way waits each some one_free = grind (arith, nat_tests, length-append, behind_more, blocks_more)
 
--- ---- a ring that fills
-
 -- three slots are free, and nothing is done for room; or two are, and the oldest record goes home
-fills_room : (log : LogValue) → IsFilling log → HaveBlocks log.waiting
-    → ((ahead_room log ≡ log) × (length log.waiting + 3 ≤ log.ring))
+fills_room : (log : LogValue) → IsFilling log → HaveBlocks log.waiting → ((ahead_room log ≡ log) × (length log.waiting + 3 ≤ log.ring))
     ⊎ ((ahead_room log ≡ home_of log) × (length log.waiting + 2 ≡ log.ring))
 fills_room log f each = grind (arith, nat_tests, first_owed log.waiting)
 
@@ -103,8 +263,6 @@ pub steady_sync : (numbers active : List ℕ) (log : LogValue) → IsSteady log 
     → both_calls true numbers active log ≡ steady_calls active log
 steady_sync numbers active log s none some = grind (arith, nat_tests, begun_costs true active log, steady_room log)
 
--- ---- many records
-
 -- each of these batches has blocks
 abbrev pub ListBlocks : List Entries → Type 0
 ListBlocks batches = All (λ batch. 0 < length batch.numbers) batches
@@ -128,8 +286,7 @@ fills_each (batch ∷ batches) log f each blocks enough =
     keeps_each batches (finished true batch log) (one.0.full two) one.1 rest in
     grind (arith, f.two_free, fill, keep, one.0.one_more, one.2)
 
--- ---- a store that starts
-
+-- a store that starts
 pub starts_filling : {keeping : Keeping} {before after : State} {s : Cached} → IsStartedBy keeping before after s
     → may_go_by s.log.shape.format s.log.ring ≡ true → IsFilling s.log
 starts_filling started may = grind (arith, nat_tests, started.log, may, started.stood.next_is)

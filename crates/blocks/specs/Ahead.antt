@@ -66,9 +66,8 @@ sent_home log = if is_short log then gone_home log else log
 abbrev pub sent_calls : LogValue → ℕ
 sent_calls log = if is_short log then going_calls log else 0
 
--- Room for one more record. Where a slot is free: nothing is done, or the oldest record is
--- passed, or it is passed and the next one sent home, or the oldest is sent home alone. Where none
--- is free the oldest is retired.
+-- Room for one more record. Where a slot is free the oldest record may be passed, and it, or the
+-- next one, sent home. Where none is free the oldest is retired.
 abbrev pub ahead_room : LogValue → LogValue
 ahead_room log = if nat_lt (log.next - log.head) log.ring then sent_home (passed log)
     else oldest_retired log
@@ -78,8 +77,7 @@ ahead_room_calls log = if nat_lt (log.next - log.head) log.ring
     then passed_calls log + sent_calls (passed log) else retiring_calls log
 
 -- A store may go ahead with a log of this format, in which so many records may stand at once: the
--- one record that is passed, the one that is on its way home and the one that is begun have a slot
--- each, and the record's one flush covers all that goes before it.
+-- one that is passed, the one on its way home and the one that is begun have a slot each.
 abbrev pub may_go_by : LogFormat → ℕ → Bool
 may_go_by One ring = false
 may_go_by Two ring = nat_le 3 ring

@@ -37,26 +37,22 @@ pub record IsRecordStep (before after : State) (old new : Cached) : Type 0 where
       → (after.failures ≡ before.failures) × (progress : Progress) × HasGoneOn progress old new
   pub dies : is_dead new ≡ true → HasDied before after old new
 
--- The frozen batch comes first: the batches stay as they are. Where it is empty the active batch
--- takes its place.
+-- The frozen batch comes first, and stays. Where it is empty the active one takes its place.
 pub record FreezesNext (old new : Cached) : Type 0 where
   pub frozen_first : 0 < length old.frozen.numbers → (new.active ≡ old.active)
       × (new.frozen ≡ old.frozen)
   pub else_active : old.frozen.numbers ≡ [] → (new.active ≡ old.frozen) × (new.frozen ≡ old.active)
 
--- The record of the next batch is begun, without a call of the medium. Where no stamp is left for
--- it the log is dead.
+-- The next batch's record is begun, by no call of the medium. With no stamp left the log is dead.
 pub record IsBeginning (before after : State) (old new : Cached) : Type 0 where
   pub unchanged : IsUnchanged before after
   pub next : FreezesNext old new
-  pub live : is_dead new ≡ false
-      → (old.log.next < 2 ^ 63 - 1)
+  pub live : is_dead new ≡ false → (old.log.next < 2 ^ 63 - 1)
       × (new.log ≡ begun new.frozen.numbers (firsts_in new.frozen) new.frozen.bytes old.log)
   pub dies : is_dead new ≡ true → (old.log.next ≡ 2 ^ 63 - 1) × (new.log ≡ died old.log)
 
--- The oldest record is retired by exactly one step, which makes that step's calls and never more
--- than two, no more writes and flushes than that step's, and that step's flushes, and both batches
--- stay. Where no record waits nothing happens.
+-- The oldest record is retired by exactly one step, with that step's calls, writes and flushes, and
+-- never more than two calls. Both batches stay. Where no record waits nothing happens.
 pub record IsRetiring (before after : State) (old new : Cached) : Type 0 where
   pub none_waits : old.log.waiting ≡ [] → (new ≡ old) × IsUnchanged before after
   pub two_calls : after.calls ≤ before.calls + 2
@@ -114,8 +110,7 @@ pub record Freezes {M : Type 0} (state : M → State) (old new : StoreValue M) :
 pub record Begins {M : Type 0} (state : M → State) (result : Result (Unit {0}) StoreFault)
     (old new : StoreValue M) : Type 0 where
   pub keeps : KeepsMedium state IsTurn old new
-  pub live : is_dead new.cached ≡ false
-      → (old.cached.log.next < 2 ^ 63 - 1)
+  pub live : is_dead new.cached ≡ false → (old.cached.log.next < 2 ^ 63 - 1)
       × (new.cached.log ≡ begun old.cached.frozen.numbers (firsts_in old.cached.frozen)
       old.cached.frozen.bytes old.cached.log)
   pub dies : is_dead new.cached ≡ true
@@ -128,9 +123,8 @@ pub record Begins {M : Type 0} (state : M → State) (result : Result (Unit {0})
   pub begun : OnOk result ((0 < new.cached.log.steps_left)
       × (new.cached.log.steps_left ≤ most_steps (layout_of old.cached).format))
 
--- One step of the record under way is made, and told. Told that more are needed, some are left;
--- told durable, none is, and the batch is empty. The step leaves fewer, and that record has to be
--- retired later. No record is retired, and the active batch stays.
+-- One step of the record under way is made, and told: some are left then, or none is, and the batch
+-- is empty. That record has to be retired later. None is retired, and the active batch stays.
 pub record StepsOn (result : Result Progress StoreFault) (before after : State) (old new : Cached)
     : Type 0 where
   pub record_step : IsRecordStep before after old new
@@ -142,8 +136,7 @@ pub record StepsOn (result : Result Progress StoreFault) (before after : State) 
   pub head : new.log.head ≡ old.log.head
   pub active : new.active ≡ old.active
 
--- One step of retiring is made, and told. Where no record waits it does nothing, and else it leaves
--- fewer. No record is under way.
+-- One step of retiring is made, and told: none where no record waits. No record is under way.
 pub record RetiresOn {M : Type 0} (state : M → State) (Follows : M → M → Type 0)
     (result : Result (Unit {0}) StoreFault) (old new : StoreValue M) : Type 0 where
   pub passes : PassesOn state Follows IsTurn 2 2 old new
@@ -200,8 +193,7 @@ pub record GoesAhead (result : Result (Unit {0}) StoreFault) (is : LogValue) (co
 abbrev pub with_counted : Cached → Cached
 with_counted s = record s { log = counted s.log }
 
--- a flush is counted where it covers the oldest record, which leaves the medium and the life of the
--- store as they are
+-- a flush is counted where it covers the oldest record: the medium and the store's life stay
 pub record SettlesFlush {M : Type 0} (state : M → State) (old new : StoreValue M) : Type 0 where
   pub keeps : KeepsMedium state IsTurn old new
   pub is : new ≡ record old { cached = with_counted old.cached }

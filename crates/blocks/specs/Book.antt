@@ -6,8 +6,7 @@ use Rattle.spec.specs.Blocks.{Array}
 abbrev pub Same : ℕ → Array → Array → Type 0
 Same blocks a c = (b : ℕ) → b < blocks → a b ≡ c b
 
--- `size` bytes are whole blocks of 512 bytes, 1 to as many as the limit, and from this address on
--- end at the number of blocks or before
+-- `size` bytes are whole blocks, as many as the limit at most, from this address to the last one
 pub record IsTransfer (limit blocks address size : ℕ) : Type 0 where
   pub some : 512 ≤ size
   pub most : size ≤ limit * 512

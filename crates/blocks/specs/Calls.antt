@@ -17,8 +17,7 @@ abbrev pub is_logged : List (List ℕ) → ℕ → Bool
 is_logged [] b = false
 is_logged (numbers ∷ records) b = if is_listed numbers b then true else is_logged records b
 
--- how many calls it takes to read a block that no batch has: none where a record has it and the log
--- keeps it, and else one, from its newest logged copy or from home
+-- how many calls read a block that no batch has: none where the log keeps it, and else one
 abbrev pub log_reads : Bool → List (List ℕ) → ℕ → ℕ
 log_reads false records b = 1
 log_reads true records b = if is_logged records b then 0 else 1
@@ -34,9 +33,8 @@ abbrev pub reads_of : Cached → ℕ → ℕ → ℕ
 reads_of s address zero = 0
 reads_of s address (suc count) = block_reads s address + reads_of s (address + 1) count
 
--- A read makes at most count calls, whatever becomes of it, and exactly count where it is good.
--- They are at most `most`, a bound that does not look into the log, and no write or flush is among
--- them.
+-- A read makes at most count calls, and exactly count where it is good; at most `most`, a bound
+-- that does not look into the log. No write or flush is among them.
 pub record CostsReads {A E : Type 0} (result : Result A E) (most count : ℕ) (before after : State)
     : Type 0 where
   pub calls : after.calls ≤ before.calls + most
@@ -45,17 +43,15 @@ pub record CostsReads {A E : Type 0} (result : Result A E) (most count : ℕ) (b
   pub none_sent : SendsUpTo 0 before after
 
 -- A good write whose range fits beside the active batch changes that batch alone. After any other
--- the frozen batch is what the active one was, and the log is that with the batch before it
--- durable: nothing else is written, or retired but for room.
+-- the frozen batch is the active one, and the one before it is durable.
 pub record TurnsBatches (ahead : Bool) (old new : Cached) (address count : ℕ) : Type 0 where
   pub beside : FitsBeside (transfer_limit old) old.active.numbers address count
       → (new.frozen ≡ old.frozen) × (new.log ≡ old.log)
   pub alone : ¬ FitsBeside (transfer_limit old) old.active.numbers address count
       → (new.frozen ≡ old.active) × (new.log ≡ finished ahead old.frozen old.log)
 
--- What a good write of count blocks from this address on costs. One batch more is to become a
--- record. Where the range does not fit beside the active batch, it makes the calls that make the
--- frozen one durable, and no other, and the flushes for that.
+-- What a good write of these blocks costs: one batch more at most. Where the range does not fit, it
+-- makes the calls and flushes that make the frozen batch durable, and no other.
 pub record CostsWrite {A E : Type 0} (ahead : Bool) (result : Result A E) (address count : ℕ)
     (before after : State) (old new : Cached) : Type 0 where
   pub paid : OnOk result (after.calls + 2 * steps_left new
@@ -74,8 +70,7 @@ pub record CostsWrite {A E : Type 0} (ahead : Bool) (result : Result A E) (addre
   -- no more writes and flushes than one batch takes, whatever becomes of it
   pub one_batch : SendsOneBatch ahead before after old.log
 
--- where a write of count blocks from this address on is good: the batch that takes it, and the
--- batches before that
+-- where a write of these blocks is good: the batch that takes it, and those before that
 pub record WritesRange {A E : Type 0} (ahead : Bool) (result : Result A E) (address count : ℕ)
     (old new : Cached) : Type 0 where
   pub active : OnOk result
@@ -86,8 +81,7 @@ pub record WritesRange {A E : Type 0} (ahead : Bool) (result : Result A E) (addr
   -- and one with headroom keeps it
   pub headroom : ahead ≡ true → HasHeadroom old.log → OnOk result (HasHeadroom new.log)
 
--- how a write of count blocks from this address on answers: as any, and, where its range is taken
--- at once, by no call of the medium, and with Ok if the store is live
+-- how it answers: as any, and where it is taken at once, by no call, and Ok if the store is live
 pub record AnswersWrite {M A : Type 0} (result : Result A StoreFault) (address count : ℕ)
     (old new : StoreValue M) : Type 0 where
   pub answer : TellsLife result new.cached
@@ -95,8 +89,7 @@ pub record AnswersWrite {M A : Type 0} (result : Result A StoreFault) (address c
   pub quiet : IsTakenAtOnce old.cached address count
       → (new.medium ≡ old.medium) × (is_dead old.cached ≡ false → IsOk result)
 
--- A write whose range does not fit beside the active batch: the batch before that is made durable,
--- the active one takes its place, and the range has one of its own.
+-- A write that does not fit: the batch before is made durable, and the range has one of its own.
 pub record WritesAlone {M A : Type 0} (state : M → State) (Follows : M → M → Type 0)
     (result : Result A StoreFault) (write : Write) (address count : ℕ) (old new : StoreValue M)
     : Type 0 where
@@ -107,8 +100,7 @@ pub record WritesAlone {M A : Type 0} (state : M → State) (Follows : M → M �
   pub cost : CostsWrite old.goes_ahead result address count (state old.medium) (state new.medium)
       old.cached new.cached
 
--- The active batch takes the range, for which one more is to become a record at most. The log and
--- the frozen batch stay.
+-- The active batch takes the range, and is one record more at most. The others stay.
 pub record AppendsRange (address count : ℕ) (old new : Cached) : Type 0 where
   pub log : new.log ≡ old.log
   pub frozen : new.frozen ≡ old.frozen

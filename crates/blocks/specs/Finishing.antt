@@ -1,26 +1,23 @@
--- What is durable after a call of a store that writes its batches out, and which records it retires
--- for that.
+-- What is durable after a call that writes batches out, and which records are retired for that.
 use Rattle.std.specs.Prelude.{◌≡◌, ◌+◌, ◌≤◌, ◌<◌, true, [], length, Bool, Result, OnOk, All}
 use Rattle.medium.specs.{Medium.State, declared.fault.MediumFault.TheVariants.Flush}
 use Rattle.journal.specs.declared.log_format.LogFormat.TheVariants.{Two}
 use Rattle.redo_log.specs.Value.{HasRoom, most_retire_sends}
-use Rattle.blocks.specs.{OneBatch.SendsOneBatch, Prepared.IsPrepared}
-use Rattle.blocks.specs.{declared.fault.StoreFault.StoreFault, StoreValue.{Cached, StoreValue}}
-use Rattle.blocks.specs.StoreValue.{layout_of, active_of, unwritten, wants, steps_left}
-use Rattle.blocks.specs.Passing.{MayEmpty, PassesPaid, TellsLife, Answers}
+use Rattle.blocks.specs.{Flushing.{left_flushes, room_flushes, both_flushes}, Headroom.HasHeadroom}
+use Rattle.blocks.specs.{Headroom.{KeepsHeadroom, FlushesOnce, records_of}, OneBatch.SendsOneBatch}
+use Rattle.blocks.specs.{Passing.{MayEmpty, PassesPaid, TellsLife, Answers}, Prepared.IsPrepared}
 use Rattle.blocks.specs.Retiring.{RetiresForRoom, finished, made_ready, written_out, HasSlots}
 use Rattle.blocks.specs.Retiring.{with_spare, to_begin, record_calls, calls_from, both_calls}
 use Rattle.blocks.specs.{Retiring.ready_calls, Steady.{IsSteady, IsFilling, IsFuller, steady_calls}}
-use Rattle.blocks.specs.Headroom.{HasHeadroom, KeepsHeadroom, FlushesOnce, records_of}
-use Rattle.blocks.specs.Flushing.{left_flushes, room_flushes, both_flushes}
+use Rattle.blocks.specs.StoreValue.{Cached, StoreValue, layout_of, active_of, unwritten, wants}
+use Rattle.blocks.specs.{StoreValue.steps_left, declared.fault.StoreFault.StoreFault}
 
 -- what a call of a store answers that gives nothing
 abbrev pub Answer : Type 0
 Answer = Result (Unit {0}) StoreFault
 
--- The record under way is written out, by exactly the calls of its steps, and the flushes of these,
--- and that is told. Where Ok it is durable, and the frozen batch is empty. A record has to be
--- retired later, none is, and the active batch stays.
+-- The record under way is written out, by exactly the calls and flushes of its steps, and that is
+-- told. Where Ok it is durable, and the frozen batch is empty. None is retired.
 pub record WritesRecord {M : Type 0} (state : M → State) (Follows : M → M → Type 0)
     (result : Answer) (old new : StoreValue M) : Type 0 where
   pub passes : PassesPaid state Follows old.cached.log.steps_left old new
@@ -35,10 +32,8 @@ pub record WritesRecord {M : Type 0} (state : M → State) (Follows : M → M �
   pub flushes : OnOk result ((state new.medium).made Flush
       ≡ (state old.medium).made Flush + left_flushes old.cached.log)
 
--- Room is made, by retiring alone or as a store does that goes ahead, by exactly the calls and the
--- flushes for that, with all that a turn promises, and that is told. Nothing is retired for it but
--- the oldest record, and that only where there was none, or where the store goes ahead. Both
--- batches stay.
+-- Room is made, by exactly the calls and the flushes for that, and that is told. Nothing is retired
+-- but the oldest record, and that only where there was no room, or the store goes ahead.
 pub record MakesReady {M : Type 0} (state : M → State) (Follows : M → M → Type 0) (ahead : Bool)
     (result : Answer) (old new : StoreValue M) : Type 0 where
   pub passes : PassesPaid state Follows (most_retire_sends (layout_of old.cached).format) old new
@@ -56,8 +51,7 @@ pub record MakesReady {M : Type 0} (state : M → State) (Follows : M → M → 
   -- each record that waits has blocks
   pub blocks : ahead ≡ true → All (λ numbers. 0 < length numbers) old.cached.log.waiting
 
--- Where Ok the frozen batch is durable and empty. Where it was empty nothing happens, and else the
--- record that was written waits. The active batch stays.
+-- Where Ok the frozen batch is durable and empty. Where it was empty nothing happens.
 pub record FinishesFrozen {M : Type 0} (result : Answer) (old new : StoreValue M) : Type 0 where
   pub answers : Answers result old new
   pub done : OnOk result ((new.cached.log.steps_left ≡ 0) × (new.cached.frozen.numbers ≡ []))
@@ -69,16 +63,14 @@ pub record FinishesFrozen {M : Type 0} (result : Answer) (old new : StoreValue M
   pub retires : RetiresForRoom old.goes_ahead old.cached.log new.cached.log
   pub active : new.cached.active ≡ old.cached.active
   pub fills : old.goes_ahead ≡ true → IsFilling old.cached.log
-      → 0 < length old.cached.frozen.numbers
-      → OnOk result (IsFuller old.cached.log new.cached.log)
+      → 0 < length old.cached.frozen.numbers → OnOk result (IsFuller old.cached.log new.cached.log)
   pub stays : old.goes_ahead ≡ true → IsSteady old.cached.log
       → OnOk result (IsSteady new.cached.log)
   -- a record under way is that of a batch
   pub some : OnOk result (0 < old.cached.log.steps_left → 0 < length old.cached.frozen.numbers)
 
--- How many calls a good sync makes: those that make one batch durable, and then the other, and no
--- other. Where a slot is free for each record that is to be begun, and two besides where the store
--- goes ahead, they are those that write the records.
+-- How many calls a good sync makes: those that make both batches durable, and no other. With a slot
+-- for each record, and two besides where it goes ahead, they are those of the records.
 pub record CostsSync (ahead : Bool) (result : Answer) (before after : State) (old new : Cached)
     : Type 0 where
   pub exactly : OnOk result (after.calls
@@ -87,8 +79,7 @@ pub record CostsSync (ahead : Bool) (result : Answer) (before after : State) (ol
       (to_begin old.frozen.numbers old.log + wants old.active.numbers)) old.log
       → OnOk result (after.calls ≡ before.calls + record_calls old.frozen.numbers old.log
       + calls_from 0 old.log.shape.format old.active.numbers)
-  -- Where the store goes ahead, in a ring that records alone have filled, a sync of one batch
-  -- brings one record home under the one flush of its own.
+  -- With a ring that records alone filled, a sync brings one record home under its one flush.
   pub steady : ahead ≡ true → IsSteady old.log → old.frozen.numbers ≡ []
       → 0 < length old.active.numbers
       → OnOk result (after.calls ≡ before.calls + steady_calls old.active.numbers old.log)
@@ -119,11 +110,9 @@ pub record FinishesBoth {M : Type 0} (result : Answer) (old new : StoreValue M) 
   -- before one that finds no slot free, or, where the store goes ahead, what that makes of the log.
   pub finishes : OnOk result (new.cached.log ≡ finished old.goes_ahead old.cached.active
       (finished old.goes_ahead old.cached.frozen old.cached.log))
-  -- Where the store goes ahead, records alone fill the ring, by one for each sync of one batch.
-  -- Then it is steady, and stays so, whatever a sync writes.
+  -- Records alone fill the ring, by one for each sync of one batch; then it is steady, and stays.
   pub fills : old.goes_ahead ≡ true → IsFilling old.cached.log → old.cached.frozen.numbers ≡ []
-      → 0 < length old.cached.active.numbers
-      → OnOk result (IsFuller old.cached.log new.cached.log)
+      → 0 < length old.cached.active.numbers → OnOk result (IsFuller old.cached.log new.cached.log)
   pub stays : old.goes_ahead ≡ true → IsSteady old.cached.log
       → OnOk result (IsSteady new.cached.log)
   -- Where it goes ahead and the ring was not full at the start, it never is.

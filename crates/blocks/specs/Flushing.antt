@@ -7,8 +7,7 @@ use Rattle.blocks.specs.Retiring.{finished_with}
 abbrev pub left_flushes : LogValue → ℕ
 left_flushes log = steps_flushes log.shape.format log.steps_left
 
--- Those that make room for one more record: none where a slot is free, whether or not the store
--- goes ahead, and else those of the steps that retire the oldest one, which are two at most.
+-- those for the room of one more record, whether or not the store goes ahead: two at most
 abbrev pub room_flushes : LogValue → ℕ
 room_flushes log =
     if nat_lt (log.next - log.head) log.ring then 0 else turns_flushes (of_oldest log)

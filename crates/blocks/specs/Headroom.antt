@@ -25,11 +25,9 @@ pub record IsInOrder (log : LogValue) : Type 0 where
   pub none_waits : log.waiting ≡ [] → log.retire_steps_left ≡ 0
   pub owed : 0 < length log.waiting → 0 < of_oldest log
   -- where the oldest record's blocks are home, and not flushed there, that is noted
-  pub noted : of_oldest log ≡ 2
-      → (log.ahead.home ≡ log.head) × (log.ahead.before ≤ log.next)
+  pub noted : of_oldest log ≡ 2 → (log.ahead.home ≡ log.head) × (log.ahead.before ≤ log.next)
 
--- The oldest record's blocks are flushed at home: a later record's flush covers them, or a flush
--- was made for them.
+-- The oldest record's blocks are flushed at home: by a later record's flush, or one for them.
 abbrev pub IsHome : LogValue → Type 0
 IsHome log = IsCovered log ⊎ (of_oldest log ≡ 1)
 
@@ -51,13 +49,11 @@ KeepsHeadroom old new = old.goes_ahead ≡ true → HasHeadroom old.cached.log
 abbrev pub records_of : Cached → ℕ
 records_of s = wants s.frozen.numbers + wants s.active.numbers
 
--- The stamp of the record that becomes durable next. It rises by one with each that does, and by
--- nothing else.
+-- the stamp of the record that becomes durable next: it rises by one with each that does
 abbrev pub next_durable : LogValue → ℕ
 next_durable log = log.head + length log.waiting
 
--- A call makes exactly as many flushes as records became durable in it, where the store goes ahead,
--- had headroom and lives.
+-- Where the store goes ahead, had headroom and lives, a flush is made for each durable record.
 abbrev pub FlushesOnce : Bool → State → State → Cached → Cached → Type 0
 FlushesOnce ahead before after old new = ahead ≡ true → HasHeadroom old.log → is_dead new ≡ false
     → after.made Flush + next_durable old.log ≡ before.made Flush + next_durable new.log

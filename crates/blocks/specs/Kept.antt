@@ -6,8 +6,7 @@ use Rattle.cache.specs.{Blocks.Listed, Entries.Entries, Entries.IsWellFormed}
 use Rattle.redo_log.specs.Value.{most_steps, most_retire_steps}
 use Rattle.blocks.specs.{Ahead.may_go_by, StoreValue.Cached}
 
--- a batch of the store: it has room for as many blocks as a record has at most, and each of its
--- numbers is below the number of blocks
+-- a batch has room for as many blocks as a record has at most, each one of the store's
 pub record IsBatchOf (shape : Shape) (batch : Entries) : Type 0 where
   pub well_formed : IsWellFormed batch
   pub room : batch.room ≡ limit_of shape.format

@@ -8,11 +8,9 @@ pub use Rattle.journal.specs.Standing.{StandsFor, IsOurs, Stands}
 pub use Rattle.recovery.specs.Causes.{IsRefusedCall}
 pub use Rattle.recovery.specs.Recovered.{IsOursForSome, IsOursWithNext, StandsForOneOf}
 pub use Rattle.recovery.specs.declared.start_fault.StartFault.{StartFault}
-pub use Rattle.recovery.specs.declared.start_fault.StartFault.TheVariants.{NoMemory, Read, Write}
-pub use Rattle.recovery.specs.declared.start_fault.StartFault.TheVariants.{Flush, BadSuper}
-pub use Rattle.recovery.specs.declared.start_fault.StartFault.TheVariants.{BadVersion, BadSize}
-pub use Rattle.recovery.specs.declared.start_fault.StartFault.TheVariants.{BadHead, StampsUsedUp}
-pub use Rattle.recovery.specs.declared.start_fault.StartFault.TheVariants.{LogTooSmall}
+use Rattle.recovery.specs.declared.start_fault.StartFault.TheVariants as fault
+pub use fault.{NoMemory, Read, Write, Flush, BadSuper, BadVersion, BadSize, BadHead, StampsUsedUp}
+pub use fault.{LogTooSmall}
 use Rattle.spec.specs.{Blocks.Array, Book.Book}
 use Rattle.spec.specs.Promise as promise
 use Rattle.blocks.specs.Finding.{StandsAs}
@@ -23,8 +21,7 @@ abbrev pub StandsForSome : ℕ → ℕ → Image → Array → ℕ → Type 0
 StandsForSome size blocks image array next =
     (shape : Shape) × (shape.blocks ≡ blocks) × StandsFor size shape image array next
 
--- the image has as many blocks as the book, and stands for them and the next stamp with which the
--- book opens
+-- the image stands for the blocks and the next stamp with which the book opens
 abbrev pub StandsForOpening : ℕ → Book → Image → Type 0
 StandsForOpening size book image =
     StandsForSome size book.blocks image book.opening book.stamp
@@ -41,9 +38,5 @@ IsCauseFor book before after NoMemory = ⊤
 IsCauseFor book before after Read = IsRefusedCall before after medium.Read
 IsCauseFor book before after Write = IsRefusedCall before after medium.Write
 IsCauseFor book before after Flush = IsRefusedCall before after medium.Flush
-IsCauseFor book before after BadSuper = ⊥
-IsCauseFor book before after BadVersion = ⊥
-IsCauseFor book before after BadSize = ⊥
-IsCauseFor book before after BadHead = ⊥
 IsCauseFor book before after StampsUsedUp = 2 ^ 63 ≤ book.stamp
-IsCauseFor book before after LogTooSmall = ⊥
+IsCauseFor book before after _ = ⊥

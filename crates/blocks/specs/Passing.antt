@@ -1,5 +1,4 @@
--- What the calls of a store pass on of its medium and of the books that it fits, and how they
--- answer.
+-- What a store's calls pass on of its medium and of the books that it fits, and how they answer.
 use Rattle.std.specs.Prelude.{◌≡◌, ◌⊎◌, ℕ, ◌+◌, ◌≤◌, true, false, List, [], Result, Err, IfErr}
 use Rattle.std.specs.Prelude.{MatchResult}
 use Rattle.medium.specs.{Medium.State, Moments.{IsQuiet, IsUnchanged}, Sent.SendsUpTo}
@@ -23,9 +22,7 @@ pub record PassesOn {M : Type 0} (state : M → State) (Follows : M → M → Ty
   pub looks : LooksAtLog (state old.medium) (state new.medium) old.cached
   pub policy : new.goes_ahead ≡ old.goes_ahead
 
--- A call makes a turn, and no more calls of the medium than the background steps that it takes off
--- pay for, with at most `sends` writes and flushes among them. The medium comes after what it was,
--- by calls alone.
+-- The same of a turn that makes no more calls than the background steps that it takes off pay for.
 pub record PassesPaid {M : Type 0} (state : M → State) (Follows : M → M → Type 0) (sends : ℕ)
     (old new : StoreValue M) : Type 0 where
   pub turn : IsTurn (state old.medium) (state new.medium) old.cached new.cached
@@ -50,10 +47,8 @@ abbrev pub TellsLife : {A : Type 0} → Result A StoreFault → Cached → Type 
 TellsLife result s =
     MatchResult result (λ _. is_dead s ≡ false) (λ fault. (fault ≡ Dead) × (is_dead s ≡ true))
 
--- A call writes nothing: what the store keeps stays, no content changes, and nothing else may be
--- left by a cut. It is a turn. The medium comes after what it was, by calls alone, of which each
--- read names a sector of the log where that is read back, or the home of one of count blocks from
--- an address on.
+-- A call writes nothing: what the store keeps stays, no content changes, and a cut leaves no more.
+-- Each read names a sector of the log where that is read back, or the home of one of these blocks.
 pub record KeepsStore {M : Type 0} (state : M → State) (Follows : M → M → Type 0)
     (address count : ℕ) (old new : StoreValue M) : Type 0 where
   pub stays : new.cached ≡ old.cached
@@ -63,8 +58,7 @@ pub record KeepsStore {M : Type 0} (state : M → State) (Follows : M → M → 
   pub looks : LooksAtBlocks (state old.medium) (state new.medium) old.cached address count
   pub policy : new.goes_ahead ≡ old.goes_ahead
 
--- A call is none of the medium: it changes no content, no set and no count of it, and nothing that
--- the store keeps.
+-- A call is none of the medium: it changes nothing of that, and nothing that the store keeps.
 pub record IsUntouched {M : Type 0} (state : M → State) (old new : StoreValue M) : Type 0 where
   pub unchanged : IsUnchanged (state old.medium) (state new.medium)
   pub cached : new.cached ≡ old.cached

@@ -5,10 +5,9 @@ use Rattle.medium.specs.{Medium.State, declared.fault.MediumFault.MediumFault}
 use Rattle.redo_log.specs.Value.{HasNoCopy}
 use Rattle.cache.specs.{Blocks.unlisted, Entries.map_of, Places.HasPlace}
 use Rattle.spec.specs.Book.{Book, array_of, blocks_at}
-use Rattle.blocks.specs.{declared.fault.StoreFault.StoreFault, Calls.{block_reads, reads_of}}
-use Rattle.blocks.specs.{Calls.CostsReads, declared.fault.StoreFault.TheVariants.ReadFault}
-use Rattle.blocks.specs.{Passing.KeepsStore, Turns.IsReadCause, StoreValue.{Cached, StoreValue}}
-use Rattle.blocks.specs.StoreValue.{blocks_of, is_dead, FitsBook}
+use Rattle.blocks.specs.{Calls.{reads_of, CostsReads}, Passing.KeepsStore, StoreValue.Cached}
+use Rattle.blocks.specs.{StoreValue.{StoreValue, blocks_of, is_dead, FitsBook}, Turns.IsReadCause}
+use Rattle.blocks.specs.declared.fault.StoreFault.{StoreFault, TheVariants.ReadFault}
 
 -- the store is live, and has count blocks from an address on, which have so many bytes
 pub record AreReadable (s : Cached) (address count bytes : ℕ) : Type 0 where
@@ -47,34 +46,21 @@ abbrev pub told : Result (Unit {0}) MediumFault → Result (Unit {0}) StoreFault
 told (Ok done) = Ok done
 told (Err fault) = Err ReadFault
 
--- One block is read: good, it is the newest; refused, there is a cause. The store stays, and the
--- cost is told.
-pub record ReadsBlock {M : Type 0} (state : M → State) (Follows : M → M → Type 0)
-    (result : Result (Unit {0}) StoreFault) (block : ℕ) (bytes : List ℕ) (old new : StoreValue M)
-    : Type 0 where
-  pub ok : (book : Book) → FitsBook (state old.medium) old.cached book
-      → OnOk result (bytes ≡ array_of book block)
-  pub err : IfErr result (λ fault. IsReadCause (state old.medium) (state new.medium)
-      old.cached fault)
-  pub keeps : KeepsStore state Follows block 1 old new
-  pub cost : CostsReads result 1 (block_reads old.cached block)
-      (state old.medium) (state new.medium)
-
--- the same, and the places are those of the next block
-pub record ReadsNext {M : Type 0} (state : M → State) (Follows : M → M → Type 0)
-    (result : Result (Unit {0}) StoreFault) (block : ℕ) (bytes : List ℕ) (first second : ℕ)
-    (old new : StoreValue M) : Type 0 where
-  pub reads : ReadsBlock state Follows result block bytes old new
-  pub next : HasPlaces old.cached (block + 1) first second
-
--- from an address on count blocks are read, as each of them is
+-- From an address on count blocks are read: good, they are the newest; refused, there is a cause.
+-- The store stays, and the cost is told.
 pub record ReadsBlocks {M : Type 0} (state : M → State) (Follows : M → M → Type 0)
     (result : Result (Unit {0}) StoreFault) (address count : ℕ) (bytes : List ℕ)
     (old new : StoreValue M) : Type 0 where
   pub ok : (book : Book) → FitsBook (state old.medium) old.cached book
       → OnOk result (bytes ≡ blocks_at (array_of book) address count)
-  pub err : IfErr result (λ fault. IsReadCause (state old.medium) (state new.medium)
-      old.cached fault)
+  pub err : IfErr result (IsReadCause (state old.medium) (state new.medium) old.cached)
   pub keeps : KeepsStore state Follows address count old new
   pub cost : CostsReads result count (reads_of old.cached address count)
       (state old.medium) (state new.medium)
+
+-- one is, and the places are those of the next block
+pub record ReadsNext {M : Type 0} (state : M → State) (Follows : M → M → Type 0)
+    (result : Result (Unit {0}) StoreFault) (block : ℕ) (bytes : List ℕ) (first second : ℕ)
+    (old new : StoreValue M) : Type 0 where
+  pub reads : ReadsBlocks state Follows result block 1 bytes old new
+  pub next : HasPlaces old.cached (block + 1) first second

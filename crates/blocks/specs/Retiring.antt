@@ -1,5 +1,4 @@
--- Which records a call of a store writes to the log, and which it retires: none but what room asks
--- for.
+-- Which records a call of a store writes, and which it retires: none but what room asks for.
 use Rattle.std.specs.Prelude.{◌≡◌, ◌+◌, ◌-◌, ◌≤◌, ℕ, zero, suc, List, [], ◌∷◌, ◌++◌, nat_lt}
 use Rattle.std.specs.Prelude.{Bool, true, false, if◌then◌else◌}
 use Rattle.journal.specs.declared.log_format.LogFormat.{LogFormat}
@@ -53,9 +52,8 @@ finished_from ahead zero [] firsts copy log = log
 finished_from ahead zero (n ∷ numbers) firsts copy log =
     written_out (begun (n ∷ numbers) firsts copy (made_ready ahead log))
 
--- A batch of these blocks, which begin with these bytes and have these other ones in all, is
--- durable: its record is written, or, where that is under way already, goes on. An empty batch has
--- none.
+-- A batch of these blocks, with these first bytes and these bytes in all, is durable: its record is
+-- written, or goes on where it is under way. An empty batch has none.
 abbrev pub finished_with : Bool → List ℕ → List (List ℕ) → List ℕ → LogValue → LogValue
 finished_with ahead numbers firsts copy log =
     finished_from ahead log.steps_left numbers firsts copy log
@@ -71,13 +69,11 @@ calls_from (suc steps) format numbers = suc steps
 calls_from zero format [] = 0
 calls_from zero format (n ∷ numbers) = steps_of format (n ∷ numbers)
 
--- How many calls it takes to make the batch of these blocks durable, where the log has a slot free:
--- those that are left of the record under way, or those of its own record, and no other.
+-- how many make the batch of these blocks durable, where the log has a slot free
 abbrev pub record_calls : List ℕ → LogValue → ℕ
 record_calls numbers log = calls_from log.steps_left log.shape.format numbers
 
--- how many calls make room for one more record: none where a slot is free, and else those of all
--- the steps that retire the oldest
+-- how many make room for one more record: none where a slot is free
 abbrev pub room_calls : LogValue → ℕ
 room_calls log = if nat_lt (log.next - log.head) log.ring then 0
     else turns_calls log.keeps (of_oldest log)
@@ -87,8 +83,7 @@ abbrev pub ready_calls : Bool → LogValue → ℕ
 ready_calls false log = room_calls log
 ready_calls true log = ahead_room_calls log
 
--- how many calls make a batch durable, where a given number of steps is left of its record: those,
--- or those for room and for its own record
+-- how many make a batch durable, where so many steps are left of its record, or none is begun
 abbrev pub finish_from : Bool → ℕ → List ℕ → LogValue → ℕ
 finish_from ahead (suc steps) numbers log = suc steps
 finish_from ahead zero [] log = 0
@@ -99,12 +94,10 @@ finish_from ahead zero (n ∷ numbers) log =
 abbrev pub finish_calls : Bool → List ℕ → LogValue → ℕ
 finish_calls ahead numbers log = finish_from ahead log.steps_left numbers log
 
--- how many for this batch, and then for another one: which bytes the blocks of the first have
--- counts for nothing
+-- how many for this batch, and then for another one: the bytes of the first count for nothing
 abbrev pub both_calls : Bool → List ℕ → List ℕ → LogValue → ℕ
 both_calls ahead frozen active log =
-    finish_calls ahead frozen log
-    + finish_calls ahead active (finished_with ahead frozen [] [] log)
+    finish_calls ahead frozen log + finish_calls ahead active (finished_with ahead frozen [] [] log)
 
 -- how many records are to be begun of a batch: none where that is under way, or empty
 abbrev pub to_begin : List ℕ → LogValue → ℕ

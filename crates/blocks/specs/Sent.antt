@@ -4,8 +4,7 @@ pub use Rattle.journal.specs.declared.log_format.LogFormat.{LogFormat}
 use Rattle.redo_log.specs.Value.{most_steps, most_retire_sends}
 use Rattle.blocks.specs.StoreValue.{Cached, layout_of}
 
--- Those that make a batch durable: its record, each step of which is a write or a flush, and before
--- it the retiring of the oldest record.
+-- those of a batch's record, each step of which is one, and before it of the oldest one's retiring
 abbrev pub most_sent : LogFormat → ℕ
 most_sent format = most_steps format + most_retire_sends format
 

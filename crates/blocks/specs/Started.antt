@@ -12,14 +12,13 @@ use Rattle.recovery.specs.declared.recovered.Recovered.{Recovered}
 use Rattle.recovery.specs.declared.start_fault.StartFault.{StartFault, TheVariants.NoMemory}
 use Rattle.redo_log.specs.Value.{LogValue, empty_from}
 use Rattle.blocks.specs.declared.start.Keeping.{Keeping, TheVariants.{ReadBack, Kept}}
-use Rattle.blocks.specs.{Ahead.{may_go_ahead, may_go_by}, Headroom.HasHeadroom, Steady.IsFilling}
+use Rattle.blocks.specs.{Ahead.may_go_by, Headroom.HasHeadroom, Steady.IsFilling}
 use Rattle.blocks.specs.{Steady.ReachesSteady, Finding.MayFind, Kept.Invariant, Opening.OpensOn}
 use Rattle.blocks.specs.StoreValue.{Cached, layout_of, blocks_of, is_dead, active_of, steps_left}
 use Rattle.blocks.specs.StoreValue.{FitsBook, StoreValue, slots_of}
 use Rattle.recovery.specs.Calls as recovery
 
--- how many records may stand at once in a log of so many slots, one at least, and whether their
--- blocks are kept
+-- how many records may stand at once in so many slots, and whether their blocks are kept
 abbrev pub ring_by : Keeping → ℕ → ℕ
 ring_by ReadBack slots = slots
 ring_by (Kept count) slots = min (max count 1) slots
@@ -33,9 +32,8 @@ abbrev pub started_log : Keeping → Shape → ℕ → LogValue
 started_log keeping shape next =
     empty_from shape next (ring_by keeping shape.slots) (keeps_by keeping)
 
--- A store that has started serves the array for which the contents of the medium stood. It fits a
--- life that opens with it, under the premise that every image was ours only where every one was.
--- Nothing is cached, and nothing is left to do.
+-- A store that has started serves the array for which the contents stood. It fits a life that opens
+-- with it, as ours where every image was. Nothing is cached, or left to do.
 pub record IsStartedBy (keeping : Keeping) (before after : State) (new : Cached) : Type 0 where
   pub array : Array
   pub next : ℕ
@@ -58,20 +56,17 @@ pub record IsStartedBy (keeping : Keeping) (before after : State) (new : Cached)
 abbrev pub IsStarted : State → State → Cached → Type 0
 IsStarted before after new = IsStartedBy ReadBack before after new
 
--- Why a start is refused: for want of memory only once the medium is recovered, else as recovery
--- is.
+-- Why a start is refused: as recovery is, or, once the medium is recovered, for want of memory.
 abbrev pub IsStartCause : State → State → StartFault → Type 0
 IsStartCause before after fault = IsCause before after fault
     ⊎ ((fault ≡ NoMemory) × (answer : Recovered) × IsRecoveredFrom before after answer)
 
--- Every image that a cut may have left after the first call has P. A second call is made only where
--- the first, a flush, was good.
+-- Every image that a cut may have left since the first call, a flush that was good, has P.
 abbrev pub IsOursSince : (Image → Type 0) → State → State → Type 0
 IsOursSince P before after = before.calls + 2 ≤ after.calls
     → (image : Image) → after.left_since (before.calls + 1) image → P image
 
--- no count falls, the size stays, and the calls are those of a recovery at most, and the writes and
--- flushes among them
+-- no count falls, the size stays, and the calls, writes and flushes are a recovery's at most
 pub record IsBounded (before after : State) : Type 0 where
   pub moments : LeavesOnly (λ _. Unit {0}) before after
   pub calls : after.calls ≤ before.calls + 6 + 738 * 64
@@ -100,8 +95,7 @@ pub record LeavesMedium {M : Type 0} (state : M → State) (Follows : M → M �
     : Type 0 where
   pub cuts : EachCut (IsOursForSome (state old).size) (state old)
       → LeavesOnly (StandsForOneOf (state old)) (state old) (state new)
-  -- From the first good flush on it is the array of the contents. A second call follows a good one
-  -- only.
+  -- from the first good flush on it is the array of the contents
   pub after_flush : (shape : Shape) (array : Array) (next : ℕ)
       → IsOurs (state old).size shape (state old).content array next
       → IsOursSince (IsOursWithNext (state old).size shape array next) (state old) (state new)
@@ -121,10 +115,13 @@ pub record MakesParts (keeping : Keeping) (before after : State) (sizes : Super)
   pub started : IsStartedBy keeping before after cached
   pub kept : Invariant after.size sizes cached false false
 
--- A store that was started so, and that goes ahead where that was asked for and its log allows it.
+-- A store that was started so, and goes ahead where that was asked for and its log allows it.
+-- Records alone fill its ring, which is steady after a sync for each slot but one, and never full.
 pub record StartsBy {M : Type 0} (keeping : Keeping) (ahead : Bool) (state : M → State)
     (Follows : M → M → Type 0) (medium : M) (store : StoreValue M) : Type 0 where
   pub started : IsStartedBy keeping (state medium) (state store.medium) store.cached
+  pub keeps : store.cached.log.keeps ≡ keeps_by keeping
+  pub ring : store.cached.log.ring ≡ ring_by keeping (slots_of store.cached)
   pub policy : store.goes_ahead ≡ (ahead
       && may_go_by (layout_of store.cached).format store.cached.log.ring)
   pub filling : store.goes_ahead ≡ true → IsFilling store.cached.log
@@ -132,32 +129,14 @@ pub record StartsBy {M : Type 0} (keeping : Keeping) (ahead : Bool) (state : M �
   pub headroom : store.goes_ahead ≡ true → HasHeadroom store.cached.log
   pub leaves : LeavesMedium state Follows medium store.medium
 
--- A store that was started as any, and that goes ahead where its log allows it. The ring that
--- records alone fill then is steady after as many syncs of one batch as it has slots but one.
-pub record StartsAhead {M : Type 0} (state : M → State) (Follows : M → M → Type 0) (medium : M)
-    (store : StoreValue M) : Type 0 where
-  pub started : IsStarted (state medium) (state store.medium) store.cached
-  pub policy : store.goes_ahead ≡ may_go_ahead (layout_of store.cached)
-  pub filling : store.goes_ahead ≡ true → IsFilling store.cached.log
-  pub reaches : store.goes_ahead ≡ true → ReachesSteady store.cached.log
-  -- its ring is never full
-  pub headroom : store.goes_ahead ≡ true → HasHeadroom store.cached.log
-  pub leaves : LeavesMedium state Follows medium store.medium
+-- one that goes ahead where its log allows it
+abbrev pub StartsAhead : {M : Type 0} → (M → State) → (M → M → Type 0) → M → StoreValue M → Type 0
+StartsAhead state Follows medium store = StartsBy ReadBack true state Follows medium store
 
--- A store that was started as any, but that keeps the bytes of its records, of so many at most. It
--- goes ahead where its log allows it.
-pub record StartsKeeping {M : Type 0} (state : M → State) (Follows : M → M → Type 0) (kept : ℕ)
-    (medium : M) (store : StoreValue M) : Type 0 where
-  pub started : IsStartedBy (Kept kept) (state medium) (state store.medium) store.cached
-  pub keeps : store.cached.log.keeps ≡ true
-  pub ring : store.cached.log.ring ≡ min (max kept 1) (slots_of store.cached)
-  pub policy : store.goes_ahead
-      ≡ may_go_by (layout_of store.cached).format store.cached.log.ring
-  pub filling : store.goes_ahead ≡ true → IsFilling store.cached.log
-  pub reaches : store.goes_ahead ≡ true → ReachesSteady store.cached.log
-  -- its ring is never full
-  pub headroom : store.goes_ahead ≡ true → HasHeadroom store.cached.log
-  pub leaves : LeavesMedium state Follows medium store.medium
+-- one that does so too, and keeps the bytes of its records, of so many at most
+abbrev pub StartsKeeping : {M : Type 0} → (M → State) → (M → M → Type 0) → ℕ → M → StoreValue M
+    → Type 0
+StartsKeeping state Follows kept medium store = StartsBy (Kept kept) true state Follows medium store
 
 -- Its start was refused, as any: contents that stand for something with a stamp left are refused by
 -- the device alone, or for want of memory.

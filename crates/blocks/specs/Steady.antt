@@ -9,8 +9,7 @@ use Rattle.blocks.specs.Retiring.{finished}
 abbrev pub second_of : LogValue → List ℕ
 second_of log = get_or log.waiting 1 []
 
--- One slot is free, the oldest record went home before the last flush, and the next one did not.
--- Nothing is under way.
+-- One slot is free, and the oldest record went home before the last flush. Nothing is under way.
 pub record IsSteady (log : LogValue) : Type 0 where
   pub idle : log.steps_left ≡ 0
   pub none_under_way : log.under_way ≡ []
@@ -18,23 +17,20 @@ pub record IsSteady (log : LogValue) : Type 0 where
   pub covered : IsCovered log
   pub some : 0 < length (second_of log)
 
--- One record then costs its own calls, of which the last is a flush and each other one a write, one
--- write of the head, and the calls that bring one record home: each block is written, and read
--- before it where it is not kept.
+-- One record then costs its own calls, of which the last is a flush, one write of the head, and
+-- those that bring one record home: a write for each block, and a read where it is not kept.
 abbrev pub steady_calls : List ℕ → LogValue → ℕ
 steady_calls numbers log =
     steps_of log.shape.format numbers + 1 + home_calls log.keeps * length (second_of log)
 
--- Records alone have come so far. Two slots are free at least, nothing is under way, and no block
--- of a record went home.
+-- Records alone have come so far: two slots are free, and nothing is under way, or went home.
 pub record IsFilling (log : LogValue) : Type 0 where
   pub idle : log.steps_left ≡ 0
   pub none_under_way : log.under_way ≡ []
   pub three : 3 ≤ log.ring
   pub used : log.next ≡ log.head + length log.waiting
   pub two_free : length log.waiting + 2 ≤ log.ring
-  pub none_home : log.retire_steps_left
-      ≡ sum_by retire_steps_of log.waiting
+  pub none_home : log.retire_steps_left ≡ sum_by retire_steps_of log.waiting
   pub none_ahead : log.ahead.home < log.head
 
 -- One record more has come: two slots are free still, or the ring is steady.
@@ -43,14 +39,12 @@ pub record IsFuller (old new : LogValue) : Type 0 where
   pub on : length old.waiting + 3 ≤ old.ring → IsFilling new
   pub full : length old.waiting + 2 ≡ old.ring → IsSteady new
 
--- what the records of these batches make of a log, the first batch first, where the store goes
--- ahead
+-- what these batches' records make of a log, the first batch first, where the store goes ahead
 abbrev pub finished_each : List Entries → LogValue → LogValue
 finished_each [] log = log
 finished_each (batch ∷ batches) log = finished_each batches (finished true batch log)
 
--- Where as many batches have become records as may stand at once but one, or more, the ring is
--- steady.
+-- Where as many batches have become records as may stand at once but one, the ring is steady.
 abbrev pub ReachesSteady : LogValue → Type 0
 ReachesSteady log = (batches : List Entries) → All (λ batch. 0 < length batch.numbers) batches
     → log.ring ≤ length batches + 1 → IsSteady (finished_each batches log)

@@ -27,8 +27,7 @@ pub record StoreValue (M : Type 0) : Type 0 where
 abbrev pub firsts_in : Entries → List (List ℕ)
 firsts_in batch = firsts_of (entries_of batch.numbers batch.bytes)
 
--- the format of the log, how many logical blocks and log slots there are, and where block 0 is at
--- home
+-- the log's format, how many blocks and slots there are, and where block 0 is at home
 abbrev pub layout_of : Cached → Shape
 layout_of s = s.log.shape
 
@@ -74,8 +73,7 @@ abbrev pub waiting : ℕ → ℕ → ℕ
 waiting zero steps = steps
 waiting (suc begun) steps = 0
 
--- How many background steps are left at most: those of the records that are begun, and those of
--- each batch that is to become a record.
+-- How many background steps are left at most: those of records begun, and of each batch to be one.
 abbrev pub steps_left : Cached → ℕ
 steps_left s = s.log.steps_left + s.log.retire_steps_left
     + waiting s.log.steps_left (steps_for (batch_steps s) s.frozen.numbers)
@@ -85,8 +83,7 @@ steps_left s = s.log.steps_left + s.log.retire_steps_left
 abbrev pub FitsBeside : ℕ → List ℕ → ℕ → ℕ → Type 0
 FitsBeside limit numbers address count = length numbers + unlisted numbers address count ≤ limit
 
--- The batch that takes writes after one more: it takes the range up where both fit together, and
--- else has the range alone.
+-- The active batch after a write: it takes the range up where both fit, and else has it alone.
 pub record TakesRange (limit : ℕ) (old : List ℕ) (address count : ℕ) (new : List ℕ) : Type 0 where
   pub beside : FitsBeside limit old address count
       → (n : ℕ) → Listed new n ↔ (Listed old n ⊎ InRange address count n)
@@ -113,9 +110,8 @@ pub record ShowsBook (book : Book) (floor_count middle_count : ℕ) (floor middl
   pub middle_is : Same book.blocks middle (after_first middle_count book)
   pub now_is : Same book.blocks now (array_of book)
 
--- A store shows three arrays: what is durable, that with the frozen batch, and that with the active
--- batch too. It fits a book in which they are the array after some of the first writes, after more
--- of them, and after all.
+-- A store shows what is durable, that with the frozen batch, and that with the active one too. It
+-- fits a book of which they are the array after some of the first writes, after more, and all.
 pub record FitsBook (m : State) (s : Cached) (book : Book) : Type 0 where
   -- what the log and the medium hold
   pub view : View
@@ -130,8 +126,7 @@ pub record FitsBook (m : State) (s : Cached) (book : Book) : Type 0 where
   pub arrays : ShowsBook book floor_count middle_count view.array
       (over (map_of s.frozen) view.array)
       (over (map_of s.active) (over (map_of s.frozen) view.array))
-  -- there is a stamp for each batch: the next one behind the durable records, with the batches
-  -- counted, is among those that the writes allow
+  -- there is a stamp for each batch, behind the durable records', among those the writes allow
   pub stamps : s.log.head + length s.log.waiting + wants s.frozen.numbers + wants s.active.numbers
       ≤ book.stamp + length book.writes
   pub ours : view.ours ≡ book.ours

@@ -13,9 +13,8 @@ abbrev pub HasCause : State → State → Cached → Type 0
 HasCause before after old = (before.failures < after.failures)
     ⊎ ((book : Book) → FitsBook before old book → StampsOut book)
 
--- No refusal is forgotten, the sizes stay, and whether the log keeps its blocks. A store that is
--- dead stays so. One that dies has a cause. The sectors behind the image are spared, at each
--- moment.
+-- No refusal is forgotten, and the sizes stay, whether the log keeps its blocks, and death. One
+-- that dies has a cause. The sectors behind the image are spared, at each moment.
 pub record GoesOn (before after : State) (old new : Cached) : Type 0 where
   pub failures_stay : before.failures ≤ after.failures
   pub size_stays : after.size ≡ before.size
@@ -40,9 +39,8 @@ pub record IsTurn (before after : State) (old new : Cached) : Type 0 where
       → LeavesOnly (MayFind before.size book) before after
   pub goes_on : GoesOn before after old new
 
--- A turn that accepts one write, or none: it fits the books that it fitted with that write last, or
--- as they were, and a cut at any moment of it leaves what may be found of them, perhaps with the
--- write, whole.
+-- A turn that accepts one write, or none: it fits the books with that write last, or as they were,
+-- and a cut at any moment leaves what may be found of them, perhaps with the write, whole.
 pub record IsWriteTurn (write : Write) (accepted : Bool) (before after : State) (old new : Cached)
     : Type 0 where
   pub fits : (book : Book) → FitsBook before old book

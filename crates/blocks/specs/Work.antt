@@ -3,18 +3,16 @@ use Rattle.std.specs.Prelude.{◌≡◌, ◌⊎◌, ◌<◌, ◌≤◌, Bool, tr
 use Rattle.medium.specs.{Medium.State, Moments.IsUnchanged}
 use Rattle.medium.specs.declared.fault.MediumFault.TheVariants.{Flush}
 use Rattle.redo_log.specs.Value.{LogValue, HasRoom, CanPass, IsAway}
-use Rattle.blocks.specs.declared.{work.Work.Work, fault.StoreFault.StoreFault}
 use Rattle.blocks.specs.Background.{with_counted, IsBackgroundStep, HasDied, LeavesFewer, MayBegin}
 use Rattle.blocks.specs.Background.{IsBeginning, IsRecordStep, IsRetiring, PassesHead, BringsHome}
-use Rattle.blocks.specs.{Turns.IsTurn, Retiring.HasSlots, Written.IsWritten}
-use Rattle.blocks.specs.declared.work.Work.TheVariants.{Settle, Ahead, WriteBack}
 use Rattle.blocks.specs.{Headroom.{KeepsHeadroom, FlushesOnce}, Passing.{PassesOn, TellsLife}}
-use Rattle.blocks.specs.{Passing.MayEmpty, StoreValue.{Cached, StoreValue, is_dead, active_of}}
-use Rattle.blocks.specs.StoreValue.{steps_left}
+use Rattle.blocks.specs.{Passing.MayEmpty, Retiring.HasSlots, StoreValue.{Cached, StoreValue}}
+use Rattle.blocks.specs.{StoreValue.{is_dead, active_of, steps_left}, Turns.IsTurn}
+use Rattle.blocks.specs.{Written.IsWritten, declared.{work.Work.Work, fault.StoreFault.StoreFault}}
+use Rattle.blocks.specs.declared.work.Work.TheVariants.{Settle, Ahead, WriteBack}
 
--- What a step ahead does once a flush is counted. Where the head may go past the oldest record it
--- does, by one write; where blocks of that record are away, one more goes home; and else nothing is
--- done. No call is a flush, and both batches stay. A refused call makes the store dead.
+-- What a step ahead does once a flush is counted, by no flush: the head goes past the oldest record
+-- where it may, or one more of its blocks goes home, or nothing is done.
 pub record GoesOnAhead (before after : State) (old new : Cached) : Type 0 where
   pub passes : CanPass old.log → PassesHead before after old new
   pub brings : IsAway old.log → BringsHome before after old new
@@ -24,8 +22,7 @@ pub record GoesOnAhead (before after : State) (old new : Cached) : Type 0 where
   pub frozen : new.frozen ≡ old.frozen
   pub dies : is_dead new ≡ true → HasDied before after old new
 
--- One step ahead. A dead store makes none, nor one that does not go ahead, nor one with a record
--- under way.
+-- One step ahead: none of a store that is dead, does not go ahead, or writes a record.
 pub record IsAheadStep (ahead : Bool) (before after : State) (old new : Cached) : Type 0 where
   pub dead : is_dead old ≡ true → (new ≡ old) × IsUnchanged before after
   pub plain : ahead ≡ false → (new ≡ old) × IsUnchanged before after
@@ -38,14 +35,12 @@ pub record IsAheadStep (ahead : Bool) (before after : State) (old new : Cached) 
 abbrev pub SparesSlots : LogValue → Type 0
 SparesSlots log = HasSlots 3 log ⊎ (HasSlots 2 log × (¬ IsAway log))
 
--- A record is begun by a step that writes back where the log has room, and where the store goes
--- ahead slots are spared.
+-- Writing back begins a record where the log has room, and a store that goes ahead spares slots.
 pub record MayWrite (ahead : Bool) (log : LogValue) : Type 0 where
   pub room : HasRoom log
   pub spares : ahead ≡ true → SparesSlots log
 
--- Room is made for it, once a flush is counted: by a step ahead where that does something, and else
--- the oldest record is retired by one step.
+-- Room is made, once a flush is counted: by a step ahead, or the oldest record is retired.
 pub record MakesWay (before after : State) (old new : Cached) : Type 0 where
   pub goes : (CanPass old.log ⊎ IsAway old.log) → GoesOnAhead before after old new
   pub retires : ¬ (CanPass old.log ⊎ IsAway old.log) → IsRetiring before after old new
@@ -55,9 +50,8 @@ abbrev pub MakesWayBy : Bool → State → State → Cached → Cached → Type 
 MakesWayBy true before after old new = MakesWay before after (with_counted old) new
 MakesWayBy false before after old new = IsRetiring before after old new
 
--- One step that writes back. Where no record is left to write none is made. With a record under way
--- that one goes on; else the next batch is begun where it may be, and where it may not, room is
--- made for it.
+-- One step that writes back, where a record is left to write: the one under way goes on, or the
+-- next batch is begun where it may be, or room is made for it.
 pub record IsWriteBackStep (ahead : Bool) (before after : State) (old new : Cached)
     : Type 0 where
   pub written : IsWritten old → (new ≡ old) × IsUnchanged before after
@@ -72,24 +66,20 @@ IsWork Settle ahead before after old new = IsBackgroundStep ahead before after o
 IsWork Ahead ahead before after old new = IsAheadStep ahead before after old new
 IsWork WriteBack ahead before after old new = IsWriteBackStep ahead before after old new
 
--- A step towards rest leaves fewer steps, where there was one and the store lives. One ahead never
--- leaves more. One that writes back leaves fewer as long as a record is left to write: so none is
--- in the end.
+-- A step towards rest leaves fewer, where there was one and the store lives; one ahead never more;
+-- and one that writes back fewer as long as a record is left to write.
 abbrev pub LeavesBy : Work → Cached → Cached → Type 0
 LeavesBy Settle old new = LeavesFewer old new
 LeavesBy Ahead old new = steps_left new ≤ steps_left old
-LeavesBy WriteBack old new = is_dead new ≡ false
-    → IsWritten old ⊎ (steps_left new < steps_left old)
+LeavesBy WriteBack old new = is_dead new ≡ false → IsWritten old ⊎ (steps_left new < steps_left old)
 
 -- A step towards rest retires where no record is under way and none may be begun. One ahead does so
 -- by no flush, and so does one that writes back, where there is headroom.
 abbrev pub RetiresNone : Work → Bool → Cached → Type 0
 RetiresNone Settle ahead old = (0 < old.log.steps_left) ⊎ MayBegin ahead old
-RetiresNone Ahead ahead old = Unit {0}
-RetiresNone WriteBack ahead old = Unit {0}
+RetiresNone _ ahead old = Unit {0}
 
--- Each step leaves fewer of them, or no more, and where none is left, or the store is dead, nothing
--- happens.
+-- Each step leaves fewer, or no more. Where none is left, or the store is dead, nothing happens.
 pub record CountsBy {M : Type 0} (work : Work) (old new : StoreValue M) : Type 0 where
   pub left : LeavesBy work old.cached new.cached
   pub rests : steps_left old.cached ≡ 0 → new ≡ old
@@ -113,19 +103,6 @@ pub record StepsAhead {M : Type 0} (state : M → State) (Follows : M → M → 
   pub rests : steps_left old.cached ≡ 0 → new ≡ old
   pub answer : TellsLife result new.cached
 
--- One step of the work is made, of at most two calls. It leaves headroom where there was some, and
--- where it retires none, one flush is made for each record that becomes durable.
-pub record DoesWork {M : Type 0} (state : M → State) (Follows : M → M → Type 0) (work : Work)
-    (old new : StoreValue M) : Type 0 where
-  pub passes : PassesOn state Follows IsTurn 2 2 old new
-  pub order : IsWork work old.goes_ahead (state old.medium) (state new.medium)
-      old.cached new.cached
-  pub steps : CountsBy work old new
-  pub active : MayEmpty (active_of old.cached) (active_of new.cached)
-  pub headroom : KeepsHeadroom old new
-  pub once : RetiresNone work old.goes_ahead old.cached
-      → FlushesOnce old.goes_ahead (state old.medium) (state new.medium) old.cached new.cached
-
 -- one step of this work is made, or none
 pub record WorksBy {M : Type 0} (state : M → State) (Follows : M → M → Type 0) (work : Work)
     (old new : StoreValue M) : Type 0 where
@@ -134,6 +111,16 @@ pub record WorksBy {M : Type 0} (state : M → State) (Follows : M → M → Typ
       old.cached new.cached
   pub steps : CountsBy work old new
   pub active : MayEmpty (active_of old.cached) (active_of new.cached)
+
+-- It leaves headroom where there was some, and where it retires none, one flush is made for each
+-- record that becomes durable.
+pub record DoesWork {M : Type 0} (state : M → State) (Follows : M → M → Type 0) (work : Work)
+    (old new : StoreValue M) : Type 0 where
+  pub headroom : KeepsHeadroom old new
+  pub once : RetiresNone work old.goes_ahead old.cached
+      → FlushesOnce old.goes_ahead (state old.medium) (state new.medium) old.cached new.cached
+  pub works : WorksBy state Follows work old new
+  pub open works use *
 
 -- A record waits to be retired, and none is under way.
 pub record HasToRetire (s : Cached) : Type 0 where

@@ -50,8 +50,7 @@ all_firsts_of numbers bytes firsts count all many each =
     grind (arith, many, all, each i, first_of_batch i numbers bytes))
 
 -- and of those of a descriptor
-pub firsts_of_batch : (numbers bytes : List ℕ) (firsts : List (List ℕ)) (j : ℕ)
-    → length firsts ≡ length (take 30 (drop (30 * j) numbers))
+pub firsts_of_batch : (numbers bytes : List ℕ) (firsts : List (List ℕ)) (j : ℕ) → length firsts ≡ length (take 30 (drop (30 * j) numbers))
     → ((i : ℕ) → i < length (take 30 (drop (30 * j) numbers))
     → get_or firsts i [] ≡ slice_range bytes (512 * (30 * j + i)) (512 * (30 * j + i) + 8))
     → firsts ≡ firsts_of (chunk_of (entries_of numbers bytes) j)
@@ -65,5 +64,4 @@ firsts_of_batch numbers bytes firsts j count each =
     each i (omega (arith, count)) ∙ sym
     (part_at es 30 (30 * j) i few (λ e. take 8 e.1) ∙ first_of_batch (30 * j + i) numbers bytes inside))
 
-pub ruleset batch =
-    (numbers_of_batch, length_of_batch, entry_of_batch, firsts_of_batch, numbers_of_chunk)
+pub ruleset batch = (numbers_of_batch, length_of_batch, entry_of_batch, firsts_of_batch, numbers_of_chunk)

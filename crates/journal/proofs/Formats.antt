@@ -1,17 +1,16 @@
 -- Both formats keep the laws of a layout.
 use Rattle.std.proofs.Common.{◌≡◌, ℕ, ◌+◌, ◌-◌, ◌<◌, ◌≤◌, List, length, arith, rules, ◌*◌, ◌%◌, [], get_or, ◌∙◌, ◌∷◌, All, ◌/◌, sym, inr}
-use Rattle.std.proofs.{lemmas.Bool.cases_lt, lemmas.Bool.Decides.nat_tests, lemmas.List.{length-map, ext_get_or}, Math.ListN.get_or-map}
-use Rattle.std.proofs.lemmas.List.Elements.{All-from_get_or}
-use Rattle.std.proofs.lemmas.List.FromFn.{fill_by_all, get_or-map-range_with_len, length-map-range_with_len}
-use Rattle.journal.specs.Sectors.{spelling, number_in, descriptor_mark, commit_mark, IsDescriptor, IsCommit}
-use Rattle.journal.specs.{Record.{Entry, numbers_of, block_of}, Layout.{AreEntries, IsWholeIn, IsRecordOf, Laws}}
-use Rattle.journal.specs.{Formats.{format1, Carries1, entry_in, record_in, layout_of}, Places.{Shape, limit_of, slot_sectors_of}}
-use Rattle.journal.specs.Format2.{commit_mark as commit_mark_two, chunk_of, firsts_of, IsCommitTwo, format2, Carries2}
-use Rattle.journal.specs.{declared.log_format.LogFormat.LogFormat, declared.log_format.LogFormat.TheVariants.{One, Two}}
-use Rattle.journal.proofs.{SectorNumbers.{descriptor_says, commit_says, descriptor_number}, Wholeness.{record_of, parts}}
-use Rattle.journal.proofs.SlotTwo.{header_says, place_says, descriptor_two, record_read as read2}
-use Rattle.medium.specs.Medium.{Image}
+use Rattle.std.proofs.lemmas.{Bool.{cases_lt, Decides.nat_tests}, List.{length-map, ext_get_or, Elements.All-from_get_or}}
+use Rattle.std.proofs.{lemmas.List.FromFn.{fill_by_all, get_or-map-range_with_len, length-map-range_with_len}, Math.ListN.get_or-map}
 use Rattle.std.specs.Prelude.{if◌then◌else◌, nat_lt, replicate}
+use Rattle.journal.specs.{Sectors.{spelling, number_in, descriptor_mark, commit_mark, IsDescriptor, IsCommit}, Record.{Entry, numbers_of}}
+use Rattle.journal.specs.{Record.block_of, Layout.{AreEntries, IsWholeIn, IsRecordOf, Laws}, Formats.{format1, Carries1, entry_in}}
+use Rattle.journal.{specs.{Formats.{record_in, layout_of}, Places.{Shape, limit_of, slot_sectors_of}}, proofs.SectorNumbers.commit_says}
+use Rattle.journal.{specs.declared.log_format.LogFormat.{LogFormat, TheVariants.{One, Two}}, proofs.SectorNumbers.descriptor_says}
+use Rattle.journal.proofs.{SectorNumbers.descriptor_number, Wholeness.{record_of, parts}}
+use Rattle.medium.specs.Medium.{Image}
+use Rattle.journal.specs.Format2.{commit_mark as commit_mark_two, chunk_of, firsts_of, IsCommitTwo, format2, Carries2}
+use Rattle.journal.proofs.SlotTwo.{header_says, place_says, descriptor_two, record_read as read2}
 
 module _ {blocks s : ℕ} {entries : List Entry} (r : IsRecordOf format1 blocks s entries) where
   pub descriptor_of : IsDescriptor s (numbers_of entries)
@@ -22,8 +21,7 @@ module _ {blocks s : ℕ} {entries : List Entry} (r : IsRecordOf format1 blocks 
   commit_of = search rules
 
   -- the descriptor and the commit carry the record's stamp
-  pub ends_carry : (p : ℕ) → (1 ≤ p → length entries + 1 ≤ p)
-      → Carries1 (format1.offset (length entries) p) s (format1.part s entries p)
+  pub ends_carry : (p : ℕ) → (1 ≤ p → length entries + 1 ≤ p) → Carries1 (format1.offset (length entries) p) s (format1.part s entries p)
   ends_carry p ends = grind (arith, parts, descriptor_of, commit_of)
 
 -- a stamp that a sector carries is its second number
@@ -60,8 +58,7 @@ module _ (shape : Shape) (image : Image) (s : ℕ) (es : List Entry) (w : IsWhol
 
   -- its commit
   pub commit_there : IsCommit s (length (numbers_of es)) (image (2 + 50 * (s % shape.slots) + 49))
-  commit_there =
-      rw (length-map es (λ (e : Entry). e.0)) (grind (arith, parts, w.there (length es + 1), commit_of (record_of w)))
+  commit_there = rw (length-map es (λ (e : Entry). e.0)) (grind (arith, parts, w.there (length es + 1), commit_of (record_of w)))
 
   -- a whole record is the one that its slot spells
   pub record_read : es ≡ record_in image (2 + 50 * (s % shape.slots))
@@ -93,8 +90,7 @@ module _ (shape : Shape) (image : Image) (stamp : ℕ) (numbers : List ℕ)
         fit = fit;
         least = described.least;
         below = described.most;
-        there = λ p below.
-            grind (arith, parts, described.spelled, committed.spelled, names, long, entry_read image _ described (p - 1));
+        there = λ p below. grind (arith, parts, described.spelled, committed.spelled, names, long, entry_read image _ described (p - 1));
       }
 
 -- ---- format 2, and both
@@ -137,7 +133,7 @@ format1_laws = record {
   apart = λ n p q few hp hq e. grind (arith, parts);
   last = λ n. grind (arith, parts);
   carries = λ blocks s entries p r below. search (rules, arith, cases_lt p (length entries + 1), ends_carry r p);
-  last_is_late = λ n. omega arith;
+  last_is_behind = λ n. omega arith;
   one_stamp = λ blocks s t entries p r below c.
       let ends : 1 ≤ p → length entries + 1 ≤ p = λ some. grind (arith, parts, c.place, r.fit.few) in
       grind (arith, carried1 _ t _ c, carried1 _ s _ (ends_carry r p ends));
@@ -155,7 +151,7 @@ format2_laws = record {
   apart = λ n p q few hp hq e. grind (arith, parts);
   last = λ n. grind (arith, parts);
   carries = λ blocks s entries p r below. inr (carries2 blocks s entries p r);
-  last_is_late = λ n. omega arith;
+  last_is_behind = λ n. omega arith;
   one_stamp = λ blocks s t entries p r below c. sym (carried2 _ t _ c) ∙ carried2 _ s _ (carries2 blocks s entries p r);
   last_part = λ s a b same. grind (arith, parts);
   count = λ blocks s a b ra rb e. grind (arith, parts, commit_says (commit_two ra), commit_says (commit_two rb));

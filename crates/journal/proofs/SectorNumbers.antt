@@ -19,8 +19,7 @@ module _ {X : Type 0} (f : X → List ℕ) (k : ℕ) where
   pub piece_at : (xs : List X) (i : ℕ) (d : X) (rest : List ℕ) → i < length xs → All (λ x. length (f x) ≡ k) xs
       → take k (drop (k * i) (flat_map f xs ++ rest)) ≡ f (get_or xs i d)
   piece_at [] i d rest below long = absurd (omega arith)
-  piece_at (x ∷ xs) zero d rest below long =
-      grind (arith, common_steps, long 0 x (omega arith))
+  piece_at (x ∷ xs) zero d rest below long = grind (arith, common_steps, long 0 x (omega arith))
   piece_at (x ∷ xs) (suc i) d rest below long =
       let step : k * suc i ≡ k + k * i = omega arith in
       rw (step, append_assoc, ← (drop-drop (k * i) k (f x ++ (flat_map f xs ++ rest))), drop_at (f x) _ k (long 0 x (omega arith)))

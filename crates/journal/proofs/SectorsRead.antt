@@ -1,21 +1,18 @@
 -- Calls that read sectors of the log, and blocks of a whole record that were read back.
 use Rattle.std.proofs.Common.{◌≡◌, ℕ, ◌+◌, ◌*◌, ◌%◌, ◌<◌, ◌≤◌, arith, List, [], ◌++◌, length, drop, get_or, refl, Option, ◌∙◌, take, sym}
-use Rattle.std.proofs.{Common.{inl, inr, Some, None, MatchOption, All, below_more, ⊎_elim}, lemmas.Nat.mod_below, lemmas.Grind.common_steps}
+use Rattle.std.proofs.{Common.{inl, inr, Some, None, MatchOption, All, below_more, ⊎_elim}, lemmas.{Nat.mod_below, Grind.common_steps}}
 use Rattle.std.proofs.lemmas.List.{map-append, take_all}
-use Rattle.medium.specs.Medium.{Image}
+use Rattle.medium.{specs.Medium.Image, proofs.{Moments.quiet_call, SectorsRead.look_below}}
 use Rattle.journal.specs.{Reading.{AreStamped, IsRead, HasDescriptor, NamesBlocks}, declared.log_format.LogFormat.LogFormat}
-use Rattle.journal.specs.{declared.log_format.LogFormat.TheVariants.{One, Two}, declared.super_sector.Super.Super}
-use Rattle.journal.specs.{Places.{limit_of, first_data_of, IsFirstHome, Shape}, Formats.{layout_of, IsWhole, shape_of, record_in}}
-use Rattle.journal.specs.{declared.record.Record.Record, Record.{Entry, numbers_of, block_of, begun_with, first_of}}
-use Rattle.journal.specs.Layout.{slot_at, IsWholeIn}
-use Rattle.journal.specs.Format2.{firsts_of, place_bytes, IsDescriptorTwo, IsCommitTwo, descriptors_of, entries_at, chunk_of}
-use Rattle.journal.specs.{Sectors.{IsCommit, IsDescriptor, IsRising}, declared.naming_stage.NamingStage.NamingStage}
-use Rattle.journal.specs.declared.naming_stage.NamingStage.TheVariants.{Descriptor2, Missing}
-use Rattle.journal.specs.Naming.{IsDescribed, AreNamedTo, IsFound, IsKnown}
-use Rattle.medium.proofs.{Moments.quiet_call, SectorsRead.look_below}
+use Rattle.journal.specs.declared.{log_format.LogFormat.TheVariants.{One, Two}, super_sector.Super.Super, record.Record.Record}
+use Rattle.journal.specs.{declared.naming_stage.NamingStage.{NamingStage, TheVariants.{Descriptor2, Missing}}, Places.limit_of}
+use Rattle.journal.specs.{Places.{first_data_of, IsFirstHome, Shape}, Formats.{layout_of, IsWhole, shape_of, record_in}, Record.Entry}
+use Rattle.journal.specs.{Record.{numbers_of, block_of, begun_with, first_of}, Layout.{slot_at, IsWholeIn}, Format2.firsts_of}
+use Rattle.journal.specs.{Format2.{place_bytes, IsDescriptorTwo, IsCommitTwo, descriptors_of, entries_at, chunk_of}, Sectors.IsCommit}
+use Rattle.journal.specs.{Sectors.{IsDescriptor, IsRising}, Naming.{IsDescribed, AreNamedTo, IsFound, IsKnown}}
 use Rattle.journal.proofs.SlotTwo.{place_there, placed, commit_count, numbers_long, named, named_alone, commit_whole, described_whole}
-use Rattle.journal.proofs.SlotTwo.{record_read, whole_two, take_chunk, read_long, chunk_numbers, chunk_firsts}
-use Rattle.journal.proofs.Wholeness.{as_format, of_format}
+use Rattle.journal.proofs.{SlotTwo.{record_read, whole_two, take_chunk, read_long, chunk_numbers, chunk_firsts}, Wholeness.as_format}
+use Rattle.journal.proofs.Wholeness.{of_format}
 use Rattle.journal.proofs.Formats.{laws_of, descriptor_there, commit_there, numbers_read, whole_in, place_there as place_there_one}
 
 -- a data place stands before home
@@ -34,11 +31,9 @@ pub ruleset copies = (quiet_call, look_below, place_before)
 pub begun_is : (format : LogFormat) (shape : Shape) (image : Image) (stamp : ℕ) (entries : List Entry)
     → IsWholeIn (layout_of format) shape image stamp entries → (i : ℕ) → i < length entries → (first : Option (List ℕ))
     → first ≡ first_of format entries i → (sector : List ℕ)
-    → sector ≡ image (slot_at (layout_of format) shape stamp + first_data_of format + i)
-    → begun_with first sector ≡ block_of entries i
+    → sector ≡ image (slot_at (layout_of format) shape stamp + first_data_of format + i) → begun_with first sector ≡ block_of entries i
 unfolding place_bytes
-begun_is One shape image stamp entries w i below first is sector there =
-    grind (arith, place_there_one shape image stamp entries w i below)
+begun_is One shape image stamp entries w i below first is sector there = grind (arith, place_there_one shape image stamp entries w i below)
 begun_is Two shape image stamp entries w i below first is sector there =
     let it = place_there shape image stamp entries w i below in grind (arith, common_steps)
 
@@ -48,20 +43,16 @@ firsts_before One entries = []
 firsts_before Two entries = firsts_of entries
 
 -- they and the rest of a data place make the block
-first_put : (format : LogFormat) (entries : List Entry) (i : ℕ) (sector : List ℕ) → i < length entries
-    → length (block_of entries i) ≡ 512
+first_put : (format : LogFormat) (entries : List Entry) (i : ℕ) (sector : List ℕ) → i < length entries → length (block_of entries i) ≡ 512
     → begun_with (first_of format entries i) sector ≡ block_of entries i
-    → get_or (firsts_before format entries) i [] ++ drop (length (get_or (firsts_before format entries) i [])) sector
-    ≡ block_of entries i
+    → get_or (firsts_before format entries) i [] ++ drop (length (get_or (firsts_before format entries) i [])) sector ≡ block_of entries i
 first_put One entries i sector below sized begun = begun
 first_put Two entries i sector below sized begun = grind (arith, common_steps, begun, sized)
 
 -- a record that is whole is the one that its slot spells, and this was read of it
-pub read_is : (shape : Shape) (image : Image) (stamp : ℕ) (entries : List Entry) → IsWhole shape image stamp entries
-    → (read : Record)
+pub read_is : (shape : Shape) (image : Image) (stamp : ℕ) (entries : List Entry) → IsWhole shape image stamp entries → (read : Record)
     → read.numbers.items ≡ numbers_of ((layout_of shape.format).read image (slot_at (layout_of shape.format) shape stamp))
-    → read.firsts.items
-    ≡ firsts_before shape.format ((layout_of shape.format).read image (slot_at (layout_of shape.format) shape stamp))
+    → read.firsts.items ≡ firsts_before shape.format ((layout_of shape.format).read image (slot_at (layout_of shape.format) shape stamp))
     → IsRead shape image stamp entries read
 read_is shape image stamp entries whole read numbers firsts =
     let is = (laws_of shape.format).read shape image stamp entries whole in
@@ -128,9 +119,8 @@ module _ (sizes : Super) (image : Image) (stamp : ℕ) (read : Record) where
 
     -- the commit was read
     pub counts : (found : Option ℕ) (next : NamingStage) (bytes : List ℕ) → bytes ≡ image (2 + 249 * (stamp % sizes.slots) + 248)
-        → MatchOption found ((n : ℕ) → ¬ IsCommitTwo stamp n bytes) (λ n. IsCommitTwo stamp n bytes)
-        → MatchOption found (next ≡ Missing) (λ n. next ≡ Descriptor2 n 0) → read.numbers.items ≡ [] → read.firsts.items ≡ []
-        → IsKnown (shape_of sizes) image stamp 1 next read
+        → MatchOption found ((n : ℕ) → ¬ IsCommitTwo stamp n bytes) (λ n. IsCommitTwo stamp n bytes) → MatchOption found (next ≡ Missing)
+        (λ n. next ≡ Descriptor2 n 0) → read.numbers.items ≡ [] → read.firsts.items ≡ [] → IsKnown (shape_of sizes) image stamp 1 next read
     counts None next bytes here says goes numbers firsts = rw goes (record {
       some = tt;
       all = λ entries whole. (rw here at says) _ (commit_whole _ _ _ _ (as_format two whole));
@@ -138,12 +128,7 @@ module _ (sizes : Super) (image : Image) (stamp : ℕ) (read : Record) where
     })
     counts (Some n) next bytes here says goes numbers firsts = rw goes (
       refl,
-      record {
-        committed = rw here at says;
-        there = λ j below. absurd (omega (arith, below));
-        numbers_are = numbers;
-        firsts_are = firsts;
-      },
+      record { committed = rw here at says; there = λ j below. absurd (omega (arith, below)); numbers_are = numbers; firsts_are = firsts },
     )
 
     module _ (n index : ℕ) (so_far : AreNamedTo image (2 + 249 * (stamp % sizes.slots)) stamp n index read)
@@ -165,9 +150,8 @@ module _ (sizes : Super) (image : Image) (stamp : ℕ) (read : Record) where
 
       -- it is
       module _ {numbers : List ℕ} {firsts : List (List ℕ)}
-          (is : IsDescriptorTwo stamp n index numbers firsts (image (2 + 249 * (stamp % sizes.slots) + index)))
-          (next : Record) (appended : next.numbers.items ≡ read.numbers.items ++ numbers)
-          (put : next.firsts.items ≡ read.firsts.items ++ firsts) where
+          (is : IsDescriptorTwo stamp n index numbers firsts (image (2 + 249 * (stamp % sizes.slots) + index))) (next : Record)
+          (appended : next.numbers.items ≡ read.numbers.items ++ numbers) (put : next.firsts.items ≡ read.firsts.items ++ firsts) where
         pub named_on : AreNamedTo image (2 + 249 * (stamp % sizes.slots)) stamp n (index + 1) next
         named_on =
             let es : List Entry = entries_at image at n in

@@ -41,8 +41,7 @@ module _ (numbers : List ℕ) (firsts : List (List ℕ)) (each : length firsts �
 
     -- one entry more
     pub entries_more : (before : List ℕ) (e : ℕ) → e < length numbers
-        → ((before ++ flat_map entry_bytes (take e (zip numbers firsts))) ++ little_bytes 8
-        (get_or numbers e 0)) ++ get_or firsts e []
+        → ((before ++ flat_map entry_bytes (take e (zip numbers firsts))) ++ little_bytes 8 (get_or numbers e 0)) ++ get_or firsts e []
         ≡ before ++ flat_map entry_bytes (take (e + 1) (zip numbers firsts))
     unfolding entry_bytes
     entries_more before e below =
@@ -119,8 +118,7 @@ module _ {stamp count j : ℕ} {numbers : List ℕ} {firsts : List (List ℕ)} {
       (take_all 8 (get_or firsts e []) (omega (arith, d.entries.sized e [] (omega (arith, d.entries.each)))))
 
   -- numbers that were read from the entries are those of the descriptor
-  pub numbers_are : {here : ℕ} {list : List ℕ} → here ≡ entries_here count j
-      → AreItems here (λ i. number_in bytes (4 + 2 * i)) 0 list
+  pub numbers_are : {here : ℕ} {list : List ℕ} → here ≡ entries_here count j → AreItems here (λ i. number_in bytes (4 + 2 * i)) 0 list
       → list ≡ numbers
   numbers_are {list = list} is read = ext_get_or 0 list numbers (omega (arith, is, read.count, d.entries.many))
       (λ i below. grind (arith, read.count, read.each i, number_is i, d.entries.many))
@@ -132,9 +130,8 @@ module _ {stamp count j : ℕ} {numbers : List ℕ} {firsts : List (List ℕ)} {
       (λ i below. grind (arith, read.count, read.each i, first_is i, d.entries.many))
 
 -- a sector is a descriptor of one value
-pub IsDescriptorTwo-one : (bytes : List ℕ) (a b m n i j : ℕ) (ns ms : List ℕ) (fs gs : List (List ℕ))
-    → IsDescriptorTwo a m i ns fs bytes → IsDescriptorTwo b n j ms gs bytes
-    → (a ≡ b) × (m ≡ n) × (i ≡ j) × (ns ≡ ms) × (fs ≡ gs)
+pub IsDescriptorTwo-one : (bytes : List ℕ) (a b m n i j : ℕ) (ns ms : List ℕ) (fs gs : List (List ℕ)) → IsDescriptorTwo a m i ns fs bytes
+    → IsDescriptorTwo b n j ms gs bytes → (a ≡ b) × (m ≡ n) × (i ≡ j) × (ns ≡ ms) × (fs ≡ gs)
 IsDescriptorTwo-one bytes a b m n i j ns ms fs gs d e =
     let x = header_says d in
     let y = header_says e in
@@ -145,8 +142,7 @@ IsDescriptorTwo-one bytes a b m n i j ns ms fs gs d e =
 
 -- the numbers of these entries
 pub numbers_of_chunk : (es : List Entry) (j : ℕ) → numbers_of (chunk_of es j) ≡ take 30 (drop (30 * j) (numbers_of es))
-numbers_of_chunk es j =
-    rw (drop-map (λ (e : Entry). e.0) (30 * j) es, take-map (λ (e : Entry). e.0) 30 (drop (30 * j) es))
+numbers_of_chunk es j = rw (drop-map (λ (e : Entry). e.0) (30 * j) es, take-map (λ (e : Entry). e.0) 30 (drop (30 * j) es))
 
 -- one of some entries that follow each other
 pub part_at : {X : Type 0} (es : List Entry) (many from i : ℕ) → i < many → (part : Entry → X)
@@ -168,8 +164,7 @@ descriptor_two {stamp = stamp} {es = es} j r used =
     record { spelled = refl; least = r.least; most = r.below; entries = rw long at entries }
 
 -- descriptors that name count blocks are there
-pub each_there : (image : Image) (at stamp count : ℕ) (numbers : List ℕ) → length numbers ≡ count
-    → HasDescriptors image at stamp numbers
+pub each_there : (image : Image) (at stamp count : ℕ) (numbers : List ℕ) → length numbers ≡ count → HasDescriptors image at stamp numbers
     → (j : ℕ) → j < descriptors_of count → HasDescriptor image at stamp count j
 each_there image at stamp count numbers long has j below = grind (arith, has j)
 
@@ -209,8 +204,7 @@ module _ (image : Image) (at n : ℕ) where
       rw (read_entry (30 * j + e) inside, quotient, remainder)
 
   -- what a descriptor says is what was read of it
-  module _ {stamp j : ℕ} {numbers : List ℕ} {firsts : List (List ℕ)}
-      (d : IsDescriptorTwo stamp n j numbers firsts (image (at + j))) where
+  module _ {stamp j : ℕ} {numbers : List ℕ} {firsts : List (List ℕ)} (d : IsDescriptorTwo stamp n j numbers firsts (image (at + j))) where
     here : length (chunk_of read j) ≡ entries_here n j
     here = omega (arith, length-take 30 (drop (30 * j) read), length-drop (30 * j) read, read_long)
 
@@ -258,8 +252,7 @@ module _ (shape : Shape) (image : Image) (s : ℕ) (es : List Entry) (w : IsWhol
   commit_whole = grind (arith, parts, w.there ((length es + 29) / 30 + length es))
 
   pub descriptor_whole : (j : ℕ) → j < (length es + 29) / 30
-      → IsDescriptorTwo s (length es) j (numbers_of (chunk_of es j)) (firsts_of (chunk_of es j))
-      (image (2 + 249 * (s % shape.slots) + j))
+      → IsDescriptorTwo s (length es) j (numbers_of (chunk_of es j)) (firsts_of (chunk_of es j)) (image (2 + 249 * (s % shape.slots) + j))
   descriptor_whole j below =
       let there : image (2 + 249 * (s % shape.slots) + j) ≡ descriptor_bytes s es j = grind (arith, parts, w.there j) in
       rw there (descriptor_two j (record_of w) (omega arith))
@@ -340,8 +333,7 @@ module _ (shape : Shape) (image : Image) (s n : ℕ) (committed : IsCommitTwo s 
       → IsWholeIn format2 shape image s (entries_at image (2 + 249 * (s % shape.slots)) n)
   whole_two rising inside =
       let smalls = All-from_get_or (λ (b : ℕ). b < 2147483648) (numbers_of found) 0 small in
-      let sizes = All-from_get_or (λ (e : Entry). length e.1 ≡ 512) found (0, [])
-      (λ i below. (block_read i (omega (arith, long))).0) in
+      let sizes = All-from_get_or (λ (e : Entry). length e.1 ≡ 512) found (0, []) (λ i below. (block_read i (omega (arith, long))).0) in
       let fit : AreEntries 240 shape.blocks found =
       grind (arith, long, committed.some, committed.few, rising, inside, smalls, sizes) in
       record {

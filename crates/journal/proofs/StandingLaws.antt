@@ -1,14 +1,11 @@
 -- An image stands for one array and one next stamp, or has one fault.
-use Rattle.std.proofs.Common.{◌≡◌, ℕ, ◌+◌, ◌<◌, ◌≤◌, List, [], length, get_or, map, refl, sym, ◌∙◌, subst, arith, ◌⊎◌, ◌-◌, ◌^◌, ◌∷◌, rules}
-use Rattle.std.proofs.{Common.{inl, inr, All, ext_get_or}, lemmas.List.ext_get_or}
-use Rattle.std.proofs.{lemmas.List.FromFn.{get_or-map-range_with_len, length-map-range_with_len}, lemmas.Bool.{cases_eq, cases_lt}}
-use Rattle.std.proofs.lemmas.List.Elements.{All-from_get_or}
-use Rattle.std.specs.List.{range_with_len}
+use Rattle.std.proofs.Common.{All, List, [], arith, ext_get_or, get_or, inl, inr, length, map, refl, rules, subst, sym, ℕ, ◌+◌, ◌-◌, ◌<◌}
+use Rattle.std.proofs.{Common.{◌^◌, ◌∙◌, ◌∷◌, ◌≡◌, ◌≤◌, ◌⊎◌}, lemmas.{Bool.{cases_eq, cases_lt}, List.Elements.All-from_get_or}}
+use Rattle.std.{proofs.lemmas.List.{FromFn.{get_or-map-range_with_len, length-map-range_with_len}, ext_get_or}, specs.List.range_with_len}
 use Rattle.medium.specs.Medium.{Image}
 use Rattle.spec.specs.Blocks.{Array}
-use Rattle.journal.specs.Places.{Shape, sectors_of}
-use Rattle.journal.specs.Sectors.{IsSuper, IsHead, spelling, number_in, super_mark, head_mark, version_of, IsRising, HasMagic, HasVersion}
-use Rattle.journal.specs.{Sectors.HasZeroRest, Record.{Entry, with_records, home_of, numbers_of}}
+use Rattle.journal.specs.{Places.{Shape, sectors_of}, Sectors.{IsSuper, IsHead, spelling, number_in, super_mark, head_mark, version_of}}
+use Rattle.journal.specs.{Sectors.{IsRising, HasMagic, HasVersion, HasZeroRest}, Record.{Entry, with_records, home_of, numbers_of}}
 use Rattle.journal.specs.{Layout.{slot_at, IsWholeIn, Layout, AreEntries, HasWholeIn, part_at, Laws}, Formats.{layout_of, HasWhole}}
 use Rattle.journal.specs.Standing.{IsCount, StandsFor, HasShape, Stands, ImageFault, BadSuper, BadVersion, BadSize, BadHead, HasFault}
 use Rattle.journal.proofs.{SectorNumbers.{IsSuper-one, IsHead-one, head_stamp, shape_in, shape_is, super_begins}, Formats.laws_of}
@@ -31,9 +28,8 @@ module _ (size other : ℕ) (shape : Shape) (image : Image) (a b : Array) (t u :
   counts = grind (arith, not_fewer h k heads, not_fewer k h (sym heads))
 
 -- an image stands for at most one array and next stamp, of one shape
-pub StandsFor-one : (size other : ℕ) (s r : Shape) (image : Image) (a b : Array) (t u : ℕ)
-    → StandsFor size s image a t → StandsFor other r image b u
-    → (s ≡ r) × (t ≡ u) × ((x : ℕ) → x < s.blocks → a x ≡ b x)
+pub StandsFor-one : (size other : ℕ) (s r : Shape) (image : Image) (a b : Array) (t u : ℕ) → StandsFor size s image a t
+    → StandsFor other r image b u → (s ≡ r) × (t ≡ u) × ((x : ℕ) → x < s.blocks → a x ≡ b x)
 StandsFor-one size other s r image a b t u h k =
     let one : s ≡ r = IsSuper-one s r (image 0) h.keeps.super k.keeps.super in
     let there : StandsFor other s image b u = subst (λ (x : Shape). StandsFor other x image b u) (sym one) k in
@@ -54,9 +50,8 @@ pub record Stood (size : ℕ) (shape : Shape) (image : Image) (head count : ℕ)
   pub count_is : length stands.records ≡ count
 
 -- what it stands for
-pub count_stands : (size : ℕ) (shape : Shape) (image : Image) (head count : ℕ)
-    → sectors_of shape ≤ size → IsSuper shape (image 0) → IsHead head (image 1)
-    → IsCount shape image head count → Stood size shape image head count
+pub count_stands : (size : ℕ) (shape : Shape) (image : Image) (head count : ℕ) → sectors_of shape ≤ size → IsSuper shape (image 0)
+    → IsHead head (image 1) → IsCount shape image head count → Stood size shape image head count
 count_stands size shape image head count fits s h c =
     let L = layout_of shape.format in
     let read : ℕ → List Entry = λ j. L.read image (slot_at L shape (head + j)) in
@@ -119,8 +114,7 @@ super_or_not bytes =
     search (rules, one)
 
 -- a record is whole or not
-whole_or_not : (L : Layout) (laws : Laws L) (shape : Shape) (image : Image) (stamp : ℕ)
-    → Decided (HasWholeIn L shape image stamp)
+whole_or_not : (L : Layout) (laws : Laws L) (shape : Shape) (image : Image) (stamp : ℕ) → Decided (HasWholeIn L shape image stamp)
 whole_or_not L laws shape image stamp =
     let es : List Entry = L.read image (slot_at L shape stamp) in
     let number : ℕ → ℕ = λ i. get_or (numbers_of es) i 0 in
@@ -160,8 +154,7 @@ first_fault size image some (inl m) (inl v) (inl z) (inr s) = inr (BadSize, inr 
 first_fault size image some (inl m) (inl v) (inl z) (inl s) = inl s
 
 -- an image stands for something or has a fault
-pub stands_or_fault : (size : ℕ) (image : Image) → Stands size image ⊎ ((fault : ImageFault)
-    × HasFault size image fault)
+pub stands_or_fault : (size : ℕ) (image : Image) → Stands size image ⊎ ((fault : ImageFault) × HasFault size image fault)
 stands_or_fault size image = elim (cases_lt 0 size) [
   | inr none ↦ inr (BadSize, inl (omega arith))
   | inl some ↦ elim (first_fault size image some (cases_eq _ _) (grind arith) (same_or_not _ _) (super_or_not _)) [

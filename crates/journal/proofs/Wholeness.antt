@@ -27,12 +27,10 @@ other_slot a b k less near same = grind (arith, div-add-mod a k, div-add-mod b k
 pub all_or_first : (P Q : ℕ → Type 0) (n : ℕ) → ((p : ℕ) → p < n → P p ⊎ Q p)
     → ((p : ℕ) → p < n → P p) ⊎ ((p : ℕ) × (p < n) × ((i : ℕ) → i < p → P i) × Q p)
 all_or_first P Q zero each = grind arith
-all_or_first P Q (suc n) each =
-    grind (arith, all_or_first P Q n (λ p below. each p (omega arith)), each n, cases_eq)
+all_or_first P Q (suc n) each = grind (arith, all_or_first P Q n (λ p below. each p (omega arith)), each n, cases_eq)
 
 -- a block depends on that block alone
-pub with_blocks-same : (entries : List Entry) (a c : Array) (b : ℕ) → a b ≡ c b
-    → with_blocks entries a b ≡ with_blocks entries c b
+pub with_blocks-same : (entries : List Entry) (a c : Array) (b : ℕ) → a b ≡ c b → with_blocks entries a b ≡ with_blocks entries c b
 with_blocks-same [] a c b e = e
 with_blocks-same (x ∷ entries) a c b e = ap (λ (v : List ℕ). if x.0 == b then x.1 else v) (with_blocks-same entries a c b e)
 
@@ -62,8 +60,7 @@ pub records-hide : (records : List (List Entry)) (j i : ℕ) → j < length reco
 records-hide [] j i below inside a c = absurd (omega arith)
 records-hide (r ∷ records) zero i below inside a c =
     with_records-same records (with_blocks r a) (with_blocks r c) (get_or r i (0, [])).0 (with_blocks-hides r i a c inside)
-records-hide (r ∷ records) (suc j) i below inside a c =
-    records-hide records j i (omega arith) inside (with_blocks r a) (with_blocks r c)
+records-hide (r ∷ records) (suc j) i below inside a c = records-hide records j i (omega arith) inside (with_blocks r a) (with_blocks r c)
 
 -- blocks that stand in the array already change nothing
 pub with_blocks-home : (entries : List Entry) (a : Array) (b : ℕ) → ((i : ℕ) → i < length entries
@@ -75,20 +72,17 @@ with_blocks-home (e ∷ entries) a b home =
     grind (arith, nat_tests, cases_eq e.0 b)
 
 -- once the blocks of a record are copied, and no others changed, home is as if they were laid over it
-pub with_blocks-copied : (entries : List Entry) (old new : Array) → ((i : ℕ) → i < length entries
-    → new (get_or entries i (0, [])).0 ≡ (get_or entries i (0, [])).1)
-    → ((b : ℕ) → ((i : ℕ) → i < length entries → (get_or entries i (0, [])).0 ≢ b) → new b ≡ old b)
-    → (b : ℕ) → new b ≡ with_blocks entries old b
+pub with_blocks-copied : (entries : List Entry) (old new : Array)
+    → ((i : ℕ) → i < length entries → new (get_or entries i (0, [])).0 ≡ (get_or entries i (0, [])).1) → ((b : ℕ)
+    → ((i : ℕ) → i < length entries → (get_or entries i (0, [])).0 ≢ b) → new b ≡ old b) → (b : ℕ) → new b ≡ with_blocks entries old b
 with_blocks-copied entries old new copied others b =
     let home = with_blocks-home entries new b copied in
     let number : ℕ → ℕ = λ i. (get_or entries i (0, [])).0 in
-    let named = all_or_first (λ i. number i ≢ b) (λ i. number i ≡ b) (length entries)
-    (λ i below. search (rules, cases_eq (number i) b)) in
+    let named = all_or_first (λ i. number i ≢ b) (λ i. number i ≡ b) (length entries) (λ i below. search (rules, cases_eq (number i) b)) in
     grind (arith, with_blocks-same entries new old b, others b, with_blocks-hides entries)
 
 -- a whole record is one of its stamp
-pub record_of : {L : Layout} {shape : Shape} {image : Image} {stamp : ℕ} {entries : List Entry}
-    → IsWholeIn L shape image stamp entries
+pub record_of : {L : Layout} {shape : Shape} {image : Image} {stamp : ℕ} {entries : List Entry} → IsWholeIn L shape image stamp entries
     → IsRecordOf L shape.blocks stamp entries
 record_of w = record { fit = w.fit; least = w.least; below = w.below }
 
@@ -99,8 +93,7 @@ as_format {shape = s} {image = i} {stamp = t} {entries = es} is w = subst (λ (f
 
 pub of_format : {format : LogFormat} {shape : Shape} {image : Image} {stamp : ℕ} {entries : List Entry} → shape.format ≡ format
     → IsWholeIn (layout_of format) shape image stamp entries → IsWhole shape image stamp entries
-of_format {shape = s} {image = i} {stamp = t} {entries = es} is w =
-    subst (λ (f : LogFormat). IsWholeIn (layout_of f) s i t es) (sym is) w
+of_format {shape = s} {image = i} {stamp = t} {entries = es} is w = subst (λ (f : LogFormat). IsWholeIn (layout_of f) s i t es) (sym is) w
 
 module _ (L : Layout) (laws : Laws L) (shape : Shape) where
   -- an image has at most one whole record of a stamp
@@ -123,24 +116,19 @@ module _ (L : Layout) (laws : Laws L) (shape : Shape) where
         c slot o t low small (rw (agree _ (omega arith) inside) at carries)
 
     -- an image keeps records if it agrees on the super, the head, their slots and home
-    pub Keeps-same : (head : ℕ) (records : List (List Entry)) (array : Array)
-        → image 0 ≡ before 0 → image 1 ≡ before 1
-        → ((j : ℕ) → j < length records
-        → Agree (slot_at L shape (head + j)) (slot_at L shape (head + j) + L.slot_sectors) image before)
-        → Agree shape.home (shape.home + shape.blocks) image before
-        → KeepsIn L shape before head records array → KeepsIn L shape image head records array
+    pub Keeps-same : (head : ℕ) (records : List (List Entry)) (array : Array) → image 0 ≡ before 0 → image 1 ≡ before 1
+        → ((j : ℕ) → j < length records → Agree (slot_at L shape (head + j)) (slot_at L shape (head + j) + L.slot_sectors) image before)
+        → Agree shape.home (shape.home + shape.blocks) image before → KeepsIn L shape before head records array
+        → KeepsIn L shape image head records array
     Keeps-same head records array zeroth first slots home k =
         let whole = λ (j : ℕ) (below : j < length records).
         IsWhole-same (head + j) (get_or records j []) (slots j below) (k.whole j below) in
-        let blocks = λ (b : ℕ) (below : b < shape.blocks).
-        with_records-same records (home_of shape image) (home_of shape before) b
-        (home (shape.home + b) (omega arith) (omega arith))
-        ∙ k.blocks b below in
+        let blocks = λ (b : ℕ) (below : b < shape.blocks). with_records-same records (home_of shape image) (home_of shape before) b
+        (home (shape.home + b) (omega arith) (omega arith)) ∙ k.blocks b below in
         grind (arith, zeroth, first, k)
 
   -- the sectors of a slot stand in the log
-  pub slot_inside : (stamp : ℕ) → 1 ≤ shape.slots
-      → slot_at L shape stamp + L.slot_sectors ≤ 2 + L.slot_sectors * shape.slots
+  pub slot_inside : (stamp : ℕ) → 1 ≤ shape.slots → slot_at L shape stamp + L.slot_sectors ≤ 2 + L.slot_sectors * shape.slots
   slot_inside stamp some =
       let last = in_log L.slot_sectors (stamp % shape.slots) shape.slots (L.slot_sectors - 1) in
       grind (arith, last, mod_below stamp shape.slots some)

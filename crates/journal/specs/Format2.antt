@@ -118,7 +118,7 @@ format2 = record {
   slot_sectors = 249;
   most = 240;
   parts = λ n. descriptors_of n + n + 1;
-  early = λ n. 0;
+  before_barrier = λ n. 0;
   offset = λ n. by_part (λ i. i) (λ i. 8 + i) 248 (descriptors_of n) n;
   part = λ stamp entries.
       by_part (descriptor_bytes stamp entries) (λ i. place_bytes stamp (block_of entries i))

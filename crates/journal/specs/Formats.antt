@@ -2,11 +2,10 @@
 use Rattle.std.specs.{Prelude.{◌<◌, ◌≤◌, ℕ, ◌+◌, List, [], ◌∷◌, length, map}, List.range_with_len}
 use Rattle.medium.specs.Medium.{Image}
 use Rattle.journal.specs.Sectors.{spelling, number_in, descriptor_mark, commit_mark, IsDescriptor}
-use Rattle.journal.specs.{Sectors.IsCommit, Record.{Entry, numbers_of, block_of}}
-use Rattle.journal.specs.Layout.{Layout, by_part, IsWholeIn, CarriesBelowIn}
-use Rattle.journal.specs.declared.log_format.LogFormat.{LogFormat}
-use Rattle.journal.specs.{declared.log_format.LogFormat.TheVariants.{One, Two}, Places.Shape}
-use Rattle.journal.specs.{Format2.format2, declared.super_sector.Super.Super}
+use Rattle.journal.specs.{Sectors.IsCommit, Record.{Entry, numbers_of, block_of}, Layout.Layout}
+use Rattle.journal.specs.{Layout.{by_part, IsWholeIn, CarriesBelowIn}, Places.Shape}
+use Rattle.journal.specs.declared.log_format.LogFormat.{LogFormat, TheVariants.{One, Two}}
+use Rattle.journal.specs.{declared.super_sector.Super.Super, Format2.format2}
 
 -- at this offset of a slot these bytes carry this stamp: data places carry none
 pub record Carries1 (o stamp : ℕ) (bytes : List ℕ) : Type 0 where
@@ -27,7 +26,7 @@ format1 = record {
   slot_sectors = 50;
   most = 48;
   parts = λ n. n + 2;
-  early = λ n. n + 1;
+  before_barrier = λ n. n + 1;
   offset = by_part (λ i. i) (λ i. 1 + i) 49 1;
   part = λ stamp entries.
       by_part

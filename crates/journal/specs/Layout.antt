@@ -15,8 +15,8 @@ pub record Layout : Type 1 where
   pub most : ℕ
   -- how many sectors a record of this many blocks writes
   pub parts : ℕ → ℕ
-  -- how many of them are flushed before its last sector is written
-  pub early : ℕ → ℕ
+  -- how many of them stand before its barrier, a flush behind which the others are written
+  pub before_barrier : ℕ → ℕ
   -- offset n p: where in the slot part p of a record of n blocks stands
   pub offset : ℕ → ℕ → ℕ
   -- part s entries p: the bytes of part p of the record with stamp s
@@ -75,8 +75,7 @@ module _ (L : Layout) (shape : Shape) where
     pub super : IsSuper shape (image 0)
     pub head_is : IsHead head (image 1)
     pub whole : (j : ℕ) → j < length records → IsWholeIn image (head + j) (get_or records j [])
-    pub blocks : (b : ℕ) → b < shape.blocks
-        → with_records records (home_of shape image) b ≡ array b
+    pub blocks : (b : ℕ) → b < shape.blocks → with_records records (home_of shape image) b ≡ array b
 
   -- The image keeps these records, the one behind them is not whole, and its log carries no stamp
   -- behind that one's.
@@ -116,9 +115,9 @@ pub record Laws (L : Layout) : Type 0 where
   -- need not
   pub carries : (blocks stamp : ℕ) (entries : List Entry) (p : ℕ)
       → IsRecordOf L blocks stamp entries → p < L.parts (length entries)
-      → (p < L.early (length entries))
+      → (p < L.before_barrier (length entries))
       ⊎ L.carries (L.offset (length entries) p) stamp (L.part stamp entries p)
-  pub last_is_late : (n : ℕ) → L.early n < L.parts n
+  pub last_is_behind : (n : ℕ) → L.before_barrier n < L.parts n
   -- and no other
   pub one_stamp : (blocks stamp other : ℕ) (entries : List Entry) (p : ℕ)
       → IsRecordOf L blocks stamp entries → p < L.parts (length entries)

@@ -2,14 +2,11 @@
 use Rattle.std.specs.Prelude.{◌≡◌, ◌⊎◌, ℕ, ◌+◌, ◌*◌, ◌-◌, ◌%◌, ◌<◌, ◌≤◌, List, [], length, All}
 use Rattle.std.specs.Prelude.{take, Option, Some, None, IfSome, IsSomeAnd}
 use Rattle.medium.specs.Medium.{Image}
-use Rattle.journal.specs.declared.log_format.LogFormat.{LogFormat}
-use Rattle.journal.specs.declared.log_format.LogFormat.TheVariants.{One, Two}
-use Rattle.journal.specs.declared.record.Record.{Record}
-use Rattle.journal.specs.declared.naming_stage.NamingStage.{NamingStage}
+use Rattle.journal.specs.declared.log_format.LogFormat.{LogFormat, TheVariants.{One, Two}}
+use Rattle.journal.specs.declared.{record.Record.Record, naming_stage.NamingStage.NamingStage}
 use Rattle.journal.specs.{Places.{Shape, limit_of, first_home}, Sectors.{IsRising, IsDescriptor}}
-use Rattle.journal.specs.Record.{Entry, numbers_of}
-use Rattle.journal.specs.Format2.{descriptors_of, firsts_of, entries_at, place_of, commit_place}
-use Rattle.journal.specs.Formats.{IsWhole, HasWhole}
+use Rattle.journal.specs.{Record.{Entry, numbers_of}, Format2.{descriptors_of, firsts_of}}
+use Rattle.journal.specs.{Format2.{entries_at, place_of, commit_place}, Formats.{IsWhole, HasWhole}}
 use Rattle.journal.specs.Reading.{IsCommitted, HasDescriptor, AreStamped, IsRead, IsReadFor}
 use Rattle.journal.specs.Reading.{record_reads_of}
 use Rattle.journal.specs.declared.naming_stage.NamingStage.TheVariants as stage

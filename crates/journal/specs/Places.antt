@@ -1,7 +1,6 @@
 -- Where the parts of a medium stand: super, head, slots of the log, and blocks at home.
 use Rattle.std.specs.Prelude.{◌≤◌, ◌<◌, ℕ, ◌+◌, ◌*◌, ◌/◌, ◌^◌, Option, Some, None}
-use Rattle.journal.specs.declared.log_format.LogFormat.{LogFormat}
-use Rattle.journal.specs.declared.log_format.LogFormat.TheVariants.{One, Two}
+use Rattle.journal.specs.declared.log_format.LogFormat.{LogFormat, TheVariants.{One, Two}}
 
 -- a medium's format, how many blocks and how many log slots it has, and where block 0 is at home
 pub record Shape : Type 0 where

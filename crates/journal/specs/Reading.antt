@@ -2,11 +2,10 @@
 use Rattle.std.specs.Prelude.{◌≡◌, ◌≢◌, ℕ, ◌+◌, ◌<◌, ◌⊎◌, ◌*◌, List, length, take, drop, All, []}
 use Rattle.std.specs.Prelude.{◌++◌, get_or, Option, Some, None}
 use Rattle.medium.specs.{Medium.{State, Image}, declared.fault.MediumFault.MediumFault}
-use Rattle.journal.specs.{declared.record.Record.Record, Record.{numbers_of, Entry, block_of}}
-use Rattle.journal.specs.Sectors.{IsRising}
-use Rattle.journal.specs.Format2.{descriptors_of, place_bytes, IsDescriptorTwo, IsCommitTwo}
-use Rattle.journal.specs.{Format2.format2, declared.log_format.LogFormat.LogFormat}
-use Rattle.journal.specs.declared.log_format.LogFormat.TheVariants.{One, Two}
+use Rattle.journal.specs.declared.{record.Record.Record, log_format.LogFormat.LogFormat}
+use Rattle.journal.specs.{declared.log_format.LogFormat.TheVariants.{One, Two}, Record.numbers_of}
+use Rattle.journal.specs.{Record.{Entry, block_of}, Sectors.IsRising, Format2.descriptors_of}
+use Rattle.journal.specs.Format2.{place_bytes, IsDescriptorTwo, IsCommitTwo, format2}
 use Rattle.journal.specs.{Places.{Shape, first_data_of}, Layout.slot_at, Formats.layout_of}
 use Rattle.medium.specs.declared.fault.MediumFault.TheVariants as medium
 
@@ -62,8 +61,7 @@ module _ (image : Image) (at stamp : ℕ) where
   -- all descriptors are there, and what they name are count blocks of an array of this length
   abbrev pub NamesBlocks : ℕ → ℕ → Type 0
   NamesBlocks blocks count = (numbers : List ℕ) × (length numbers ≡ count)
-      × HasDescriptors numbers
-      × IsRising numbers × All (λ b. b < blocks) numbers
+      × HasDescriptors numbers × IsRising numbers × All (λ b. b < blocks) numbers
 
   -- How many sectors are read behind a commit of count blocks where they are not named:
   -- descriptors up to the first bad one; or all of them, where they name no such blocks.
@@ -110,8 +108,7 @@ IsReadFor Two shape image stamp None reads =
     × (reads ≡ 1 + behind))
 IsReadFor Two shape image stamp (Some read) reads =
     IsCommitted image (slot_at format2 shape stamp) stamp (length read.numbers.items)
-    × NamesBlocks image (slot_at format2 shape stamp) stamp shape.blocks
-    (length read.numbers.items)
+    × NamesBlocks image (slot_at format2 shape stamp) stamp shape.blocks (length read.numbers.items)
     × (reads ≡ 1 + descriptors_of (length read.numbers.items))
 
 -- How many data places are read to find whether count carry the stamp: those up to the first that

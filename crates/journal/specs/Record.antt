@@ -3,11 +3,10 @@ use Rattle.std.specs.Prelude.{ℕ, List, map, ◌≡◌, ◌≤◌, ◌<◌, ◌
 use Rattle.std.specs.Prelude.{if◌then◌else◌, ◌==◌, ◌++◌, take, drop, Option, Some, None, Result}
 use Rattle.std.specs.Prelude.{◌-◌, ◌^◌, length, All}
 use Rattle.medium.specs.{Medium.{Image, State, Passes, LooksOnly}, Moments.IsQuiet}
-use Rattle.medium.specs.declared.fault.MediumFault.{MediumFault}
-use Rattle.medium.specs.declared.fault.MediumFault.TheVariants.{Read}
+use Rattle.medium.specs.declared.fault.MediumFault.{MediumFault, TheVariants.Read}
 use Rattle.spec.specs.Blocks.{Array}
-use Rattle.journal.specs.{Places.Shape, declared.log_format.LogFormat.LogFormat}
-use Rattle.journal.specs.{declared.log_format.LogFormat.TheVariants.{One, Two}, Sectors.IsRising}
+use Rattle.journal.specs.{Places.Shape, declared.log_format.LogFormat.{LogFormat, TheVariants.One}}
+use Rattle.journal.specs.{declared.log_format.LogFormat.TheVariants.Two, Sectors.IsRising}
 
 -- a block's number and its bytes
 abbrev pub Entry : Type 0

@@ -50,9 +50,8 @@ version_of Two = 2
 
 -- the bytes of a super: the version, the sizes, and the first sectors of log and home
 pub record IsSuper (shape : Shape) (bytes : List ℕ) : Type 0 where
-  pub spelled : bytes
-      ≡ spelling (super_mark ∷ version_of shape.format ∷ shape.blocks ∷ shape.slots ∷ 2 ∷
-      shape.home ∷ [])
+  pub spelled : bytes ≡ spelling
+      (super_mark ∷ version_of shape.format ∷ shape.blocks ∷ shape.slots ∷ 2 ∷ shape.home ∷ [])
   pub some_blocks : 1 ≤ shape.blocks
   pub most_blocks : shape.blocks ≤ 2 ^ 31
   pub some_slots : 1 ≤ shape.slots

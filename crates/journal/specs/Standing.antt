@@ -1,9 +1,8 @@
 -- For what an image stands, or what is wrong with it, and that this is one, as is a sector's value.
 use Rattle.std.specs.Prelude.{◌≡◌, ℕ, List, ◌≤◌, ◌<◌, ◌+◌, length, ◌⊎◌, ◌^◌}
-use Rattle.journal.specs.Places.{Shape, sectors_of}
-use Rattle.journal.specs.Sectors.{IsSuper, IsHead, IsDescriptor, IsCommit, IsSuperFault}
-use Rattle.journal.specs.{Format2.{IsDescriptorTwo, IsCommitTwo}, Record.Entry, Layout.KeepsIn}
-use Rattle.journal.specs.Formats.{layout_of, HasWhole, CarriesBelow}
+use Rattle.journal.specs.{Places.{Shape, sectors_of}, Sectors.{IsSuper, IsHead, IsDescriptor}}
+use Rattle.journal.specs.{Sectors.{IsCommit, IsSuperFault}, Format2.{IsDescriptorTwo, IsCommitTwo}}
+use Rattle.journal.specs.{Record.Entry, Layout.KeepsIn, Formats.{layout_of, HasWhole, CarriesBelow}}
 use Rattle.journal.specs.declared.super_fault.SuperFault.TheVariants.{Magic, Version, Rest, Sizes}
 use Rattle.medium.specs.Medium.{Image}
 use Rattle.spec.specs.Blocks.{Array}
@@ -78,8 +77,7 @@ abbrev pub HasFault : ℕ → Image → ImageFault → Type 0
 HasFault size image BadSuper =
     (0 < size) × (IsSuperFault Magic (image 0) ⊎ IsSuperFault Rest (image 0))
 HasFault size image BadVersion = (0 < size) × IsSuperFault Version (image 0)
-HasFault size image BadSize =
-    (size ≡ 0) ⊎ IsSuperFault Sizes (image 0) ⊎ IsTooShort size image
+HasFault size image BadSize = (size ≡ 0) ⊎ IsSuperFault Sizes (image 0) ⊎ IsTooShort size image
 HasFault size image BadHead =
     (shape : Shape) × HasShape size shape image × ((stamp : ℕ) → ¬ IsHead stamp (image 1))
 

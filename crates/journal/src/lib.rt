@@ -32,7 +32,7 @@ pub use naming_stage::NamingStage;
 pub use places::slot_of;
 pub use reader::RecordReader;
 pub use record::Record;
-pub use record_parts::{copy_place, early, parts, slot_place, write_part};
+pub use record_parts::{before_barrier, copy_place, parts, slot_place, write_part};
 pub use super_fault::SuperFault;
 pub use super_sector::Super;
 pub use v1::{Commit, Descriptor, commit_place, data_place, place_of, whole_record};

@@ -40,15 +40,16 @@ pub fn parts(format: LogFormat, count: usize) -> usize
     }
 }
 
-/// How many of them are flushed before the last one is written.
-pub fn early(format: LogFormat, count: usize) -> usize
+/// How many of them stand before its barrier: they are flushed before the others are written. None
+/// where it has no barrier.
+pub fn before_barrier(format: LogFormat, count: usize) -> usize
     requires { count ≤ 240 }
-    ensures { result ≡ (layout_of format).early count }
+    ensures { result ≡ (layout_of format).before_barrier count }
 {
     let count = count as u8;
     match format {
-        LogFormat::One => v1::early(count),
-        LogFormat::Two => v2::early(count),
+        LogFormat::One => v1::before_barrier(count),
+        LogFormat::Two => v2::before_barrier(count),
     }
 }
 

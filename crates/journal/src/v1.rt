@@ -11,5 +11,5 @@ pub use descriptor::Descriptor;
 pub(crate) use naming::{describe, is_ended};
 pub(crate) use places::{COMMIT, FIRST_DATA, GAP, LIMIT, SLOT_SECTORS};
 pub use places::{commit_place, data_place, place_of};
-pub(crate) use record::{early, parts, write_part};
+pub(crate) use record::{before_barrier, parts, write_part};
 pub use whole::whole_record;

@@ -15,4 +15,4 @@ pub(crate) use naming::{are_blocks, count_of, descriptor_of};
 pub(crate) use places::{COMMIT, ENTRIES, FIRST_DATA, GAP, LIMIT, SLOT_SECTORS};
 pub use places::{commit_place, data_place, descriptor_place, place_of};
 pub use record::descriptors;
-pub(crate) use record::{early, parts, write_part};
+pub(crate) use record::{before_barrier, parts, write_part};

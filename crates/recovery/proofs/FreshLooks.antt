@@ -1,21 +1,18 @@
 -- The calls that a start tells, and which sectors they read of an image in which no record waits.
-use Rattle.std.proofs.Common.{◌≡◌, ◌≢◌, ◌∙◌, refl, subst, inl, inr, ℕ, ◌+◌, ◌%◌, ◌<◌, ◌≤◌, List, [], length, arith, Result, Ok, Err}
+use Rattle.std.proofs.Common.{◌≡◌, ◌≢◌, ◌∙◌, refl, subst, inl, inr, ℕ, ◌+◌, ◌%◌, ◌<◌, ◌≤◌, List, [], length, arith, rules, Result, Ok, Err}
 use Rattle.std.proofs.lemmas.Nat.{mod_below}
-use Rattle.medium.specs.{Medium.{State, Image, IsSound}, declared.medium_call.Call.Call, declared.fault.MediumFault.MediumFault}
-use Rattle.medium.specs.{Performed.{Performed, fault_of, IsWithin, IsReadBy}, Machine.{TellsCall, IsLeft}, Tally.Tally}
-use Rattle.medium.specs.Tally.{one_more}
+use Rattle.medium.specs.{Medium.{State, Image, IsSound}, declared.{medium_call.Call.Call, fault.MediumFault.MediumFault}}
+use Rattle.medium.specs.{Performed.{Performed, fault_of, IsWithin, IsReadBy}, Machine.{TellsCall, IsLeft}, Tally.{Tally, one_more}}
 use Rattle.medium.proofs.SectorsRead.{looks_joined, looks_wider}
 use Rattle.spec.specs.Blocks.{Array}
 use Rattle.journal.specs.{Places.Shape, Layout.CarriesBelowIn, Format2.{format2, commit_place, IsCommitTwo}, Formats.CarriesBelow}
-use Rattle.journal.specs.{Formats.{HasWhole, layout_of, shape_of}, declared.record.Record.Record, Naming.{IsReader, IsReading, IsKnown}}
-use Rattle.journal.specs.{Naming.{IsToldAt, naming_place}, Sectors.{IsHead, IsSuper}, declared.naming_stage.NamingStage.NamingStage}
-use Rattle.journal.specs.declared.log_format.LogFormat.TheVariants.{Two}
-use Rattle.journal.proofs.{Engine.none_carried, Formats.laws_of, SectorNumbers.{IsSuper-one, IsHead-one}}
+use Rattle.journal.specs.{Formats.{HasWhole, layout_of, shape_of}, declared.{record.Record.Record, naming_stage.NamingStage.NamingStage}}
+use Rattle.journal.specs.{declared.log_format.LogFormat.TheVariants.Two, Naming.{IsReader, IsReading, IsKnown, IsToldAt, naming_place}}
+use Rattle.journal.{specs.Sectors.{IsHead, IsSuper}, proofs.{Engine.none_carried, Formats.laws_of, SectorNumbers.{IsSuper-one, IsHead-one}}}
 use Rattle.recovery.specs.{Calls.{IsFresh, IsReadOfFresh, LooksAtFresh}, HoldsStart.{HoldsStart, HoldsLook, IsFlushedFirst, IsCopying}}
 use Rattle.recovery.specs.{HoldsStart.{IsStartCall, IsSurveyCall, StartView}, Starting.{IsStarting, IsStartStep, start_left, start_kind}}
-use Rattle.recovery.specs.{declared.surveying.Surveying.Surveying, Copying.Copying, Causes.start_fault_of, Recovered.LeavesAtLeast}
-use Rattle.recovery.specs.{declared.starting.Starting.Starting, declared.start_point.StartPoint.StartPoint, declared.found.Found.Found}
-use Rattle.recovery.specs.Stages.{StartStage}
+use Rattle.recovery.specs.declared.{surveying.Surveying.Surveying, starting.Starting.Starting, start_point.StartPoint.StartPoint}
+use Rattle.recovery.specs.{declared.found.Found.Found, Copying.Copying, Causes.start_fault_of, Recovered.LeavesAtLeast, Stages.StartStage}
 use Rattle.recovery.proofs.{Looks.{at_point, stage_of, Goes, survey_held}, StartCopy.ran}
 use Rattle.journal.specs.declared.naming_stage.NamingStage.TheVariants as naming
 use Rattle.recovery.specs.declared.start_point.StartPoint.TheVariants as point
@@ -26,30 +23,22 @@ module _ (shape : Shape) (image : Image) (next : ℕ) (some : 1 ≤ shape.slots)
   no_commit : shape.format ≡ Two → (count : ℕ) → ¬ IsCommitTwo next count (image (commit_place (next % shape.slots)))
   no_commit two count is =
       let below : CarriesBelowIn format2 shape image next = rw two at carries in
-      let less = below (next % shape.slots) 248 next (mod_below next shape.slots some) (omega arith) (record {
-        most = omega (arith, is.most);
-        descriptor = λ few. absurd (omega (arith, few));
-        place = λ low few. absurd (omega (arith, few));
-        commit = λ late. (count, is);
-      }) in
+      let less = below (next % shape.slots) 248 next (mod_below next shape.slots some) (omega arith) (search (rules, arith, is)) in
       omega (arith, less)
 
   -- the next read of a survey is of what tells that the record is not there: no data place is named, nor read
   first_named : (at : NamingStage) (reads : ℕ) (read : Record) → IsReader shape at read → IsKnown shape image next reads at read
       → at ≢ naming.Missing → (at ≡ naming.Named → shape.format ≡ Two)
       → IsReading at × IsToldAt shape.format shape next (naming_place shape next at)
-  first_named naming.Descriptor reads read is known there two = (tt, rw (is.one refl) (inl refl))
-  first_named naming.Commit reads read is known there two = (tt, rw (is.behind_one refl).one (inr refl))
-  first_named naming.Commit2 reads read is known there two = (tt, rw (is.two refl) refl)
   first_named (naming.Descriptor2 count index) reads read is known there two =
       absurd (no_commit (is.behind_two count index refl).two count known.1.committed)
   first_named naming.Named reads read is known there two =
       absurd (no_commit (two refl) (length read.numbers.items) (rw (two refl) at known.exact).0)
-  first_named naming.Missing reads read is known there two = absurd (there refl)
+  first_named at reads read is known there two = grind (arith, is.one, is.behind_one, is.two, there)
 
 -- so is what is found behind the first flush: the sizes and the head of the image, and no record
 found_fresh : {shape other : Shape} {array : Array} {next head count : ℕ} {old mid : State} {content : Image}
-    → IsFresh shape array next old.content → IsFlushedFirst old mid → content ≡ mid.content → IsSuper other (mid.content 0)
+    → IsFresh shape array next old.content → IsFlushedFirst (Ok tt) old mid → content ≡ mid.content → IsSuper other (mid.content 0)
     → IsHead head (mid.content 1) → ((j : ℕ) → j < count → HasWhole other content (head + j))
     → (other ≡ shape) × (head ≡ next) × CarriesBelow shape content next × (count ≡ 0)
 found_fresh {shape} {other} {array} {next} {head} {count} {old} {mid} {content} fresh flushed same super is each =
@@ -66,7 +55,7 @@ found_fresh {shape} {other} {array} {next} {head} {count} {old} {mid} {content} 
 module _ {M : Type 0} {state : M → State} (sound : (m : M) → IsSound (state m)) {least : ℕ} {start m : M} {had : List ℕ}
     {shape : Shape} {array : Array} {next : ℕ} (fresh : IsFresh shape array next (state start).content) where
   -- the survey
-  survey_named : {mid : M} {head : ℕ} {survey : Surveying} {call : Call} → IsFlushedFirst (state start) (state mid)
+  survey_named : {mid : M} {head : ℕ} {survey : Surveying} {call : Call} → IsFlushedFirst (Ok tt) (state start) (state mid)
       → HoldsLook state least (stage.Survey head survey) had mid m → 0 < survey.left → IsSurveyCall survey.reader call
       → (s : ℕ) → IsReadBy call s → IsReadOfFresh shape next s
   survey_named {mid} {head} {survey} {call} flushed held due named s reads =

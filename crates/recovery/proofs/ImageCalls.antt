@@ -1,37 +1,23 @@
 -- The calls that write a new image, and what each leaves of what was shown before it.
-use Rattle.std.proofs.Common.{◌≡◌, ◌≢◌, ◌<◌, ◌≤◌, ◌+◌, ℕ, List, ◌∷◌, Ok, Err, OnOk, Result, refl, ◌∙◌, sym, ap, ⊎_elim, arith, rules}
+use Rattle.std.proofs.Common.{◌≡◌, ◌≢◌, ◌<◌, ◌≤◌, ◌+◌, ℕ, List, ◌∷◌, Ok, Err, OnOk, Result, refl, ◌∙◌, sym, ap, arith, rules}
 use Rattle.std.proofs.lemmas.Result.{on_ok_weaker}
-use Rattle.medium.specs.{declared.medium_call.Call.TheVariants.{Write, Flush}, Medium.{State, Image, Holds, IsSound, Passes}}
-use Rattle.medium.specs.{Moments.{EachCut, IsFlushed}, Machine.{TellsCall, Driven, Tallied}, Performed.Performed}
-use Rattle.medium.specs.{declared.fault.MediumFault.MediumFault, declared.medium_call.Call.Call, Tally.{none, of_all, one_more}}
-use Rattle.medium.proofs.{Driving.left_all, Moments.{after_write, shrunk, weaker}, Tallies.{calls_most, calls_all, sends_most}}
+use Rattle.medium.specs.{declared.{medium_call.Call.{TheVariants.{Write, Flush}, Call}, fault.MediumFault.MediumFault}, Medium.State}
+use Rattle.medium.specs.{Medium.{Image, Holds, IsSound, Passes}, Moments.{EachCut, IsFlushed}, Machine.{TellsCall, Driven, Tallied}}
+use Rattle.medium.{specs.{Performed.Performed, Tally.{none, of_all, one_more}}, proofs.{Driving.left_all, Moments.{each_write, each_flush}}}
+use Rattle.medium.proofs.{Moments.{shrunk, weaker}, Tallies.{calls_most, calls_all, sends_most}}
 use Rattle.recovery.specs.NewImage.{ImageView, Under, Shows, IsNew, IsPartOrNew, HasImage, MidwayImage, HoldsImage, MayBeImage, IsLive}
 use Rattle.recovery.specs.{NewImage.{IsAfter, image_left, calls_ahead, each_midway}, Calls.{Writes, AreMade}}
-use Rattle.recovery.specs.{declared.image_plan.ImagePlan.ImagePlan, declared.new_image.NewImage.NewImage}
-use Rattle.recovery.specs.declared.image_stage.ImageStage.{ImageStage}
+use Rattle.recovery.specs.declared.{image_plan.ImagePlan.ImagePlan, new_image.NewImage.NewImage, image_stage.ImageStage.ImageStage}
 use Rattle.recovery.proofs.JoinedCalls.{refused_call, none_read}
 use Rattle.medium.specs.declared.fault.MediumFault.TheVariants as fault
 use Rattle.recovery.specs.declared.image_stage.ImageStage.TheVariants as stage
 
-module _ {K : Image → Type 0} {old new : State} {bytes got : List ℕ} where
-  -- a write, good or refused: a cut leaves what it could leave, perhaps with that sector written
-  pub write_leaves : {result : Result (Unit {0}) MediumFault} {place : ℕ} (L : Image → Type 0) → IsSound old → EachCut K old
-      → Performed (Write place) bytes got result old new → ((image : Image) → K image → L image)
-      → ((before image : Image) → K before → Holds place bytes before image → L image) → EachCut L new
-  write_leaves {place = place} L sound cuts performed stays writes image cut =
-      ⊎_elim (λ was. stays image (cuts image was)) (λ w. writes w.0 image (cuts w.0 w.1) w.2)
-      (after_write old sound new.may_leave place bytes performed.adds image cut)
-
-  -- a good flush: a cut leaves what a read gives
-  pub flush_shows : {D : Image → Type 0} (E L : Image → Type 0) → IsSound old → Shows D K old
-      → Performed Flush bytes got (Ok tt) old new → (D old.content → K old.content → E old.content × L old.content) → Shows E L new
-  flush_shows E L sound shows performed becomes =
-      let both = becomes shows.content (shows.cuts old.content sound.holds_content) in
-      let same : new.content ≡ old.content = λ i s. performed.done.0 s i in
-      record {
-        content = rw same both.0;
-        cuts = λ image cut. let is : image ≡ old.content = λ i s. performed.done.1 s (image s) (cut s) i in rw is both.1;
-      }
+-- a good flush: a cut leaves what a read gives
+flush_shows : {old new : State} {bytes got : List ℕ} (E L : Image → Type 0) → Performed Flush bytes got (Ok tt) old new
+    → E old.content × L old.content → Shows E L new
+flush_shows {old = old} {new = new} E L performed both =
+    let same : new.content ≡ old.content = λ i s. performed.done.0 s i in
+    (rw same both.0, each_flush L old.content new performed.done.1 both.1)
 
 -- once less is left than behind the first good flush there is a part of the new image, or it
 late : (plan : ImagePlan) (under : Under) (at : ImageStage) (old : State) (image : Image) → IsLive at
@@ -52,14 +38,12 @@ module _ {M : Type 0} {state : M → State} {at : ImageStage} {plan : ImagePlan}
       grind (arith, held, was, now, held.calls live, sound.only_now image, cuts image, passes.nothing_else view.since image past since)
 
   -- the next call comes, or none
-  moved : of_all (image_left at plan.end) ≡ of_all (image_left next plan.end) + 1
-      → Shows (HasImage plan view.under next) (MidwayImage plan view.under next (state view.start)) (state n)
-      → (next ≡ stage.Made → IsFlushed (state n))
-      → ((k : M) → AreMade state (calls_ahead next plan.end) n k → AreMade state (calls_ahead at plan.end) m k)
-      → HoldsImage state next plan view n
+  moved : of_all (image_left at plan.end) ≡ of_all (image_left next plan.end) + 1 → Shows (HasImage plan view.under next)
+      (MidwayImage plan view.under next (state view.start)) (state n) → (next ≡ stage.Made → IsFlushed (state n)) → ((k : M)
+      → AreMade state (calls_ahead next plan.end) n k → AreMade state (calls_ahead at plan.end) m k) → HoldsImage state next plan view n
   moved one shows flushed ahead =
       let order = λ (k : M) (rest : AreMade state (calls_ahead next plan.end) n k). held.order live k (ahead k rest) in
-      grind (arith, held.plan_is, held.calls live, passes.calls_are, since_on shows.cuts, order)
+      grind (arith, held.plan_is, held.calls live, passes.calls_are, since_on shows.1, order)
 
   -- one was refused
   stopped : EachCut (MidwayImage plan view.under next (state view.start)) (state n) → HoldsImage state stage.Refused plan view n
@@ -70,8 +54,7 @@ abbrev pub TellsImage : {M : Type 0} → (M → State) → NewImage → List ℕ
 TellsImage {M = M} state s had call bytes =
     TellsCall {M = M} {S = NewImage} {V = ImageView M} state (λ s size. (s.plan.end ≤ size) × IsLive s.stage)
     (λ s had m view. HoldsImage state s.stage s.plan view m) (λ s. 0) (λ s. s.plan.end) (λ s. image_left s.stage s.plan.end) (Unit {0})
-    (λ s. 0 < (image_left s.stage s.plan.end).flushes)
-    (λ s got t. (t.plan ≡ s.plan) × IsAfter s.stage s.plan.end t.stage × IsLive t.stage)
+    (λ s. 0 < (image_left s.stage s.plan.end).flushes) (λ s got t. (t.plan ≡ s.plan) × IsAfter s.stage s.plan.end t.stage × IsLive t.stage)
     (λ s t. (t.plan ≡ s.plan) × (t.stage ≡ stage.Refused)) s had call bytes
 
 module _ {M : Type 0} {state : M → State} (sound : (m : M) → IsSound (state m)) (s : NewImage) {had bytes : List ℕ}
@@ -85,7 +68,7 @@ module _ {M : Type 0} {state : M → State} (sound : (m : M) → IsSound (state 
       → ((image : Image) → Holds place bytes now image → HasImage s.plan view.under next image)
       × ((image : Image) → MidwayImage s.plan view.under at (state view.start) image
       → MidwayImage s.plan view.under next (state view.start) image)
-      × ((before image : Image) → MidwayImage s.plan view.under at (state view.start) before → Holds place bytes before image
+      × ((before image : Image) → Holds place bytes before image → MidwayImage s.plan view.under at (state view.start) before
       → MidwayImage s.plan view.under next (state view.start) image))
       → TellsImage state s had (Write place) bytes
   tells_write place below more one ahead becomes = record {
@@ -94,18 +77,16 @@ module _ {M : Type 0} {state : M → State} (sound : (m : M) → IsSound (state 
     looks = tt;
     made = λ m n got view t fits held performed after.
         let h = rw is at held in
-        let b = becomes view (state m).content h.shows.content in
+        let b = becomes view (state m).content h.shows.0 in
         rw (after.0, leads t.stage (rw is at after.1)) (moved (sound m) h (rw is at fits.1) performed.passes next lives
         (omega (arith, ap of_all one)) (omega (arith, ap of_all one))
-        (record {
-          content = b.0 (state n).content performed.done;
-          cuts = write_leaves (MidwayImage s.plan view.under next (state view.start)) (sound m) h.shows.cuts performed b.1 b.2;
-        }) (λ e. absurd (more e)) (λ k rest. rw ahead (n, bytes, got, performed, rest)));
+        (b.0 (state n).content performed.done, each_write _ _ (state m) (state n) place bytes (sound m) performed.adds h.shows.1 b.1 b.2)
+        (λ e. absurd (more e)) (λ k rest. rw ahead (n, bytes, got, performed, rest)));
     refused = λ m n got view t e fits held performed gone.
         let h = rw is at held in
-        let b = becomes view (state m).content h.shows.content in
+        let b = becomes view (state m).content h.shows.0 in
         rw (gone.0, gone.1) (stopped (sound m) h (rw is at fits.1) performed.passes next lives (omega (arith, ap of_all one))
-        (write_leaves (MidwayImage s.plan view.under next (state view.start)) (sound m) h.shows.cuts performed b.1 b.2));
+        (each_write _ _ (state m) (state n) place bytes (sound m) performed.adds h.shows.1 b.1 b.2));
     rest = image_left next s.plan.end;
     pays = rw is one;
     rests = λ got t after. left_all (rw (after.0, leads t.stage (rw is at after.1)) refl);
@@ -114,10 +95,9 @@ module _ {M : Type 0} {state : M → State} (sound : (m : M) → IsSound (state 
   -- A flush: what the contents are, and what a cut may leave of them, is so of the next stage.
   pub tells_flush : image_left at s.plan.end ≡ one_more (image_left next s.plan.end) fault.Flush
       → calls_ahead at s.plan.end ≡ Flush ∷ calls_ahead next s.plan.end
-      → ((view : ImageView M) (now : Image) → HasImage s.plan view.under at now
-      → MidwayImage s.plan view.under at (state view.start) now
-      → HasImage s.plan view.under next now × MidwayImage s.plan view.under next (state view.start) now)
-      → IsLive at → TellsImage state s had Flush bytes
+      → ((view : ImageView M) (now : Image) → HasImage s.plan view.under at now → MidwayImage s.plan view.under at (state view.start) now
+      → HasImage s.plan view.under next now × MidwayImage s.plan view.under next (state view.start) now) → IsLive at
+      → TellsImage state s had Flush bytes
   tells_flush one ahead becomes live = record {
     due = rw is due;
     within = tt;
@@ -126,13 +106,13 @@ module _ {M : Type 0} {state : M → State} (sound : (m : M) → IsSound (state 
         let h = rw is at held in
         rw (after.0, leads t.stage (rw is at after.1)) (moved (sound m) h live performed.passes next lives
         (omega (arith, ap of_all one)) (omega (arith, ap of_all one))
-        (flush_shows (HasImage s.plan view.under next) (MidwayImage s.plan view.under next (state view.start)) (sound m) h.shows performed
-        (becomes view (state m).content)) (λ e s c left. performed.done.1 s c left ∙ sym (performed.done.0 s))
-        (λ k rest. rw ahead (n, bytes, got, performed, rest)));
+        (flush_shows (HasImage s.plan view.under next) (MidwayImage s.plan view.under next (state view.start)) performed
+        (becomes view (state m).content h.shows.0 (h.shows.1 (state m).content (sound m).holds_content)))
+        (λ e s c left. performed.done.1 s c left ∙ sym (performed.done.0 s)) (λ k rest. rw ahead (n, bytes, got, performed, rest)));
     refused = λ m n got view t e fits held performed gone.
         let h = rw is at held in
         rw (gone.0, gone.1) (stopped (sound m) h live performed.passes at live (omega arith)
-        (shrunk (MidwayImage s.plan view.under at (state view.start)) (state m) (state n) performed.adds h.shows.cuts));
+        (shrunk (MidwayImage s.plan view.under at (state view.start)) (state m) (state n) performed.adds h.shows.1));
     rest = image_left next s.plan.end;
     pays = rw is one;
     rests = λ got t after. left_all (rw (after.0, leads t.stage (rw is at after.1)) refl);
@@ -144,11 +124,10 @@ ends_made at end live left = grind arith
 
 -- the image is there where Ok, and a cut leaves no other
 image_ended : {M : Type 0} {state : M → State} (result : Result (Unit {0}) MediumFault) {at : ImageStage} {plan : ImagePlan}
-    {view : ImageView M} {m : M} → OnOk result (IsLive at) → OnOk result (image_left at plan.end ≡ none)
-    → HoldsImage state at plan view m
+    {view : ImageView M} {m : M} → OnOk result (IsLive at) → OnOk result (image_left at plan.end ≡ none) → HoldsImage state at plan view m
     → OnOk result (IsNew plan view.under (state m).content × IsFlushed (state m) × AreMade state view.calls view.start m)
 image_ended (Ok done) {at} {plan} live left held =
-    let made = rw (ends_made at plan.end live left) at held in (made.shows.content, made.flushed refl, made.order tt _ refl)
+    let made = rw (ends_made at plan.end live left) at held in (made.shows.0, made.flushed refl, made.order tt _ refl)
 image_ended (Err e) live left held = tt
 
 -- An image was written over these contents, good or refused: its calls, how it ended, and what a cut leaves from this moment on.

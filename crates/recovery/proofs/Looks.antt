@@ -2,25 +2,22 @@
 -- left of it, and how it ends.
 use Rattle.std.proofs.Common.{◌≡◌, ◌≢◌, ◌∙◌, sym, ⊎_elim, ℕ, ◌+◌, ◌*◌, ◌<◌, ◌≤◌, List, length, min, refl, ap, arith, rules, Result, Ok, Err}
 use Rattle.std.proofs.Common.{◌⊎◌, ◌-◌, OnOk, Option, MatchOption, IfSome}
-use Rattle.medium.specs.{Performed.{Performed, fault_of}, declared.medium_call.Call.TheVariants.{Read, Flush}, Medium.{State, IsSound}}
-use Rattle.medium.specs.{Moments.IsQuiet, Machine.{Tallied, IsLeft}, Tally.{of_all, Tally, none}, declared.medium_call.Call.Call}
-use Rattle.medium.specs.declared.fault.MediumFault.{MediumFault}
-use Rattle.medium.proofs.{Moments.{quiet_start, quiet_call, quiet_joined}, SectorsRead.{no_looks, looks_joined}, Driving.not_driven}
-use Rattle.medium.proofs.{Driving.{driven_call, driven_refused}, Tallies.{calls_most, none_made, refusal_counts}}
-use Rattle.journal.specs.{declared.super_sector.Super.Super, Places.{Shape, sectors_of}, Formats.shape_of, Standing.HasShape}
-use Rattle.journal.specs.{Naming.{IsReading, IsReader, names_left}, Reading.record_reads_of, declared.record.Record.Record}
-use Rattle.journal.specs.{declared.reader.RecordReader.RecordReader, declared.naming_stage.NamingStage.NamingStage}
-use Rattle.journal.proofs.SectorNumbers.{IsSuper-one}
+use Rattle.medium.proofs.{Driving.{driven_call, driven_refused, not_driven}, Moments.{quiet_call, quiet_joined, quiet_start}}
+use Rattle.medium.{proofs.{SectorsRead.{looks_joined, no_looks}, Tallies.{calls_most, none_made, refusal_counts}}, specs.Machine.IsLeft}
+use Rattle.medium.specs.{Machine.Tallied, Medium.{IsSound, State}, Moments.IsQuiet, Performed.{Performed, fault_of}, Tally.{Tally, none}}
+use Rattle.medium.specs.{Tally.of_all, declared.{fault.MediumFault.MediumFault, medium_call.Call.{Call, TheVariants.{Flush, Read}}}}
+use Rattle.journal.{proofs.SectorNumbers.IsSuper-one, specs.{Formats.shape_of, Naming.{IsReader, IsReading, names_left}, Places.Shape}}
+use Rattle.journal.specs.{Places.sectors_of, Reading.record_reads_of, Standing.HasShape, declared.naming_stage.NamingStage.NamingStage}
+use Rattle.journal.specs.declared.{reader.RecordReader.RecordReader, record.Record.Record, super_sector.Super.Super}
 use Rattle.recovery.specs.Causes.{SurveysAtMost, IsRefusalBy, IsSuperCause, AreCounts, AreTries, IsLookCause, WritesNothing, HasFewSlots}
-use Rattle.recovery.specs.Starting.{IsReadFirst, FindsSuper, FindsHead, IsNewSurvey, CanStart, CanLook, IsStarting, EndsStart, start_left}
-use Rattle.recovery.specs.{Starting.{both, home_calls, IsFoundOn, IsSurveyedOn}, HoldsStart.{HoldsLook, HasLooked, HasReadFirst, HasFound}}
+use Rattle.recovery.specs.Starting.{IsReadFirst, FindsSuper, FindsHead, IsNewSurvey, CanStart, CanLook, EndsStart, start_left, both}
+use Rattle.recovery.specs.{Starting.{home_calls, IsFoundOn, IsSurveyedOn}, HoldsStart.{HoldsLook, HasLooked, HasReadFirst, HasFound}}
 use Rattle.recovery.specs.{HoldsStart.{HasBegun, IsSurveyedSoFar, TellsSurvey, IsMidstart, IsFlushedFirst}, Calls.{HoldsLog, most_reads_of}}
 use Rattle.recovery.specs.{Surveying.{HoldsSurveyed, IsSurveyStep, surveys_left, CanSurvey}, declared.surveying.Surveying.Surveying}
-use Rattle.recovery.specs.{declared.start_fault.StartFault.StartFault, Copying.{CanCopy, copies_left}, declared.found.Found.Found}
-use Rattle.recovery.specs.{declared.start_point.StartPoint.StartPoint, declared.copy_step.CopyStep.CopyStep, Stages.{StartStage, stage_at}}
-use Rattle.recovery.specs.{Recovered.LeavesAtLeast, declared.starting.Starting.Starting}
-use Rattle.recovery.proofs.{WholeRecovery.{IsSurveyed, survey_leaves, refusal}, JoinedCalls.looked_on, SurveyedRecords.counts_made}
-use Rattle.recovery.proofs.SurveyedRecords.{not_tried}
+use Rattle.recovery.specs.declared.{start_fault.StartFault.StartFault, found.Found.Found, start_point.StartPoint.StartPoint}
+use Rattle.recovery.specs.{declared.{copy_step.CopyStep.CopyStep, starting.Starting.Starting}, Copying.{CanCopy, copies_left}}
+use Rattle.recovery.{specs.{Stages.{StartStage, stage_at}, Recovered.LeavesAtLeast}, proofs.WholeRecovery.{survey_leaves, refusal}}
+use Rattle.recovery.proofs.{JoinedCalls.looked_on, SurveyedRecords.not_tried}
 use Rattle.medium.specs.declared.fault.MediumFault.TheVariants as medium
 use Rattle.recovery.specs.declared.start_fault.StartFault.TheVariants as fault
 use Rattle.recovery.specs.Stages as stage
@@ -30,9 +27,8 @@ read_none : (m : State) → HasReadFirst 0 m m
 read_none m = grind (arith, quiet_start m, λ (near : ℕ) (holds : HoldsLog near m.size m.content). no_looks (λ s. s < near) m m refl)
 
 read_one : {count place : ℕ} {mid now new : State} {bytes got : List ℕ} {result : Result (Unit {0}) MediumFault}
-    → HasReadFirst count mid now
-    → ((near : ℕ) → HoldsLog near mid.size mid.content → place < near) → Performed (Read place) bytes got result now new
-    → HasReadFirst (count + 1) mid new
+    → HasReadFirst count mid now → ((near : ℕ) → HoldsLog near mid.size mid.content → place < near)
+    → Performed (Read place) bytes got result now new → HasReadFirst (count + 1) mid new
 read_one {mid = mid} {now = now} {new = new} so_far below performed =
     let quiet = quiet_joined mid now new so_far.quiet (quiet_call now new performed.passes performed.changes performed.adds) in
     let looks = λ (near : ℕ) (holds : HoldsLog near mid.size mid.content).
@@ -45,11 +41,6 @@ as_survey few r = grind (arith, r.reads, r.looks)
 -- nothing is read yet
 pub unread : (m : State) → SurveysAtMost m m
 unread m = as_survey (omega arith) (read_none m)
-
--- the read of the super, made or refused
-super_seen : {old new : State} {bytes got : List ℕ} {result : Result (Unit {0}) MediumFault} → Performed (Read 0) bytes got result old new
-    → HasReadFirst 1 old new
-super_seen {old = old} performed = read_one (read_none old) (λ near holds. holds.some) performed
 
 -- what is wrong with a super
 super_cause : (least : ℕ) {mid new : State} {bytes : List ℕ} (fault : StartFault) → 0 < mid.size → bytes ≡ mid.content 0
@@ -81,16 +72,9 @@ module _ {M : Type 0} {state : M → State} (sound : (m : M) → IsSound (state 
   -- it begins: there are sectors, or none
   pub look_begun : {sectors : ℕ} {next : StartStage} {got : List ℕ} → sectors ≡ (state mid).size → IsReadFirst sectors next
       → HoldsLook state least next got mid mid
-  look_begun size goes = grind (arith, unread (state mid), quiet_start (state mid))
+  look_begun size goes = grind (arith, unread (state mid), read_none (state mid), quiet_start (state mid))
 
   module _ {m n : M} {had bytes got : List ℕ} where
-    -- a call was made, and so much is known then
-    looked : {at next : StartStage} {call : Call} → HoldsLook state least at had mid m → IsStarting at
-        → Performed call bytes got (Ok tt) (state m) (state n) → SurveysAtMost (state mid) (state n) → HasLooked state least next got mid n
-        → HoldsLook state least next got mid n
-    looked held live performed reads midway =
-        record { reads = reads; well = λ on. performed.passes.failures_are ∙ held.well live; midway = midway }
-
     -- a read was refused
     pub look_refused : {at : StartStage} {call : Call} {e : MediumFault} → HoldsLook state least at had mid m
         → Performed call bytes got (Err e) (state m) (state n) → fault_of call ≡ medium.Read → SurveysAtMost (state mid) (state n)
@@ -99,19 +83,23 @@ module _ {M : Type 0} {state : M → State} (sound : (m : M) → IsSound (state 
         grind (arith, before.refused_stay medium.Read, performed.passes.refused_are)
 
     -- the read of the super, made or refused
+    super_seen : {result : Result (Unit {0}) MediumFault} → HoldsLook state least stage.ReadSuper had mid m
+        → Performed (Read 0) bytes got result (state m) (state n) → HasReadFirst 1 (state mid) (state n)
+    super_seen held performed = read_one held.midway (λ near holds. holds.some) performed
+
     pub super_read : {result : Result (Unit {0}) MediumFault} → HoldsLook state least stage.ReadSuper had mid m
         → Performed (Read 0) bytes got result (state m) (state n) → SurveysAtMost (state mid) (state n)
-    super_read held performed = as_survey (omega arith) (super_seen (rw held.midway at performed))
+    super_read held performed = as_survey (omega arith) (super_seen held performed)
 
     pub super_looked : {sectors : ℕ} {next : StartStage} → sectors ≡ (state m).size → 0 < sectors
         → HoldsLook state least stage.ReadSuper had mid m → Performed (Read 0) bytes got (Ok tt) (state m) (state n)
         → FindsSuper sectors got next → HoldsLook state least next got mid n
     super_looked size some held performed finds =
-        let size : _ ≡ (state mid).size = rw held.midway at size in
-        let made : Performed (Read 0) bytes got (Ok tt) (state mid) (state n) = rw held.midway at performed in
-        let seen = super_seen made in
-        let cause = λ (f : StartFault). super_cause least f (omega (arith, some, size)) made.done seen.quiet in
-        grind (arith, seen, super_read held performed, made, cause)
+        let seen = super_seen held performed in
+        let same = performed.done ∙ held.midway.quiet.content_stays 0 in
+        let here = size ∙ held.midway.quiet.size_stays in
+        let cause = λ (f : StartFault). super_cause least f (omega (arith, some, here)) same seen.quiet in
+        grind (arith, here, same, super_read held performed, performed, cause)
 
     module _ {sizes : Super} (held : HoldsLook state least (stage.ReadHead sizes) had mid m) where
       -- the read of the head, made or refused
@@ -139,34 +127,36 @@ module _ {M : Type 0} {state : M → State} (sound : (m : M) → IsSound (state 
             not_driven (λ s had m view holds image cut x. holds.quiet.sets_shrink x (image x) (cut x)) survey got n (sound n),
           )
       head_found (stage.Refused fault.BadHead) performed none =
-          let same = same_head performed in
-          (((shape_of sizes, held.midway.has, λ stamp is. none stamp (rw same is)), (head_seen performed).quiet), λ e. cc e)
+          (((shape_of sizes, held.midway.has, λ s is. none s (rw (same_head performed) is)), (head_seen performed).quiet), λ e. cc e)
       head_found (stage.Refused fault.LogTooSmall) performed small =
-          let head = rw (same_head performed) at small.1 in
-          ((search (rules, held.midway.has, head, small.2), (head_seen performed).quiet), λ e. cc e)
+          ((search (rules, held.midway.has, rw (same_head performed) at small.1, small.2), (head_seen performed).quiet), λ e. cc e)
       head_found next performed none = absurd none
 
       pub head_looked : {next : StartStage} → Performed (Read 1) bytes got (Ok tt) (state m) (state n) → FindsHead least sizes got next
           → HoldsLook state least next got mid n
-      head_looked {next = next} performed finds = looked held tt performed (head_read performed) (head_found next performed finds)
+      head_looked {next = next} performed finds = let midway = head_found next performed finds in
+          record { reads = head_read performed; well = λ on. performed.passes.failures_are ∙ held.well tt; midway = midway }
 
   module _ {head : ℕ} {survey : Surveying} {had : List ℕ} {m : M} (held : HoldsLook state least (stage.Survey head survey) had mid m) where
     abbrev at : HasBegun state least head mid
     at = held.midway.0
 
     -- the count is that of the image as it was
-    pub counted_at_end : survey.left ≡ 0 → (at.sizes ≡ survey.reader.sizes)
-        × AreCounts (shape_of at.sizes) (state mid).content head survey.waiting.items
-        × AreTries (shape_of at.sizes) (state mid).content head (min (length survey.waiting.items + 1) at.sizes.slots)
-        ((state mid).calls + 2) (state m).calls
+    pub counted_at_end : survey.left ≡ 0 → (at.sizes ≡ survey.reader.sizes) × AreCounts (shape_of at.sizes)
+        (state mid).content head survey.waiting.items × AreTries (shape_of at.sizes) (state mid).content head
+        (min (length survey.waiting.items + 1) at.sizes.slots) ((state mid).calls + 2) (state m).calls
     counted_at_end none =
         let surveyed = survey_held state held.midway.1 at.sizes head at.new in
         let end = surveyed.ended none in
         let same : (state at.began).content ≡ (state mid).content = λ i s. at.found.read.quiet.content_stays s i in
+        let few : length survey.waiting.items ≤ at.sizes.slots = omega (arith, surveyed.few) in
+        let are : AreCounts (shape_of at.sizes) (state at.began).content head survey.waiting.items = record {
+          is = record { few = few; whole = λ k below. let e = surveyed.each k below in (e.0, e.1); ends = end.ends };
+          each = surveyed.each;
+        } in
         let good : (state m).failures ≡ (state at.began).failures = omega (arith, held.midway.1.tallied.failures) in (
           surveyed.sizes_are,
-          rw same at (counts_made (shape_of at.sizes) (state at.began).content head (length survey.waiting.items) survey.waiting.items refl
-              (omega (arith, surveyed.few)) surveyed.each end.ends),
+          rw same at are,
           rw (same, at.found.read.calls) at (end.calls good),
         )
 
@@ -206,14 +196,10 @@ pub look_cause : (old new : State) (why : StartFault) → IsRefusalBy 0 IsQuiet 
     → IsLookCause old new why
 look_cause old new why h other = grind arith
 
--- a good flush, and what is read behind it
-pub surveyed_by : {old mid seen : State} → IsFlushedFirst old mid → SurveysAtMost mid seen → IsSurveyed (Ok tt) old mid seen
-surveyed_by f reads = grind arith
-
 module _ (least : ℕ) where
   -- what the flush and the reads leave
-  pub reads_leave : {old mid now : State} → IsFlushedFirst old mid → SurveysAtMost mid now → LeavesAtLeast least old now
-  reads_leave f reads = survey_leaves least (surveyed_by f reads)
+  pub reads_leave : {old mid now : State} → IsFlushedFirst (Ok tt) old mid → SurveysAtMost mid now → LeavesAtLeast least old now
+  reads_leave f reads = survey_leaves least f reads (λ more. f.only)
 
   -- the image has this fault, or the medium refused a call
   pub ended_by : {old new : State} (fault : StartFault) → LeavesAtLeast least old new → IsRefusalBy least WritesNothing old new fault
@@ -225,12 +211,12 @@ abbrev pub Goes : {M : Type 0} → (M → State) → ℕ → StartStage → List
 Goes state least at had start m = LeavesAtLeast least (state start) (state m) × IsMidstart state least at had start m
 
 module _ {M : Type 0} {state : M → State} {least : ℕ} {start mid n : M} {got : List ℕ}
-    (flushed : IsFlushedFirst (state start) (state mid)) where
+    (flushed : IsFlushedFirst (Ok tt) (state start) (state mid)) where
   -- it looks behind a good flush
   pub looked_start : (at : StartStage) → HoldsLook state least at got mid n → Goes state least at got start n
   looked_start (stage.Refused fault) held =
       let leaves = reads_leave least flushed held.reads in
-      (leaves, ended_by least fault leaves (refusal least (surveyed_by flushed held.reads) fault held.midway.0))
+      (leaves, ended_by least fault leaves (refusal least flushed held.reads fault held.midway.0))
   looked_start at held = grind (arith, reads_leave least flushed held.reads, held, flushed)
 
 module _ {M : Type 0} (state : M → State) (sound : (m : M) → IsSound (state m)) (least : ℕ) {m n : M} {bytes got : List ℕ} where
@@ -238,7 +224,8 @@ module _ {M : Type 0} (state : M → State) (sound : (m : M) → IsSound (state 
   pub flushed_first : {result : Result (Unit {0}) MediumFault} → Performed Flush bytes got result (state m) (state n)
       → LeavesAtLeast least (state m) (state n)
   flushed_first {result} performed = survey_leaves least {mid = state n} {result = result}
-      (grind (arith, sound m, sound n, performed.passes, performed.changes, performed.adds, unread (state n)))
+      (grind (arith, sound m, sound n, performed.passes, performed.changes, performed.adds, performed.done)) (unread (state n))
+      (λ more. absurd (omega (arith, more, performed.passes.calls_are)))
 
   pub first_made : {sectors : ℕ} {next : StartStage} → sectors ≡ (state m).size → Performed Flush bytes got (Ok tt) (state m) (state n)
       → IsReadFirst sectors next → Goes state least next got m n

@@ -1,31 +1,25 @@
 -- The second half of a start, call by call: the copies, what is home at their end, and the new head.
 use Rattle.std.proofs.Common.{◌≡◌, ◌∙◌, sym, refl, ⊎_elim, ℕ, ◌+◌, ◌*◌, ◌<◌, ◌≤◌, List, [], length, get_or, arith, Result, Ok, Err, ◌^◌}
 use Rattle.std.proofs.Common.{inl, rules}
-use Rattle.medium.specs.{declared.medium_call.Call.TheVariants.{Write, Flush}, Medium.{State, CutLeaves, IsSound}, Moments.LeavesOnly}
-use Rattle.medium.specs.{Moments.EachCut, Performed.Performed, declared.medium_call.Call.Call, declared.fault.MediumFault.MediumFault}
-use Rattle.medium.specs.Tally.{of_all}
-use Rattle.medium.proofs.{Driving.{not_driven, driven_call, driven_refused}, Tallies.{calls_most, sends_most}, Moments.at_exit}
-use Rattle.medium.proofs.Moments.{after_write, one_call}
-use Rattle.journal.specs.{Formats.{shape_of, IsWhole, HasWhole}, Places.{sectors_of, first_home, limit_of}, Record.Entry, Sectors.IsHead}
-use Rattle.journal.specs.Standing.{IsOurs}
+use Rattle.medium.specs.{declared.{medium_call.Call.{TheVariants.{Write, Flush}, Call}, fault.MediumFault.MediumFault}, Medium.State}
+use Rattle.medium.specs.{Medium.{CutLeaves, IsSound}, Moments.{LeavesOnly, EachCut}, Performed.Performed, Tally.of_all}
+use Rattle.medium.proofs.{Driving.{not_driven, driven_call, driven_refused}, Tallies.{calls_most, sends_most}, Moments.{at_exit, one_call}}
+use Rattle.medium.proofs.Moments.{after_write}
+use Rattle.journal.specs.{Formats.{shape_of, IsWhole}, Places.sectors_of, Record.Entry, Sectors.IsHead, Standing.IsOurs}
+use Rattle.journal.proofs.StandingLaws.{Stood, count_stands}
 use Rattle.recovery.specs.{Calls.{Copies, IsHomeInRecords, freed_at, most_calls_of, Writes}, Copying.{Copying, again, copies_left}}
 use Rattle.recovery.specs.{Copying.{HoldsCopied, IsCopyStep, TellsCopy}, Starting.{IsNewCopying, IsCopiedOn, IsSurveyedOn, found_by}}
 use Rattle.recovery.specs.{Starting.answer_of, HoldsStart.{IsCopiedSoFar, IsCopying, HasSurveyed, HasCopied, HoldsLook, IsFlushedFirst}}
 use Rattle.recovery.specs.{HoldsStart.{HasBegun, IsMovingHead, IsFlushedAgain, HasMovedHead}, Recovered.LeavesAtLeast}
-use Rattle.recovery.specs.{declared.found.Found.Found, Stages.StartStage, declared.surveying.Surveying.Surveying}
-use Rattle.recovery.proofs.{JoinedCalls.{quiet_after, refused_call, flush_writes, writes_on, none_waits}, CopiedBlocks.gathered}
-use Rattle.recovery.proofs.{CopiedBlocks.{not_copied, all_copied}, Looks.{surveyed_by, reads_leave, ended_by, looked_start, Goes}}
-use Rattle.recovery.proofs.{Looks.counted_at_end, WholeRecovery.{Moved, copies_leave, refusal, moves_leave, recovery_done}}
-use Rattle.journal.proofs.StandingLaws.{count_stands}
+use Rattle.recovery.specs.{declared.{found.Found.Found, surveying.Surveying.Surveying}, Stages.StartStage}
+use Rattle.recovery.proofs.{JoinedCalls.{refused_call, flush_writes, writes_on, none_waits}, CopiedBlocks.{not_copied, all_copied}}
+use Rattle.recovery.proofs.{Looks.{reads_leave, ended_by, looked_start, Goes, counted_at_end}, WholeRecovery.{Moved, copies_leave, refusal}}
+use Rattle.recovery.proofs.WholeRecovery.{moves_leave, recovery_done}
 use Rattle.recovery.specs.declared.start_fault.StartFault.TheVariants as fault
 use Rattle.recovery.specs.Stages as stage
 
 module _ {M : Type 0} {state : M → State} (sound : (m : M) → IsSound (state m)) {least : ℕ} {start : M} {found : Found} where
   module _ {seen : M} (surveyed : HasSurveyed state least found start seen) where
-    whole_seen : (j : ℕ) → j < found.count → HasWhole (shape_of found.sizes) (state seen).content (found.head + j)
-    whole_seen j below = quiet_after (λ n i. HasWhole (shape_of found.sizes) i (found.head + j)) (state surveyed.mid) (state seen)
-        surveyed.reads.only.quiet (surveyed.is.count.whole j below)
-
     module _ {first now : Copying} {had now_had : List ℕ} {n : M} {result : Result (Unit {0}) MediumFault} (new : IsNewCopying found first)
         (so_far : IsCopiedSoFar state first had seen result now now_had n) where
       -- it began with none copied
@@ -40,23 +34,24 @@ module _ {M : Type 0} {state : M → State} (sound : (m : M) → IsSound (state 
           (not_copied first.reader first.step _ _ (sym new.sizes_are) new.stamp_is (omega (arith, new.left_is, count)) new.i_is new.no_bytes
           (rw new.stamp_is (new.unread.knows)) whole)
 
-      pub copies_so_far : Copies {X = Unit {0}} (IsHomeInRecords (shape_of found.sizes) (state seen).content found.head found.count)
-          (λ s. s < first_home (shape_of found.sizes)) (most_calls_of found.sizes.format * found.count)
-          (limit_of found.sizes.format * found.count) (state seen) (state n) result
-      copies_so_far =
-          let all = gathered (λ j entries. IsWhole (shape_of found.sizes) (state seen).content (found.head + j) entries) found.count
-          whole_seen in
-          let run = rw all.1 at (ran all.0 (sym all.1) (λ k below. all.2 k (omega (arith, below, all.1)))) in
+      copies_by : Stood (state surveyed.mid).size (shape_of found.sizes) (state surveyed.mid).content found.head found.count
+          → Copies found (state seen) (state n) result
+      copies_by stood =
+          let same : (state seen).content ≡ (state surveyed.mid).content = λ i x. surveyed.reads.only.quiet.content_stays x i in
+          let run = rw stood.count_is at (ran stood.stands.records (sym stood.count_is)
+          (λ k below. rw (same, ← stood.head_is) (stood.stands.keeps.whole k below))) in
           let most : of_all (copies_left first.reader first.step) ≤ most_calls_of found.sizes.format * found.count =
           rw (← new.sizes_are, ← new.left_is) (grind arith) in
           let looks = rw new.sizes_are at so_far.looks in
           let sends = sends_most so_far.tallied in
           let refused = refused_call result so_far.tallied in
-          grind (arith, rw all.1 at run.1.at.elsewhere, run.0, calls_most so_far.tallied, most, sends, new, looks, refused)
+          grind (arith, rw stood.count_is at run.1.at.elsewhere, run.0, calls_most so_far.tallied, most, sends, new, looks, refused)
+
+      pub copies_so_far : Copies found (state seen) (state n) result
+      copies_so_far = let is = surveyed.is in copies_by (count_stands _ _ _ _ _ is.shape.fits is.shape.super is.head is.count)
 
       pub copies_leave_so_far : LeavesAtLeast least (state start) (state n)
-      copies_leave_so_far =
-          copies_leave least (surveyed_by surveyed.flushed surveyed.reads) surveyed.is (sound n) copies_so_far
+      copies_leave_so_far = copies_leave least surveyed.flushed surveyed.reads surveyed.flushed.only surveyed.is (sound n) copies_so_far
 
     -- the records that are to be copied, and none is left
     all_home : {first now : Copying} {had now_had : List ℕ} {n : M} → IsNewCopying found first
@@ -65,18 +60,13 @@ module _ {M : Type 0} {state : M → State} (sound : (m : M) → IsSound (state 
       seen = seen;
       surveyed = surveyed;
       copies = copies_so_far new so_far;
-      done = λ records count whole.
-          all_copied (ran new so_far records count whole).1 none (omega (arith, so_far.tallied.failures));
-      sound = sound n;
+      done = λ records count whole. all_copied (ran new so_far records count whole).1 none (omega (arith, so_far.tallied.failures));
     }
 
   -- records are copied, or all are home
   pub copied_on : {copying : Copying} {had : List ℕ} {n : M} {next : StartStage} → IsCopying state least found copying had start n
       → IsCopiedOn found copying next → Goes state least next had start n
-  copied_on at goes = (
-    copies_leave_so_far at.0.surveyed at.0.new at.1,
-    ⊎_elim (λ some. rw some.1 at) (λ none. rw none.1 (all_home at.0.surveyed at.0.new at.1 none.0)) goes,
-  )
+  copied_on at goes = grind (arith, copies_leave_so_far at.0.surveyed at.0.new at.1, at, all_home at.0.surveyed at.0.new at.1, goes)
 
   module _ {copying : Copying} {had bytes : List ℕ} {m : M} {call : Call}
       (at : IsCopying state least found copying had start m) (tells : TellsCopy state copying had call bytes) where
@@ -102,14 +92,13 @@ module _ {M : Type 0} {state : M → State} (sound : (m : M) → IsSound (state 
         fits_first at.1 tells performed e refl (again copying) refl)
 
 module _ {M : Type 0} {state : M → State} (sound : (m : M) → IsSound (state m)) {least : ℕ} {start mid n : M} {head : ℕ}
-    {survey : Surveying} {got : List ℕ} (flushed : IsFlushedFirst (state start) (state mid))
+    {survey : Surveying} {got : List ℕ} (flushed : IsFlushedFirst (Ok tt) (state start) (state mid))
     (held : HoldsLook state least (stage.Survey head survey) got mid n) where
   abbrev at : HasBegun state least head mid
   at = held.midway.0
 
   -- a stamp is left behind the records
-  survey_done : survey.left ≡ 0 → head + length survey.waiting.items + 1 < 2 ^ 63
-      → HasSurveyed state least (found_by head survey) start n
+  survey_done : survey.left ≡ 0 → head + length survey.waiting.items + 1 < 2 ^ 63 → HasSurveyed state least (found_by head survey) start n
   survey_done none left =
       let counted = counted_at_end sound held none in
       record { mid = mid; flushed = flushed; reads = held.reads; is = grind (arith, counted, at.found.has, at.head_is, left, at.room) }
@@ -123,7 +112,7 @@ module _ {M : Type 0} {state : M → State} (sound : (m : M) → IsSound (state 
       has.super at.head_is (counted_at_end sound held none).1.is in
       let leaves = reads_leave least flushed held.reads in (
         leaves,
-        ended_by least fault.StampsUsedUp leaves (refusal least (surveyed_by flushed held.reads) fault.StampsUsedUp
+        ended_by least fault.StampsUsedUp leaves (refusal least flushed held.reads fault.StampsUsedUp
             (at.room, (shape_of at.sizes, stood.array, _, stood.stands, used), held.reads.only.quiet)),
       )
 
@@ -131,7 +120,7 @@ module _ {M : Type 0} {state : M → State} (sound : (m : M) → IsSound (state 
   pub survey_on : {next : StartStage} → IsSurveyedOn head survey next → Goes state least next got start n
   survey_on goes = ⊎_elim (λ some. rw some.1 (looked_start flushed (stage.Survey head survey) held))
       (λ none. ⊎_elim (λ used. rw used.1 (survey_used_up none.0 used.0)) (λ on. copied_on sound (
-        record { seen = n; surveyed = survey_done none.0 on.0; sound = sound n; first = on.1; first_had = got; new = on.2 },
+        record { seen = n; surveyed = survey_done none.0 on.0; first = on.1; first_had = got; new = on.2 },
         not_driven (λ s had m view holds image cut x. holds.at.within x (image x) (cut x)) on.1 got n (sound n),
       ) on.3) none.1) goes
 
@@ -155,8 +144,8 @@ module _ {M : Type 0} {state : M → State} (sound : (m : M) → IsSound (state 
   moved_leave : {copied n : M} {count : ℕ} → count ≤ 3 → HasCopied state least found start copied
       → Writes {X = Unit {0}} (Moved found (state copied)) 2 count (state copied) (state n) (Ok tt)
       → LeavesAtLeast least (state start) (state n)
-  moved_leave few has moves = moves_leave least (surveyed_by has.surveyed.flushed has.surveyed.reads) has.surveyed.is has.sound has.copies
-      has.done few moves
+  moved_leave {copied} few has moves = let s = has.surveyed in
+      moves_leave least s.flushed s.reads s.flushed.only s.is (sound copied) has.copies has.done few moves
 
   -- one call more
   moved_on : {m n : M} {count : ℕ} {Now : Found → State → State → Type 0} {result : Result (Unit {0}) MediumFault}
@@ -182,9 +171,8 @@ module _ {M : Type 0} {state : M → State} (sound : (m : M) → IsSound (state 
           (moves, moved_leave (omega arith) has moves)
 
       -- the head is written
-      pub head_written : (at : IsMovingHead state least 1 IsFlushedAgain found start m)
-          → IsHead (found.head + found.count + 1) bytes → Performed (Write 1) bytes got result (state m) (state n)
-          → MovedBy state least found start at.copied 2 n
+      pub head_written : (at : IsMovingHead state least 1 IsFlushedAgain found start m) → IsHead (found.head + found.count + 1) bytes
+          → Performed (Write 1) bytes got result (state m) (state n) → MovedBy state least found start at.copied 2 n
       head_written at head performed = moved_on at
           (λ each. head_writes found (state at.copied) (sound m) at.now each head performed) performed.passes.calls_are (omega arith)
 
@@ -200,9 +188,9 @@ module _ {M : Type 0} {state : M → State} (sound : (m : M) → IsSound (state 
         let has = at.has in
         let stays = performed.done.0 in
         let moved = head_flushed at performed in
-        let both = recovery_done least (surveyed_by has.surveyed.flushed has.surveyed.reads) has.surveyed.is has.sound has.copies has.done
-        (state n) (grind (arith, stays, at.now)) (λ s c left. performed.done.1 s c left ∙ sym (stays s))
-        moved.0.exact in
+        let s = has.surveyed in
+        let both = recovery_done least s.flushed s.reads s.flushed.only s.is (sound at.copied) has.copies has.done (state n)
+        (grind (arith, stays, at.now)) (λ s c left. performed.done.1 s c left ∙ sym (stays s)) moved.0.exact in
         let clean = λ (shape : _) (array : _) (next : ℕ) (ours : IsOurs (state start).size shape (state start).content array next).
         none_waits (both.2 shape array next ours (state n).content (sound n).holds_content) in
         (moved.1, search (rules, both, moved.1, clean))

@@ -1,26 +1,22 @@
 -- Records are tried, call by call, and how many reads that takes.
 use Rattle.std.proofs.Common.{◌≡◌, ◌⊎◌, ◌∙◌, inl, inr, ◌+◌, ◌<◌, ◌≤◌, ℕ, List, [], ◌∷◌, ◌++◌, length, refl, sym, arith, ⊎_elim, None, Some}
 use Rattle.std.proofs.{Common.{slice_index, ◌*◌, ◌%◌, Ok, Err, Result, below_more, subst}, lemmas.List.{length-append, get_or_append_left}}
-use Rattle.std.proofs.{lemmas.List.get_or_push, lemmas.List.Sums.sum_by_push, lemmas.Nat.mod_below}
-use Rattle.medium.specs.{declared.medium_call.Call.TheVariants.Read, Medium.{Image, State}, Moments.IsQuiet, Performed.Performed}
-use Rattle.medium.specs.declared.fault.MediumFault.{MediumFault}
-use Rattle.journal.specs.{declared.log_format.LogFormat.TheVariants.{One, Two}, Reading.{StopsAtBad, ReadsUpToBad, HasDescriptor, HasPlace}}
-use Rattle.journal.specs.{Reading.{NamesBlocks, IsReadFor, IsReadForStamps, HasPlaces, data_at}, declared.log_format.LogFormat.LogFormat}
-use Rattle.journal.specs.{declared.record.Record.Record, Places.{Shape, first_home, first_data_of, limit_of}, Layout.slot_at}
-use Rattle.journal.specs.{Format2.{descriptors_of, format2}, Formats.{HasWhole, shape_of, layout_of}}
-use Rattle.journal.specs.{declared.reader.RecordReader.RecordReader, declared.naming_stage.NamingStage.NamingStage}
-use Rattle.journal.specs.{declared.naming_stage.NamingStage.TheVariants.Named, declared.super_sector.Super.Super, Naming.{IsKnown, IsFound}}
-use Rattle.journal.specs.Naming.{Learns, naming_place}
-use Rattle.journal.proofs.{SlotTwo.{each_there, commit_count}, SectorsRead.{stamped_whole, place_before}}
-use Rattle.recovery.specs.{Causes.{IsReadInSlot, IsTryTwo, IsTryOf, AreTriesOf, HasCount, AreCounts, AreTries}, Surveying.SurveyView}
-use Rattle.recovery.specs.Surveying.{HoldsSurveyed, HasTriedTo, IsTrying, IsCounted, TakesName, TakesPlace}
-use Rattle.medium.proofs.Moments.{quiet_call, quiet_joined, quiet_start}
-use Rattle.recovery.proofs.JoinedCalls.{long_as}
+use Rattle.std.proofs.lemmas.{List.{get_or_push, Sums.sum_by_push}, Nat.mod_below}
+use Rattle.medium.specs.{declared.{medium_call.Call.TheVariants.Read, fault.MediumFault.MediumFault}, Medium.{Image, State}}
+use Rattle.medium.{specs.{Moments.IsQuiet, Performed.Performed}, proofs.Moments.{quiet_call, quiet_joined, quiet_start}}
+use Rattle.journal.specs.declared.{log_format.LogFormat.{TheVariants.{One, Two}, LogFormat}, record.Record.Record}
+use Rattle.journal.specs.declared.{reader.RecordReader.RecordReader, naming_stage.NamingStage.{NamingStage, TheVariants.Named}}
+use Rattle.journal.specs.{declared.super_sector.Super.Super, Reading.{StopsAtBad, ReadsUpToBad, HasDescriptor, HasPlace, NamesBlocks}}
+use Rattle.journal.specs.{Reading.{IsReadFor, IsReadForStamps, HasPlaces, data_at}, Places.{Shape, first_home, first_data_of, limit_of}}
+use Rattle.journal.specs.{Layout.slot_at, Format2.{descriptors_of, format2}, Formats.{HasWhole, shape_of, layout_of}, Naming.IsKnown}
+use Rattle.journal.{specs.Naming.{IsFound, Learns, naming_place}, proofs.{SlotTwo.{each_there, commit_count}, SectorsRead.stamped_whole}}
+use Rattle.journal.proofs.SectorsRead.{place_before}
+use Rattle.recovery.specs.{Causes.{IsReadInSlot, IsTryTwo, IsTryOf, AreTriesOf, HasCount, AreTries}, Surveying.{SurveyView, HoldsSurveyed}}
+use Rattle.recovery.{specs.Surveying.{IsTrying, IsCounted, TakesName, TakesPlace}, proofs.JoinedCalls.long_as}
 
 -- there is one first bad one
 stops_once : (good : ℕ → Type 0) (many a b : ℕ) → StopsAtBad good many a → StopsAtBad good many b → a ≡ b
-stops_once good many a b x y =
-    grind (arith, x.before y.first, y.before x.first, x.bad, y.bad, x.reads_are, y.reads_are)
+stops_once good many a b x y = grind (arith, x.before y.first, y.before x.first, x.bad, y.bad, x.reads_are, y.reads_are)
 
 -- and so of the reads behind a commit, where what is named has all its descriptors
 behind_once : (named place : ℕ → Type 0) (names : Type 0) (many count a b : ℕ) → (names → (j : ℕ) → j < many → named j)
@@ -54,9 +50,8 @@ try_missed Two shape image stamp reads before after is made =
 
 -- and one that is there, once its data places were asked for the stamp
 pub try_read : (format : LogFormat) (shape : Shape) (image : Image) (stamp : ℕ) (read : Record) (reads places before mid after : ℕ)
-    → IsReadFor format shape image stamp (Some read) reads → mid ≡ before + reads
-    → IsReadForStamps format shape image stamp (length read.numbers.items) places → after ≡ mid + places
-    → IsTryOf format shape image stamp before after
+    → IsReadFor format shape image stamp (Some read) reads → mid ≡ before + reads → IsReadForStamps format shape image stamp
+    (length read.numbers.items) places → after ≡ mid + places → IsTryOf format shape image stamp before after
 try_read One shape image stamp read reads places before mid after is made none more = omega (arith, is, made, none, more)
 try_read Two shape image stamp read reads places before mid after is made asked more =
     let n : ℕ = length read.numbers.items in
@@ -81,25 +76,10 @@ tries_more One shape image first j old mid new before last = omega (arith, befor
 tries_more Two shape image first j old mid new before last = (
   before.0 ++ last.0 ∷ [],
   omega (arith, before.1, length-append before.0 (last.0 ∷ [])),
-  each_pushed (λ k n. IsTryTwo image (slot_at format2 shape (first + k))
-      (first + k) shape.blocks n) before.0 last.0 j before.1 before.2
-      last.1,
+  each_pushed
+      (λ k n. IsTryTwo image (slot_at format2 shape (first + k)) (first + k) shape.blocks n) before.0 last.0 j before.1 before.2 last.1,
   omega (arith, before.3, last.2, sum_by_push (λ x. x) before.0 last.0),
 )
-
--- all that were counted
-pub counts_made : (shape : Shape) (image : Image) (head j : ℕ) (counts : List ℕ) → length counts ≡ j → j ≤ shape.slots
-    → ((k : ℕ) → k < j → HasCount shape image (head + k) (slice_index counts k))
-    → (j < shape.slots → ¬ HasWhole shape image (head + j)) → AreCounts shape image head counts
-counts_made shape image head j counts long few each ends = record {
-  is = rw long (record { few = few; whole = λ k below. let e = each k below in (e.0, e.1); ends = ends });
-  each = rw long each;
-}
-
--- nothing is read yet of the record that is tried next
-at_next : {shape : Shape} {start now : State} {head : ℕ} {reader : RecordReader} {left place : ℕ} {waiting : List ℕ}
-    → HasTriedTo shape start now head reader left place waiting 0 now.calls → IsTrying shape start now head reader left place waiting
-at_next to = record { reads = 0; before = _; to = to }
 
 -- a data place is in the log
 pub data_place : (sizes : Super) (stamp i : ℕ) {slot place : ℕ} → slot ≡ stamp % sizes.slots
@@ -119,7 +99,7 @@ module _ {M : Type 0} {state : M → State} {reader : RecordReader} {left place 
   abbrev image : Image
   image = (state view.start).content
 
-  abbrev going : IsTrying (shape_of view.sizes) (state view.start) (state m) view.head reader left place waiting
+  abbrev going : IsTrying shape (state view.start) (state m) view.head reader left place waiting
   going = held.going due
 
   module _ {bytes got : List ℕ} {n : M} {at : ℕ} {result : Result (Unit {0}) MediumFault}
@@ -129,13 +109,12 @@ module _ {M : Type 0} {state : M → State} {reader : RecordReader} {left place 
 
     -- a record is tried further
     trying : {next : RecordReader} {after : ℕ} → next.sizes ≡ reader.sizes → next.stamp ≡ reader.stamp → (reads : ℕ)
-        → IsKnown (shape_of view.sizes) (state view.start).content next.stamp reads next.stage next.read
-        → HasPlaces (state view.start).content (slot_at format2 (shape_of view.sizes) next.stamp) next.stamp after
-        → ((state n).failures ≡ (state view.start).failures → ((state m).failures ≡ (state view.start).failures)
-        × ((state n).calls ≡ (held.going due).before + reads + after))
+        → IsKnown shape image next.stamp reads next.stage next.read → HasPlaces image (slot_at format2 shape next.stamp) next.stamp after
+        → ((state n).failures ≡ (state view.start).failures
+        → ((state m).failures ≡ (state view.start).failures) × ((state n).calls ≡ (held.going due).before + reads + after))
         → HoldsSurveyed state next left after waiting view n
     trying {next = next} {after = after} sizes stamp reads known places calls =
-        let still : IsTrying (shape_of view.sizes) (state view.start) (state n) view.head next left after waiting =
+        let still : IsTrying shape (state view.start) (state n) view.head next left after waiting =
         record { reads = reads; before = going.before; to = grind (arith, known, places, calls, going.to) } in
         grind (arith, held.sizes_are, sizes, quiet, held.few, held.each, still, due)
 
@@ -146,9 +125,9 @@ module _ {M : Type 0} {state : M → State} {reader : RecordReader} {left place 
       trying performed refl refl going.reads going.to.known going.to.places
       (λ none. absurd (omega (arith, none, failed, held.quiet.failures_stay)))
 
-  module _ (sized : (x : ℕ) → x < first_home (shape_of view.sizes) → length ((state view.start).content x) ≡ 512)
+  module _ (sized : (x : ℕ) → x < first_home shape → length (image x) ≡ 512)
       {bytes got : List ℕ} {n : M} {at : ℕ} (performed : Performed (Read at) bytes got (Ok tt) (state m) (state n)) where
-    read : got ≡ (state view.start).content at
+    read : got ≡ image at
     read = performed.done ∙ held.quiet.content_stays at
 
     abbrev Good : Type 0
@@ -180,7 +159,11 @@ module _ {M : Type 0} {state : M → State} {reader : RecordReader} {left place 
         let long : length (waiting ++ count ∷ []) ≡ length waiting + 1 = omega (arith, length-append waiting (count ∷ [])) in
         let tries = tried was in
         let still : IsTrying shape (state view.start) (state n) view.head next less after (waiting ++ count ∷ []) =
-        at_next (grind (arith, going.to, goes, long, goes.unread.knows image, held.sizes_are, tries)) in
+        record {
+          reads = 0;
+          before = (state n).calls;
+          to = grind (arith, going.to, goes, long, goes.unread.knows image, held.sizes_are, tries);
+        } in
         let each = each_pushed (λ k c. HasCount shape image (view.head + k) c) waiting count (length waiting) refl held.each
         (rw (← going.to.stamp_is) has) in
         rw same (grind (arith, held.sizes_are, sizes, quiet performed, long, going.to.left_is, goes.left_is, each, still, tries))
@@ -190,8 +173,7 @@ module _ {M : Type 0} {state : M → State} {reader : RecordReader} {left place 
       learned : (reads : ℕ) → IsKnown shape image reader.stamp reads reader.stage reader.read → {stage : NamingStage} {names : Record}
           → Learns (shape_of reader.sizes) reader.stamp reader.stage reader.read got stage names
           → IsKnown shape image reader.stamp (reads + 1) stage names
-      learned reads known learns =
-          rw held.sizes_are (learns.knows image reads (rw (← is) read) (rw held.sizes_are at known))
+      learned reads known learns = rw held.sizes_are (learns.knows image reads (rw (← is) read) (rw held.sizes_are at known))
 
       calls_now : Good → (state n).calls ≡ going.before + (going.reads + 1)
       calls_now none = omega (arith, (going.to.calls (none_before none)).1, first, performed.passes.calls_are)
@@ -230,8 +212,7 @@ module _ {M : Type 0} {state : M → State} {reader : RecordReader} {left place 
       here : got ≡ image (slot_at format2 shape reader.stamp + (8 + place))
       here = rw (held.sizes_are, ← is) read
 
-      was : (places : ℕ) → ReadsUpToBad Carries (length reader.read.numbers.items) places
-          → places ≡ place + 1 → Try
+      was : (places : ℕ) → ReadsUpToBad Carries (length reader.read.numbers.items) places → places ≡ place + 1 → Try
       was places asked all none = try_read view.sizes.format shape image reader.stamp reader.read going.reads places _ _ _ found.exact refl
           (grind (arith, format_is, asked)) (omega (arith, all, (going.to.calls (none_before none)).1, performed.passes.calls_are))
 
@@ -246,15 +227,14 @@ module _ {M : Type 0} {state : M → State} {reader : RecordReader} {left place 
           missed (was (place + 1)
           (inr (record { first = place; inside = below; before = going.to.places; bad = bad; reads_are = refl })) refl) (λ whole.
           let long = long_as whole.0 reader.read.numbers.items (found.all whole.0 whole.1).numbers_are in
-          let all = stamped_whole (shape_of view.sizes) image reader.stamp whole.0 whole.1 in
+          let all = stamped_whole shape image reader.stamp whole.0 whole.1 in
           bad (grind (arith, format_is, all, long, below))) sizes gone.none_left gone.counts_stay
       place_taken sizes (inr (inr whole)) =
           let all : (i : ℕ) → i < length reader.read.numbers.items → Carries i =
           λ i less. below_more Carries place going.to.places (rw here at whole.stamped) i (omega (arith, less, whole.last)) in
           let has = found.some sized (grind (arith, format_is, all)) in
           counted (was (place + 1) (inl (all, omega (arith, below, whole.last))) refl)
-          (has.0, has.1, long_as has.0 reader.read.numbers.items (found.all has.0 has.1).numbers_are) sizes whole.counted
-          whole.counts_are
+          (has.0, has.1, long_as has.0 reader.read.numbers.items (found.all has.0 has.1).numbers_are) sizes whole.counted whole.counts_are
 
 -- before the first call
 pub not_tried : {M : Type 0} {state : M → State} (reader : RecordReader) (left place : ℕ) (waiting : List ℕ) (view : SurveyView M)
@@ -264,5 +244,5 @@ pub not_tried : {M : Type 0} {state : M → State} (reader : RecordReader) (left
 not_tried {state = state} reader left place waiting view sizes stamp all first none some known =
     let none_yet = no_tries view.sizes.format (shape_of view.sizes) (state view.start).content in
     let still : IsTrying (shape_of view.sizes) (state view.start) (state view.start) view.head reader left place [] =
-    at_next (grind (arith, known (state view.start).content, none_yet)) in
+    record { reads = 0; before = (state view.start).calls; to = grind (arith, known (state view.start).content, none_yet) } in
     rw none (grind (arith, quiet_start (state view.start), still))

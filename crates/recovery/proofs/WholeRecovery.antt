@@ -1,52 +1,42 @@
 -- A whole recovery: a flush, reads, copies and the new head; what it leaves up to each of its exits, and why it is refused.
-use Rattle.std.proofs.Common.{◌≡◌, ◌⊎◌, inl, inr, ⊎_elim, ℕ, ◌+◌, ◌-◌, ◌*◌, ◌<◌, ◌≤◌, ◌^◌, List, [], length, get_or, sym, ◌∙◌, arith, rules}
-use Rattle.std.proofs.Common.{mul-le-mul_left, min, Result}
-use Rattle.medium.specs.{Medium.{State, Image, CutLeaves, Stays, Within, Only, Passes, LooksOnly, IsSound}, Moments.{EachCut, IsFlushed}}
-use Rattle.medium.specs.{Moments.{LeavesOnly, IsQuiet, SparesFrom}, Sent.SendsUpTo, declared.fault.MediumFault.MediumFault}
+use Rattle.std.proofs.Common.{◌≡◌, ◌⊎◌, inl, inr, ⊎_elim, ℕ, ◌+◌, ◌-◌, ◌*◌, ◌<◌, ◌≤◌, ◌^◌, length, sym, ◌∙◌, arith, rules, mul-le-mul_left}
+use Rattle.std.proofs.Common.{min, Result}
+use Rattle.medium.specs.{Medium.{State, Image, CutLeaves, Only, LooksOnly, IsSound}, Moments.{EachCut, IsFlushed, LeavesOnly, IsQuiet}}
+use Rattle.medium.{specs.{Moments.SparesFrom, Sent.SendsUpTo, declared.fault.MediumFault.MediumFault}, proofs.Moments.{joined_same, weaker}}
+use Rattle.medium.proofs.{Moments.{at_exit, only_image, quiet_call, quiet_joined, quiet_leaves}, SparedSectors.spared_quiet}
+use Rattle.medium.proofs.{SparedSectors.{spared_joined, spared_behind}, CallsSent.{none_sent, flush_sends}, SectorsRead.no_looks}
+use Rattle.medium.proofs.SectorsRead.{looks_joined}
 use Rattle.spec.specs.Blocks.{Array}
-use Rattle.medium.proofs.Moments.{joined_same, weaker, at_exit, only_image, quiet_call, quiet_joined, quiet_leaves}
-use Rattle.medium.proofs.{SparedSectors.{spared_quiet, spared_joined, spared_behind}, CallsSent.{none_sent, flush_sends}}
-use Rattle.medium.proofs.SectorsRead.{no_looks, looks_joined}
-use Rattle.journal.specs.{declared.log_format.LogFormat.LogFormat, declared.log_format.LogFormat.TheVariants.Two, Places.Shape}
-use Rattle.journal.specs.{Places.{first_home, sectors_of, limit_of}, Formats.{shape_of, layout_of, IsWhole}, Record.{Entry, home_of}}
-use Rattle.journal.specs.Standing.{StandsFor, IsOurs, Stands}
-use Rattle.journal.proofs.StandingLaws.{Stood, StandsFor-shape, count_stands, heads, counts, StandsFor-one, HasFault-stands}
-use Rattle.journal.proofs.{SectorNumbers.IsSuper-one, Formats.laws_of, Wholeness.CarriesBelow-agree}
+use Rattle.journal.specs.{declared.log_format.LogFormat.{LogFormat, TheVariants.Two}, Places.{Shape, first_home, sectors_of, limit_of}}
+use Rattle.journal.{specs.{Formats.{shape_of, layout_of}, Record.home_of, Standing.{StandsFor, IsOurs, Stands}}, proofs.StandingLaws.Stood}
+use Rattle.journal.proofs.{StandingLaws.{StandsFor-shape, count_stands, heads, counts, StandsFor-one, HasFault-stands}, Formats.laws_of}
+use Rattle.journal.proofs.{SectorNumbers.IsSuper-one, Wholeness.CarriesBelow-agree}
 use Rattle.recovery.specs.Calls.{copy_calls, most_calls_of, most_reads_of, most_start_of, most_start_sends, AreCopied, IsHomeInRecords}
-use Rattle.recovery.specs.{Calls.{HasNewHead, Copies, Writes, HoldsLog}, Causes.{WritesNothing, HasFewSlots, IsRefusalBy, IsDeviceFault}}
-use Rattle.recovery.specs.{Causes.{AreTriesOf, IsSurvey, SurveysAtMost, IsLookCause}, Recovered.{IsOursInEither, MigrationLeaves}}
-use Rattle.recovery.specs.Recovered.{most_migration_sends, IsRecoveryRefusal, IsRecoveredFrom, IsFresh, IsOursForSome, IsOursWithNext}
-use Rattle.recovery.specs.Recovered.{StandsForOneOf, StandsForSome, LeavesAtLeast, StartMoments, HasNoneWaiting}
-use Rattle.recovery.specs.{declared.start_fault.StartFault.StartFault, declared.found.Found.Found}
-use Rattle.recovery.specs.declared.start_fault.StartFault.TheVariants.{NoMemory, StampsUsedUp, LogTooSmall}
-use Rattle.recovery.proofs.JoinedCalls.{log_ends, not_in_log, spared_by, AreSame, copies_ours, fresh_ours, quiet_before, quiet_after}
-use Rattle.recovery.proofs.JoinedCalls.{looked_on}
+use Rattle.recovery.specs.{Calls.{HasNewHead, Copies, BringsHome, Writes, HoldsLog}, HoldsStart.IsFlushedFirst, Causes.WritesNothing}
+use Rattle.recovery.specs.Causes.{HasFewSlots, IsRefusalBy, IsDeviceFault, AreTriesOf, IsSurvey, SurveysAtMost, IsLookCause}
+use Rattle.recovery.specs.Recovered.{IsOursInEither, MigrationLeaves, most_migration_sends, IsRecoveryRefusal, IsRecoveredFrom, IsFresh}
+use Rattle.recovery.specs.Recovered.{IsOursForSome, IsOursWithNext, StandsForOneOf, StandsForSome, LeavesAtLeast, StartMoments}
+use Rattle.recovery.specs.{Recovered.HasNoneWaiting, declared.start_fault.StartFault.{StartFault, TheVariants.{NoMemory, StampsUsedUp}}}
+use Rattle.recovery.{specs.declared.{start_fault.StartFault.TheVariants.LogTooSmall, found.Found.Found}, proofs.JoinedCalls.log_ends}
+use Rattle.recovery.proofs.JoinedCalls.{not_in_log, spared_by, AreSame, copies_ours, fresh_ours, quiet_before, quiet_after, looked_on}
 use Rattle.journal.specs.Standing as image
-use Rattle.medium.specs.declared.fault.MediumFault.TheVariants as medium
 
 -- a look at contents that stand for something is refused by the device
-pub served_look : (old new : State) (fault : StartFault) → IsLookCause old new fault → Stands old.size old.content
-    → IsDeviceFault fault
+pub served_look : (old new : State) (fault : StartFault) → IsLookCause old new fault → Stands old.size old.content → IsDeviceFault fault
 served_look old new NoMemory h s = absurd h
-served_look old new fault h s =
-    let faultless = λ (f : image.ImageFault) (h : image.HasFault old.size old.content f). HasFault-stands old.size old.content f h s in
-    search (rules, faultless, h)
+served_look old new fault h s = search (rules, λ (f : image.ImageFault) (h : _). HasFault-stands old.size old.content f h s, h)
 
 -- and so is a start, with a stamp left and enough slots
-module _ (least : ℕ) (old new : State) (shape : Shape) (array : Array) (next : ℕ)
-    (s : StandsFor old.size shape old.content array next)
+module _ (least : ℕ) (old new : State) (shape : Shape) (array : Array) (next : ℕ) (s : StandsFor old.size shape old.content array next)
     (left : next < 2 ^ 63) (some : ¬ HasFewSlots least old.size old.content) where
   pub served_slots : (fault : StartFault) → IsRefusalBy least WritesNothing old new fault → IsDeviceFault fault
   served_slots NoMemory h = absurd h
-  served_slots StampsUsedUp h =
-      let w = h.1 in
-      absurd (omega (arith, (StandsFor-one old.size old.size w.0 shape old.content w.1 array w.2 next w.3 s).1, w.4, left))
+  served_slots StampsUsedUp h = absurd (omega (arith, (StandsFor-one _ _ _ _ _ _ _ _ _ h.1.3 s).1, h.1.4, left))
   served_slots LogTooSmall h = absurd (some h.0)
   served_slots fault h = served_look old new fault (search rules) (shape, array, next, s)
 
 -- a start that asks for no slots is refused as a recovery is
-pub recovery_refused : (old new : State) (fault : StartFault) → IsRefusalBy 0 WritesNothing old new fault
-    → IsRecoveryRefusal old new fault
+pub recovery_refused : (old new : State) (fault : StartFault) → IsRefusalBy 0 WritesNothing old new fault → IsRecoveryRefusal old new fault
 recovery_refused old new fault h =
     let served = λ (shape : Shape) (array : Array) (next : ℕ) (s : StandsFor old.size shape old.content array next) (left : next < 2 ^ 63).
     served_slots 0 old new shape array next s left (λ few. absurd (omega (arith, few.few))) fault h in
@@ -76,38 +66,19 @@ few_sent format slots old new few most sends = omega (arith, most, sends)
 abbrev pub Moved : Found → State → Image → Type 0
 Moved found copied image = CutLeaves copied.may_leave image ⊎ HasNewHead (found.head + found.count + 1) copied.content image
 
--- a flush was made, and behind a good one a survey
-pub record IsSurveyed (result : Result (Unit {0}) MediumFault) (old mid seen : State) : Type 0 where
-  pub sound : IsSound old
-  pub passes : Passes medium.Flush result old mid
-  pub content : Stays old.content mid.content
-  pub sets : Within mid.may_leave old.may_leave
-  pub sound_mid : IsSound mid
-  pub only : old.calls + 2 ≤ seen.calls → Only old.content mid.may_leave
-  pub reads : SurveysAtMost mid seen
-
--- the contents stand for something, with a stamp left and slots enough
-pub record IsServed (least : ℕ) (old : State) (shape : Shape) : Type 0 where
-  pub array : Array
-  pub next : ℕ
-  pub stands : StandsFor old.size shape old.content array next
-  pub left : next < 2 ^ 63
-  pub room : ¬ HasFewSlots least old.size old.content
-
 -- a start, and behind its first good flush other calls
-pub start_on : {Is : ℕ → Shape → Array → ℕ → Image → Type 0} {few_calls few_sends most_calls most_sends : LogFormat
-    → ℕ → ℕ} {least : ℕ}
-    {old mid new : State} {shape : Shape} → IsSound old → IsServed least old shape → StartMoments Is few_calls few_sends least old mid
-    → old.calls + 2 ≤ mid.calls
+pub start_on : {Is : ℕ → Shape → Array → ℕ → Image → Type 0} {few_calls few_sends most_calls most_sends : LogFormat → ℕ → ℕ} {least : ℕ}
+    {old mid new : State} {shape : Shape} {array : Array} {next : ℕ} → IsSound old → StandsFor old.size shape old.content array next → next
+    < 2 ^ 63 → (¬ HasFewSlots least old.size old.content) → StartMoments Is few_calls few_sends least old mid → old.calls + 2 ≤ mid.calls
     → ((array : Array) (next : ℕ) → IsOurs old.size shape old.content array next → LeavesOnly (Is old.size shape array next) mid new)
     → SparesFrom (sectors_of shape) mid new → LooksOnly (λ s. s < first_home shape) mid new
     → new.calls ≤ old.calls + 6 + most_calls shape.format shape.slots → most_calls shape.format shape.slots ≤ 738 * 64
     → SendsUpTo (most_sends shape.format shape.slots) old new → most_sends shape.format shape.slots ≤ most_start_sends Two 64
     → (HasNoneWaiting shape old.content → SendsUpTo (most_sends shape.format shape.slots - limit_of shape.format * shape.slots) old new)
     → StartMoments Is most_calls most_sends least old new
-start_on {Is} {old = old} {mid = mid} {new = new} {shape =
-    shape} sound served first begun ours spares looks calls all_calls sent all_sent clean =
-    let has = StandsFor-shape old.size shape old.content served.array served.next served.stands in
+start_on {Is} {old = old} {mid = mid} {new = new} {shape = shape} sound stands left room first begun ours spares looks calls all_calls sent
+    all_sent clean =
+    let has = StandsFor-shape _ _ _ _ _ stands in
     let one : (other : Shape) → image.HasShape old.size other old.content → other ≡ shape =
     λ other its. IsSuper-one other shape (old.content 0) its.super has.super in
     let later : (other : Shape) (array : Array) (next : ℕ) → IsOurs old.size other old.content array next
@@ -126,9 +97,9 @@ start_on {Is} {old = old} {mid = mid} {new = new} {shape =
       spares = record {
         behind = λ other its. rw (one other its)
             (spared_joined (sectors_of shape) old mid new (first.spares.behind shape has) spares);
-        unserved = λ none. let past = none shape served.array served.next served.stands in absurd (omega (arith, past, served.left));
+        unserved = λ none. let past = none shape _ _ stands in absurd (omega (arith, past, left));
       };
-      small = λ few. absurd (served.room few);
+      small = λ few. absurd (room few);
       moments = joined_same (λ _. Unit {0}) old mid new first.moments (weaker _ _ _ _ (λ image p. tt) spares.moments);
       calls = omega (arith, calls, all_calls);
       most = λ other its. rw (one other its) calls;
@@ -141,7 +112,8 @@ start_on {Is} {old = old} {mid = mid} {new = new} {shape =
       looks = looked_on shape old mid new has first.looks looks;
     }
 
-module _ (least : ℕ) {old mid seen : State} {result : Result (Unit {0}) MediumFault} (known : IsSurveyed result old mid seen) where
+module _ (least : ℕ) {old mid seen : State} {result : Result (Unit {0}) MediumFault} (known : IsFlushedFirst result old mid)
+    (reads : SurveysAtMost mid seen) where
   pub flushed : IsQuiet old mid
   flushed = quiet_call old mid known.passes known.content known.sets
 
@@ -150,59 +122,53 @@ module _ (least : ℕ) {old mid seen : State} {result : Result (Unit {0}) Medium
   back P h = quiet_before P old mid flushed h
 
   quiet : IsQuiet old seen
-  quiet = quiet_joined old mid seen flushed known.reads.only.quiet
+  quiet = quiet_joined old mid seen flushed reads.only.quiet
 
   same : seen.content ≡ old.content
   same = λ i s. quiet.content_stays s i
 
   one_sent : SendsUpTo 1 old seen
-  one_sent = omega (arith, flush_sends old mid known.passes, none_sent mid seen known.reads.only.reads)
+  one_sent = omega (arith, flush_sends old mid known.passes, none_sent mid seen reads.only.reads)
 
   -- from the first good flush up to the first write there is one image
-  seen_after : Only old.content mid.may_leave → (shape : Shape) (array : Array) (next : ℕ)
-      → IsOurs old.size shape old.content array next
+  seen_after : Only old.content mid.may_leave → (shape : Shape) (array : Array) (next : ℕ) → IsOurs old.size shape old.content array next
       → (image : Image) → seen.left_since (old.calls + 1) image → IsOursWithNext old.size shape array next image
   seen_after only shape array next ours image since =
       let here = rw (← known.passes.calls_are) at since in
       let is = only_image old.content mid.may_leave only image
       (⊎_elim (λ was. known.sound_mid.only_now image was) (λ now. now)
-      (known.reads.only.quiet.nothing_else mid.calls image (omega arith) here)) in
+      (reads.only.quiet.nothing_else mid.calls image (omega arith) here)) in
       inl (rw is ours)
 
-  -- the flush and the survey
-  pub survey_leaves : LeavesAtLeast least old seen
-  survey_leaves =
+  -- the flush, and behind a good one the survey
+  pub survey_leaves : (old.calls + 2 ≤ seen.calls → Only old.content mid.may_leave) → LeavesAtLeast least old seen
+  survey_leaves good =
       -- before the first call an image that is allowed stands for itself
       let cuts = λ (each : EachCut (IsOursForSome old.size) old). quiet_leaves (StandsForOneOf old) old seen known.sound
       (λ image cut. let e = each image cut in search (rules, e.3)) quiet in
       let moments = quiet_leaves (λ _. Unit {0}) old seen known.sound (λ image cut. tt) quiet in
       let most = λ (shape : Shape) (has : image.HasShape old.size shape old.content).
       most_start shape.format shape.slots old.calls mid.calls seen.calls seen.calls 0 known.passes.calls_are
-      (known.reads.most shape (quiet_after (λ n i. image.HasShape n shape i) old mid flushed has)) (omega arith) (omega arith) in
+      (reads.most shape (quiet_after (λ n i. image.HasShape n shape i) old mid flushed has)) (omega arith) (omega arith) in
       let clean = λ (shape : Shape) (has : image.HasShape old.size shape old.content) (none : HasNoneWaiting shape old.content).
       few_sent shape.format shape.slots old seen 1 (omega arith) one_sent in
       let looks = λ (near : ℕ) (holds : HoldsLog near old.size old.content). looks_joined (λ s. s < near) old mid seen
       (no_looks _ old mid (known.passes.looked_stays (λ e. cc e)))
-      (known.reads.only.looks near (quiet_after (λ n i. HoldsLog near n i) old mid flushed holds)) in
+      (reads.only.looks near (quiet_after (λ n i. HoldsLog near n i) old mid flushed holds)) in
       search
-      (rules, cuts, seen_after, known.only, moments, known.passes.calls_are, most, one_sent, clean, looks, spared_quiet, quiet, known.sound)
+      (rules, cuts, seen_after, good, moments, known.passes.calls_are, most, one_sent, clean, looks, spared_quiet, quiet, known.sound)
 
   -- a refusal by the survey is one by the flush and it
   pub refusal : (fault : StartFault) → IsRefusalBy least IsQuiet mid seen fault → IsRefusalBy least WritesNothing old seen fault
-  refusal NoMemory h = h
   refusal fault h =
-      let same = λ (f : image.ImageFault). back (λ n i. image.HasFault n i f) in
-      let few = back (λ n i. HasFewSlots least n i) in
-      let enough = back (λ n i. ¬ HasFewSlots least n i) in
       let wrote_nothing : WritesNothing old seen =
-      search (rules, quiet, known.reads.only.reads, known.passes.others_made, known.passes.made_is) in
-      search (rules, same, few, enough, back (λ n i. image.HasNoStampLeft n i), wrote_nothing)
+      search (rules, quiet, reads.only.reads, known.passes.others_made, known.passes.made_is) in
+      let here : mid.content ≡ old.content = λ i s. flushed.content_stays s i in
+      grind (arith, here, flushed, wrote_nothing)
 
-  module _ {copied : State} {found : _} {copies : Result (Unit {0}) MediumFault}
+  module _ {copied : State} {found : Found} {copies : Result (Unit {0}) MediumFault} (only : Only old.content mid.may_leave)
       (survey : IsSurvey least mid.size mid.content mid.calls seen.calls found) (sound : IsSound copied)
-      (copying : Copies (IsHomeInRecords (shape_of found.sizes) seen.content found.head found.count)
-      (λ s. s < first_home (shape_of found.sizes)) (most_calls_of found.sizes.format * found.count)
-      (limit_of found.sizes.format * found.count) seen copied copies) where
+      (copying : Copies found seen copied copies) where
     abbrev shape : Shape
     shape = shape_of found.sizes
 
@@ -211,8 +177,7 @@ module _ (least : ℕ) {old mid seen : State} {result : Result (Unit {0}) Medium
 
     -- for what the contents stand
     stood : Stood old.size shape old.content found.head found.count
-    stood =
-        count_stands old.size shape old.content found.head found.count at_old.shape.fits at_old.shape.super at_old.head at_old.count
+    stood = count_stands old.size shape old.content found.head found.count at_old.shape.fits at_old.shape.super at_old.head at_old.count
 
     -- a survey follows a good flush
     begun : old.calls + 2 ≤ seen.calls
@@ -229,10 +194,10 @@ module _ (least : ℕ) {old mid seen : State} {result : Result (Unit {0}) Medium
     copied_ours ours =
         let f = matches ours.stands in
         weaker _ _ _ _ (λ image cut. copies_ours ours found.head found.count f.0 f.1 image
-        (λ x. ⊎_elim (λ left. inl (known.only begun x (image x) (known.reads.only.quiet.sets_shrink x (image x) left)))
+        (λ x. ⊎_elim (λ left. inl (only x (image x) (reads.only.quiet.sets_shrink x (image x) left)))
         (λ home. inr (rw same at home)) (cut x))) copying.moments
 
-    copied_spares : SparesFrom (sectors_of (shape_of found.sizes)) seen copied
+    copied_spares : SparesFrom (sectors_of shape) seen copied
     copied_spares =
         -- nothing behind the image is at home
         let apart : (x : ℕ) → sectors_of shape ≤ x → ¬ IsHomeInRecords shape seen.content found.head found.count x =
@@ -240,20 +205,19 @@ module _ (least : ℕ) {old mid seen : State} {result : Result (Unit {0}) Medium
         spared_by (sectors_of shape) seen copied sound (λ s le. copying.elsewhere s (apart s le))
         (weaker _ _ _ _ (λ image cut s le. ⊎_elim (λ was. was) (λ place. absurd (apart s le place)) (cut s)) copying.moments)
 
-    copied_log : (x : ℕ) → x < first_home (shape_of found.sizes) → copied.content x ≡ old.content x
-    copied_log x below =
-        copying.elsewhere x (not_in_log shape seen.content found.head found.count x below) ∙ quiet.content_stays x
+    copied_log : (x : ℕ) → x < first_home shape → copied.content x ≡ old.content x
+    copied_log x below = copying.elsewhere x (not_in_log shape seen.content found.head found.count x below) ∙ quiet.content_stays x
 
     few : (new calls : ℕ) → calls ≤ 3 → new ≤ copied.calls + calls
         → new ≤ old.calls + 6 + most_start_of found.sizes.format * found.sizes.slots
     few new calls some made = most_start found.sizes.format found.sizes.slots old.calls mid.calls seen.calls new found.count
-        known.passes.calls_are (known.reads.most shape survey.shape) (omega (arith, copying.calls, some, made)) survey.count.few
+        known.passes.calls_are (reads.most shape survey.shape) (omega (arith, copying.calls, some, made)) survey.count.few
 
     sent_few : SendsUpTo (limit_of found.sizes.format * found.sizes.slots + 1) old copied
     sent_few = omega (arith, mul-le-mul_left (limit_of found.sizes.format) at_old.count.few, one_sent, copying.sent)
 
     -- where no record waits none is copied
-    sent_none : HasNoneWaiting (shape_of found.sizes) old.content → SendsUpTo 1 old copied
+    sent_none : HasNoneWaiting shape old.content → SendsUpTo 1 old copied
     sent_none none =
         let no_record : found.count ≡ 0 = grind (arith, none found.head at_old.head, at_old.count.whole 0) in
         omega (arith, one_sent, rw no_record at copying.sent)
@@ -262,18 +226,15 @@ module _ (least : ℕ) {old mid seen : State} {result : Result (Unit {0}) Medium
     pub copies_leave : LeavesAtLeast least old copied
     copies_leave =
         let most = most_of found.sizes.format found.sizes.slots found.sizes.most_slots in
-        start_on {shape = shape} known.sound (search (rules, stood.stands, at_old.stamp_left, at_old.room)) survey_leaves begun
-        (λ array next ours. weaker _ _ _ _ (λ image o. inl o) (copied_ours ours)) copied_spares copying.looks
+        start_on {shape = shape} known.sound stood.stands at_old.stamp_left at_old.room (survey_leaves (λ more. only))
+        begun (λ array next ours. weaker _ _ _ _ (λ image o. inl o) (copied_ours ours)) copied_spares copying.looks
         (few copied.calls 0 (omega arith) (omega arith)) most.0 (omega (arith, sent_few)) most.1
         (λ none. few_sent found.sizes.format found.sizes.slots old copied 1 (omega arith) (sent_none none))
 
     -- they were good: the records are home
-    module _ (done : (records : List (List Entry)) → found.count ≡ length records
-        → ((k : ℕ) → k < length records → IsWhole (shape_of found.sizes) seen.content (found.head + k) (get_or records k []))
-        → AreCopied (shape_of found.sizes) records seen copied) where
+    module _ (done : BringsHome found seen copied) where
       -- the records of what the contents stand for are copied
-      all_copied : {array : Array} {next : ℕ} (s : StandsFor old.size shape old.content array next)
-          → AreCopied shape s.records seen copied
+      all_copied : {array : Array} {next : ℕ} (s : StandsFor old.size shape old.content array next) → AreCopied shape s.records seen copied
       all_copied s = let f = matches s in done s.records f.1 (λ k less. rw (same, f.0) (s.keeps.whole k less))
 
       copied_home : {array : Array} {next : ℕ} → StandsFor old.size shape old.content array next
@@ -296,19 +257,16 @@ module _ (least : ℕ) {old mid seen : State} {result : Result (Unit {0}) Medium
           → Writes (Moved found copied) 2 count copied new moves → LeavesAtLeast least old new
       moves_leave {new = new} {count = count} some moves =
           let most = most_of found.sizes.format found.sizes.slots found.sizes.most_slots in
-          start_on {shape = shape} known.sound (search (rules, stood.stands, at_old.stamp_left, at_old.room)) copies_leave
-          (omega (arith, begun, copying.moments.later))
-          (λ array next ours. weaker _ _ _ _
+          start_on {shape = shape} known.sound stood.stands at_old.stamp_left at_old.room copies_leave
+          (omega (arith, begun, copying.moments.later)) (λ array next ours. weaker _ _ _ _
           (λ image either. ⊎_elim (λ cut. inl (at_exit _ seen copied sound (copied_ours ours) image cut))
           (λ moved. inr (fresh_ours at_old.shape.fits (moved_fresh ours moved))) either) moves.moments)
           (spared_behind 2 (sectors_of shape) copied new (omega arith) moves.spares)
           (no_looks _ copied new moves.reads.looked_stays) (few new.calls count some moves.calls) most.0
           (omega (arith, sent_few, moves.sent, some)) most.1
-          (λ none. few_sent found.sizes.format found.sizes.slots old new 4 (omega arith)
-          (omega (arith, sent_none none, moves.sent, some)))
+          (λ none. few_sent found.sizes.format found.sizes.slots old new 4 (omega arith) (omega (arith, sent_none none, moves.sent, some)))
 
-      module _ (new : State) (head : HasNewHead (found.head + found.count + 1) copied.content new.content)
-          (durable : IsFlushed new) where
+      module _ (new : State) (head : HasNewHead (found.head + found.count + 1) copied.content new.content) (durable : IsFlushed new) where
         pub recovery_done : new.calls ≡ copied.calls + 3
             → IsRecoveredFrom old new (record { sizes = found.sizes; next = found.head + found.count + 1 })
             × (¬ HasFewSlots least old.size old.content) × ((other : Shape) (array : Array) (next : ℕ)

@@ -1,21 +1,19 @@
 -- What the calls of a recovery, a migration or a format do, cost and make, and what a cut leaves.
-use Rattle.std.specs.Prelude.{◌≡◌, ◌≢◌, ◌⊎◌, ℕ, ◌+◌, ◌*◌, ◌<◌, ◌≤◌, List, [], ◌∷◌, length}
-use Rattle.std.specs.Prelude.{slice_index, replicate, Result, Ok, OnOk, IfErr, ◌^◌, ◌-◌, ◌++◌, map}
-use Rattle.std.specs.{Prelude.{Bool, if◌then◌else◌}, List.range_with_len}
-use Rattle.medium.specs.{declared.medium_call.Call.TheVariants.{Write, Flush}, Medium.State}
+use Rattle.std.specs.Prelude.{◌≡◌, ◌≢◌, ◌⊎◌, ℕ, ◌+◌, ◌*◌, ◌<◌, ◌≤◌, List, [], ◌∷◌, length, ◌++◌}
+use Rattle.std.specs.Prelude.{slice_index, get_or, replicate, Result, Ok, OnOk, IfErr, ◌^◌, ◌-◌}
+use Rattle.std.specs.{Prelude.{map, Bool, if◌then◌else◌}, List.range_with_len}
+use Rattle.medium.specs.declared.medium_call.Call.{TheVariants.{Write, Flush}, Call}
+use Rattle.medium.specs.{declared.fault.MediumFault.{MediumFault, TheVariants.Read}, Medium.State}
 use Rattle.medium.specs.{Medium.{Image, Sets, CutLeaves, LooksOnly, Holds}, Moments.LeavesOnly}
 use Rattle.medium.specs.{Moments.{SparesFrom, IsFlushed}, Performed.Performed, Sent.SendsUpTo}
-use Rattle.medium.specs.{declared.medium_call.Call.Call, declared.fault.MediumFault.MediumFault}
-use Rattle.medium.specs.declared.fault.MediumFault.TheVariants.{Read}
-use Rattle.journal.specs.declared.log_format.LogFormat.{LogFormat}
-use Rattle.journal.specs.{declared.log_format.LogFormat.TheVariants.{One, Two}, Record.Entry}
-use Rattle.journal.specs.{Record.{numbers_of, with_records, home_of}, Places.limit_of}
+use Rattle.journal.specs.declared.log_format.LogFormat.{LogFormat, TheVariants.{One, Two}}
+use Rattle.journal.specs.{Record.{Entry, numbers_of, with_records, home_of}, Places.limit_of}
 use Rattle.journal.specs.{Places.{slot_sectors_of, IsFirstHome}, Standing.{HasShape, IsOurs}}
 use Rattle.journal.specs.{Sectors.{IsHead, IsSuper}, Format2.descriptors_of, Formats.IsWhole}
-use Rattle.journal.specs.{Formats.CarriesBelow, Reading.IsRefusedCall, Naming.IsToldAt}
+use Rattle.journal.specs.{Formats.{shape_of, CarriesBelow}, Reading.IsRefusedCall, Naming.IsToldAt}
 use Rattle.spec.specs.Blocks.{Array}
-use Rattle.recovery.specs.declared.format_fault.FormatFault.{FormatFault}
-use Rattle.recovery.specs.declared.format_fault.FormatFault.TheVariants.{BadSize, Medium}
+use Rattle.recovery.specs.declared.format_fault.FormatFault.{FormatFault, TheVariants.BadSize}
+use Rattle.recovery.specs.declared.{format_fault.FormatFault.TheVariants.Medium, found.Found.Found}
 pub use Rattle.journal.specs.Places.{Shape, first_home, sectors_of}
 
 -- no read was made, and so none refused
@@ -113,18 +111,6 @@ pub record WritesAllPass {X : Type 0} (places : ℕ → Type 0) (P : Image → T
   pub exact : OnOk result (new.calls ≡ old.calls + count)
   pub cause : IfErr result (IsRefusedCall old new)
 
--- At most `most` calls, of which at most `sends` are writes and flushes. They copy to these
--- sectors: a cut may leave anything in them. Each read names one of those. An error is a call that
--- the medium refused.
-pub record Copies {X : Type 0} (places reads : ℕ → Type 0) (most sends : ℕ) (old new : State)
-    (result : Result X MediumFault) : Type 0 where
-  pub elsewhere : (x : ℕ) → ¬ places x → new.content x ≡ old.content x
-  pub moments : LeavesOnly (CutLeaves (freed_at places old.may_leave)) old new
-  pub calls : new.calls ≤ old.calls + most
-  pub sent : SendsUpTo sends old new
-  pub looks : LooksOnly reads old new
-  pub cause : IfErr result (IsRefusedCall old new)
-
 -- Calls that write, and read nothing: `count` where Ok, no more than that where the medium refused
 -- one. They spare the sectors from the end on. A cut at any moment of them leaves an image that has
 -- P.
@@ -169,6 +155,26 @@ pub record AreCopied (shape : Shape) (records : List (List Entry)) (old new : St
 abbrev pub most_calls_of : LogFormat → ℕ
 most_calls_of One = 98
 most_calls_of Two = 489
+
+-- Calls that copy the blocks of these records home, where a cut may leave anything. Each read names
+-- a sector of the log. An error is a call that the medium refused.
+pub record Copies (found : Found) (old new : State) (result : Result (Unit {0}) MediumFault)
+    : Type 0 where
+  pub elsewhere : (x : ℕ)
+      → ¬ IsHomeInRecords (shape_of found.sizes) old.content found.head found.count x
+      → new.content x ≡ old.content x
+  pub moments : LeavesOnly (CutLeaves (freed_at (IsHomeInRecords (shape_of found.sizes) old.content
+      found.head found.count) old.may_leave)) old new
+  pub calls : new.calls ≤ old.calls + most_calls_of found.sizes.format * found.count
+  pub sent : SendsUpTo (limit_of found.sizes.format * found.count) old new
+  pub looks : LooksOnly (λ s. s < first_home (shape_of found.sizes)) old new
+  pub cause : IfErr result (IsRefusedCall old new)
+
+-- they brought home each list of records that were whole there
+abbrev pub BringsHome : Found → State → State → Type 0
+BringsHome found old new = (records : List (List Entry)) → found.count ≡ length records
+    → ((k : ℕ) → k < length records → IsWhole (shape_of found.sizes) old.content (found.head + k)
+    (get_or records k [])) → AreCopied (shape_of found.sizes) records old new
 
 -- how many calls it takes at most to find out whether a record is whole
 abbrev pub most_reads_of : LogFormat → ℕ
@@ -228,8 +234,7 @@ pub record IsMade (shape : Shape) (array : Array) (end : ℕ) (old new : State) 
 
 -- the image has zeros in place of a super, or it is ours, for this array
 abbrev pub IsNoneOrNew : ℕ → Shape → Array → Image → Type 0
-IsNoneOrNew size shape array image =
-    (image 0 ≡ replicate 512 0) ⊎ IsOurs size shape image array 2
+IsNoneOrNew size shape array image = (image 0 ≡ replicate 512 0) ⊎ IsOurs size shape image array 2
 
 -- while an image is made it is one that was allowed before, none, or the new one
 abbrev pub IsMidway : Shape → Array → State → Image → Type 0
@@ -243,8 +248,7 @@ pub record ImageLeaves (shape : Shape) (array : Array) (end : ℕ) (old new : St
   -- From its first good flush on, the second call, no old image is left.
   -- A third call follows a good flush only.
   pub after_flush : old.calls + 3 ≤ new.calls → (image : Image)
-      → new.left_since (old.calls + 2) image
-      → IsNoneOrNew old.size shape array image
+      → new.left_since (old.calls + 2) image → IsNoneOrNew old.size shape array image
   pub spares : SparesFrom end old new
   -- nothing is read
   pub looked_stays : new.looked ≡ old.looked

@@ -1,15 +1,14 @@
 -- What the copying of records home and a medium hold between two calls.
 use Rattle.std.specs.Prelude.{◌≡◌, ◌≢◌, ◌⊎◌, ℕ, ◌+◌, ◌*◌, ◌-◌, ◌≤◌, ◌<◌, ◌^◌, List, [], length}
-use Rattle.std.specs.Prelude.{get_or, take, slice_index, Bool, true, false}
+use Rattle.std.specs.Prelude.{get_or, take, slice_index, Bool, true, false, if◌then◌else◌}
 use Rattle.medium.specs.{Medium.{State, Within}, Tally.Tally, Machine.TellsCall}
-use Rattle.medium.specs.{declared.medium_call.Call.Call, declared.fault.MediumFault.MediumFault}
+use Rattle.medium.specs.declared.{medium_call.Call.Call, fault.MediumFault.MediumFault}
 use Rattle.journal.specs.Naming.{IsReading, IsUnread, Learns, IsKnown, names_left}
 use Rattle.journal.specs.{Places.{first_home, sectors_of, limit_of}, Record.{Entry, with_records}}
 use Rattle.journal.specs.{Record.{home_of, block_of}, declared.log_format.LogFormat.LogFormat}
-use Rattle.journal.specs.{declared.record.Record.Record, declared.reader.RecordReader.RecordReader}
-use Rattle.journal.specs.declared.super_sector.Super.{Super}
-use Rattle.journal.specs.{declared.naming_stage.NamingStage.NamingStage, Formats.shape_of}
-use Rattle.journal.specs.{Formats.IsWhole, Reading.{data_at, record_reads_of}}
+use Rattle.journal.specs.declared.{record.Record.Record, reader.RecordReader.RecordReader}
+use Rattle.journal.specs.declared.{super_sector.Super.Super, naming_stage.NamingStage.NamingStage}
+use Rattle.journal.specs.{Formats.{shape_of, IsWhole}, Reading.{data_at, record_reads_of}}
 use Rattle.recovery.specs.Calls.{IsHomeInRecords, freed_at, copy_calls}
 use Rattle.recovery.specs.declared.copy_step.CopyStep.{CopyStep}
 use Rattle.medium.specs.declared.fault.MediumFault.TheVariants as medium
@@ -30,15 +29,10 @@ pub record CanCopy (reader : RecordReader) (step : CopyStep) : Type 0 where
   pub named : reader.stage ≡ stage.Named → step.i < length reader.read.numbers.items
   pub unnamed : reader.stage ≢ stage.Named → (step.i ≡ 0) × (step.has_bytes ≡ false)
 
--- one call, or none
-abbrev pub one_if : Bool → ℕ
-one_if true = 1
-one_if false = 0
-
 -- Of the calls that a record may take at most some are made, or spared it: reads, and writes.
 abbrev pub reads_spent : LogFormat → NamingStage → ℕ → ℕ → Bool → ℕ
 reads_spent format stage.Named n i has_bytes =
-    record_reads_of format + (limit_of format - (n - i)) + one_if has_bytes
+    record_reads_of format + (limit_of format - (n - i)) + (if has_bytes then 1 else 0)
 reads_spent format at n i has_bytes = record_reads_of format - names_left at
 
 abbrev pub writes_spent : LogFormat → NamingStage → ℕ → ℕ → ℕ
@@ -140,9 +134,8 @@ pub record HasHome {M : Type 0} (state : M → State) (reader : RecordReader) (s
   pub failures_grow : (state view.start).failures ≤ (state m).failures
   -- and as many calls were made as it takes
   pub calls : (state m).failures ≡ (state view.start).failures → (state m).calls
-      ≡ (state view.start).calls
-      + copy_calls view.sizes.format (take home view.records) + (reads + 2 * step.i
-      + one_if step.has_bytes)
+      ≡ (state view.start).calls + copy_calls view.sizes.format (take home view.records)
+      + (reads + 2 * step.i + (if step.has_bytes then 1 else 0))
 
 -- so for some
 pub record HoldsCopied {M : Type 0} (state : M → State) (reader : RecordReader) (step : CopyStep)

@@ -1,26 +1,22 @@
 -- What a start and a medium hold between two calls, and the calls that it tells.
-use Rattle.std.specs.Prelude.{◌≡◌, ◌≢◌, ◌⊎◌, ℕ, ◌+◌, ◌*◌, ◌<◌, ◌≤◌, List, length, get_or, []}
-use Rattle.std.specs.Prelude.{Result, Ok, Err}
+use Rattle.std.specs.Prelude.{◌≡◌, ◌≢◌, ◌⊎◌, ℕ, ◌+◌, ◌<◌, ◌≤◌, List, length, Result, Ok, Err, OnOk}
 use Rattle.medium.specs.Medium.{State, Image, CutLeaves, Only, Stays, Within, Passes, IsSound}
-use Rattle.medium.specs.declared.medium_call.Call.TheVariants.{Read, Write, Flush}
-use Rattle.medium.specs.{Moments.EachCut, Moments.IsQuiet, Machine.Driven, Machine.TellsCall}
-use Rattle.medium.specs.Performed.{fault_of}
-use Rattle.medium.specs.{declared.medium_call.Call.Call, declared.fault.MediumFault.MediumFault}
-use Rattle.journal.specs.Places.{first_home, sectors_of, limit_of}
-use Rattle.journal.specs.{declared.super_sector.Super.Super, Formats.shape_of, Formats.IsWhole}
-use Rattle.journal.specs.{Record.Entry, Sectors.IsHead, Standing.HasShape, Naming.naming_place}
-use Rattle.journal.specs.{Naming.IsReading, declared.reader.RecordReader.RecordReader}
-use Rattle.recovery.specs.Calls.{IsHomeInRecords, freed_at, Copies, AreCopied, most_calls_of}
-use Rattle.recovery.specs.Calls.{HasNewHead, Writes, LooksAtLog, LooksAtFresh}
-use Rattle.recovery.specs.Causes.{SurveysAtMost, IsSurvey, HasFewSlots, MakesReadsAlone}
-use Rattle.recovery.specs.Causes.{IsRefusalBy}
-use Rattle.recovery.specs.Copying.{Copying, CopyView, HoldsCopied, copies_left, copy_kind}
+use Rattle.medium.specs.declared.medium_call.Call.{TheVariants.{Read, Write, Flush}, Call}
+use Rattle.medium.specs.{declared.fault.MediumFault.MediumFault, Moments.{EachCut, IsQuiet}}
+use Rattle.medium.specs.{Machine.{Driven, TellsCall}, Performed.fault_of}
+use Rattle.journal.specs.{Places.{first_home, sectors_of}, declared.super_sector.Super.Super}
+use Rattle.journal.specs.{declared.reader.RecordReader.RecordReader, Formats.shape_of}
+use Rattle.journal.specs.{Sectors.IsHead, Standing.HasShape, Naming.{naming_place, IsReading}}
+use Rattle.recovery.specs.Calls.{IsHomeInRecords, freed_at, Copies, BringsHome, HasNewHead, Writes}
+use Rattle.recovery.specs.{Calls.{LooksAtLog, LooksAtFresh}, Causes.{SurveysAtMost, IsSurvey}}
+use Rattle.recovery.specs.{Causes.{HasFewSlots, MakesReadsAlone, IsRefusalBy}, Copying.Copying}
+use Rattle.recovery.specs.Copying.{CopyView, HoldsCopied, copies_left, copy_kind}
 use Rattle.recovery.specs.Surveying.{SurveyView, HoldsSurveyed, surveys_left, IsSurveyStep}
 use Rattle.recovery.specs.Recovered.{LeavesAtLeast, IsOursForSome, StandsForOneOf}
 use Rattle.recovery.specs.Starting.{EndsStart, IsStarting, IsNewSurvey, IsNewCopying}
-use Rattle.recovery.specs.{declared.surveying.Surveying.Surveying, Stages.StartStage}
+use Rattle.recovery.specs.declared.{surveying.Surveying.Surveying, found.Found.Found}
 use Rattle.recovery.specs.declared.start_fault.StartFault.TheVariants.{StampsUsedUp}
-use Rattle.recovery.specs.{declared.found.Found.Found}
+use Rattle.recovery.specs.Stages.{StartStage}
 use Rattle.recovery.specs.Stages as stage
 use Rattle.medium.specs.declared.fault.MediumFault.TheVariants as medium
 
@@ -33,14 +29,14 @@ pub record StartView (M : Type 0) : Type 0 where
   pub start : M
   pub least : ℕ
 
--- the first flush was good
-pub record IsFlushedFirst (old mid : State) : Type 0 where
+-- the first flush was made, or refused
+pub record IsFlushedFirst (result : Result (Unit {0}) MediumFault) (old mid : State) : Type 0 where
   pub sound : IsSound old
-  pub passes : Passes medium.Flush (Ok tt) old mid
+  pub passes : Passes medium.Flush result old mid
   pub content : Stays old.content mid.content
   pub sets : Within mid.may_leave old.may_leave
   pub sound_mid : IsSound mid
-  pub only : Only old.content mid.may_leave
+  pub only : OnOk result (Only old.content mid.may_leave)
 
 -- reads alone were made, so many, and of no sector that is no part of the log
 pub record HasReadFirst (count : ℕ) (mid now : State) : Type 0 where
@@ -112,7 +108,7 @@ module _ {M : Type 0} (state : M → State) (least : ℕ) where
 
   -- what is so before the next read of a look, or why it was refused
   abbrev pub HasLooked : StartStage → List ℕ → M → M → Type 0
-  HasLooked stage.ReadSuper had mid m = m ≡ mid
+  HasLooked stage.ReadSuper had mid m = HasReadFirst 0 (state mid) (state m)
   HasLooked (stage.ReadHead sizes) had mid m = HasFound sizes 1 (state mid) (state m)
   HasLooked (stage.Survey head survey) had mid m = (b : HasBegun head mid)
       × IsSurveyedSoFar state b.first b.first_had b.began (Ok tt) survey had m
@@ -130,7 +126,7 @@ module _ {M : Type 0} (state : M → State) (least : ℕ) where
   -- the survey came to its end, and found this
   pub record HasSurveyed (found : Found) (start seen : M) : Type 0 where
     pub mid : M
-    pub flushed : IsFlushedFirst (state start) (state mid)
+    pub flushed : IsFlushedFirst (Ok tt) (state start) (state mid)
     pub reads : SurveysAtMost (state mid) (state seen)
     pub is : IsSurvey least (state mid).size (state mid).content (state mid).calls
         (state seen).calls found
@@ -139,7 +135,6 @@ module _ {M : Type 0} (state : M → State) (least : ℕ) where
   pub record HasBegunCopying (found : Found) (start : M) : Type 0 where
     pub seen : M
     pub surveyed : HasSurveyed found start seen
-    pub sound : IsSound (state seen)
     pub first : Copying
     pub first_had : List ℕ
     pub new : IsNewCopying found first
@@ -153,16 +148,8 @@ module _ {M : Type 0} (state : M → State) (least : ℕ) where
   pub record HasCopied (found : Found) (start copied : M) : Type 0 where
     pub seen : M
     pub surveyed : HasSurveyed found start seen
-    pub copies : Copies {X = Unit {0}} (IsHomeInRecords (shape_of found.sizes)
-        (state seen).content found.head found.count)
-        (λ s. s < first_home (shape_of found.sizes))
-        (most_calls_of found.sizes.format * found.count)
-        (limit_of found.sizes.format * found.count) (state seen) (state copied) (Ok tt)
-    pub done : (records : List (List Entry)) → found.count ≡ length records
-        → ((k : ℕ) → k < length records → IsWhole (shape_of found.sizes) (state seen).content
-        (found.head + k) (get_or records k []))
-        → AreCopied (shape_of found.sizes) records (state seen) (state copied)
-    pub sound : IsSound (state copied)
+    pub copies : Copies found (state seen) (state copied) (Ok tt)
+    pub done : BringsHome found (state seen) (state copied)
 
   -- and behind them so many calls move the head
   pub record IsMovingHead (count : ℕ) (Now : Found → State → State → Type 0) (found : Found)
@@ -183,11 +170,10 @@ module _ {M : Type 0} (state : M → State) (least : ℕ) where
   IsMidstart (stage.FlushHead found) had start m = IsMovingHead 2 HasMovedHead found start m
   IsMidstart (stage.Started answer) had start m =
       EndsStart least (state start) (state m) (Ok answer)
-  IsMidstart (stage.Refused fault) had start m =
-      EndsStart least (state start) (state m) (Err fault)
+  IsMidstart (stage.Refused fault) had start m = EndsStart least (state start) (state m) (Err fault)
   -- behind a good flush it looks
   IsMidstart at had start m =
-      (mid : M) × IsFlushedFirst (state start) (state mid) × HoldsLook at had mid m
+      (mid : M) × IsFlushedFirst (Ok tt) (state start) (state mid) × HoldsLook at had mid m
 
   -- What a start and a medium hold, which stood so when it began: at each moment so far a cut has
   -- left what a recovery promises, no call was refused while one is left, and where no record waits

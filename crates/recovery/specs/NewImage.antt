@@ -1,11 +1,9 @@
 -- What a new image and a medium hold while it is written, and while sectors are cleared.
 use Rattle.std.specs.Prelude.{◌≡◌, ◌≢◌, ◌⊎◌, ℕ, ◌+◌, ◌-◌, ◌≤◌, ◌<◌, false, if◌then◌else◌, replicate}
-use Rattle.std.specs.Prelude.{List, [], ◌∷◌}
-use Rattle.std.proofs.Common.{arith}
-use Rattle.medium.specs.Medium.{State, Image, CutLeaves, Holds, Stays, Within}
-use Rattle.medium.specs.declared.medium_call.Call.{Call}
-use Rattle.medium.specs.{declared.medium_call.Call.TheVariants.{Write, Flush}, Moments.EachCut}
-use Rattle.medium.specs.{Moments.IsFlushed, Tally.{Tally, none, of_all}}
+use Rattle.std.{specs.Prelude.{List, [], ◌∷◌}, proofs.Common.arith}
+use Rattle.medium.specs.{Medium.{State, Image, CutLeaves, Holds, Stays, Within}, Moments.EachCut}
+use Rattle.medium.specs.{Moments.IsFlushed, declared.medium_call.Call.{Call, TheVariants.Write}}
+use Rattle.medium.specs.{declared.medium_call.Call.TheVariants.Flush, Tally.{Tally, none, of_all}}
 use Rattle.journal.specs.{Formats.shape_of, Sectors.IsHead}
 use Rattle.recovery.specs.Calls.{IsBetween, IsWritten, WithOrWithout, cleared_at, AreMade}
 use Rattle.recovery.specs.{Calls.zeros_and_head, declared.image_plan.ImagePlan.ImagePlan}
@@ -29,9 +27,8 @@ pub record ImageView (M : Type 0) : Type 0 where
   pub calls : List Call
 
 -- the contents have D, and each image that a cut now may leave has K
-pub record Shows (D K : Image → Type 0) (m : State) : Type 0 where
-  pub content : D m.content
-  pub cuts : EachCut K m
+abbrev pub Shows : (Image → Type 0) → (Image → Type 0) → State → Type 0
+Shows D K m = D m.content × EachCut K m
 
 module _ (plan : ImagePlan) (under : Under) where
   -- zeros from the first sector up to this one, over what was there

@@ -99,9 +99,8 @@ pub record StartMoments (Is : ℕ → Shape → Array → ℕ → Image → Type
   -- The first call flushes, and others follow only where it was good. From then on a cut leaves the
   -- array of the contents.
   pub after_flush : (shape : Shape) (array : Array) (next : ℕ)
-      → IsOurs old.size shape old.content array next → old.calls + 2 ≤ new.calls
-      → (image : Image) → new.left_since (old.calls + 1) image
-      → Is old.size shape array next image
+      → IsOurs old.size shape old.content array next → old.calls + 2 ≤ new.calls → (image : Image)
+      → new.left_since (old.calls + 1) image → Is old.size shape array next image
   pub spares : SparesTheRest old new
   -- nothing is written where there are fewer slots
   pub small : HasFewSlots least old.size old.content → SparesFrom 0 old new
@@ -118,8 +117,7 @@ pub record StartMoments (Is : ℕ → Shape → Array → ℕ → Image → Type
 abbrev pub LeavesAtLeast : ℕ → State → State → Type 0
 LeavesAtLeast least old new =
     StartMoments IsOursWithNext
-    (λ format slots. most_start_of format * slots) most_start_sends least
-    old new
+    (λ format slots. most_start_of format * slots) most_start_sends least old new
 
 -- so one that takes any log
 abbrev pub RecoveryLeaves : State → State → Type 0

@@ -1,12 +1,10 @@
 -- How far a start is, with what it knows there.
 use Rattle.std.specs.Prelude.{ℕ}
 use Rattle.journal.specs.declared.super_sector.Super.{Super}
-use Rattle.recovery.specs.declared.copy_step.CopyStep.{CopyStep}
-use Rattle.recovery.specs.declared.surveying.Surveying.{Surveying}
-use Rattle.recovery.specs.declared.recovered.Recovered.{Recovered}
-use Rattle.recovery.specs.declared.start_fault.StartFault.{StartFault}
+use Rattle.recovery.specs.declared.{copy_step.CopyStep.CopyStep, surveying.Surveying.Surveying}
+use Rattle.recovery.specs.{declared.recovered.Recovered.Recovered, Copying.{Copying, copying_of}}
+use Rattle.recovery.specs.declared.{start_fault.StartFault.StartFault, found.Found.Found}
 use Rattle.recovery.specs.declared.start_point.StartPoint.{StartPoint}
-use Rattle.recovery.specs.{Copying.Copying, Copying.copying_of, declared.found.Found.Found}
 use Rattle.recovery.specs.declared.start_point.StartPoint.TheVariants as point
 
 pub data StartStage : Type 0 where

@@ -2,25 +2,23 @@
 -- its end.
 use Rattle.std.specs.Prelude.{◌≡◌, ◌⊎◌, ℕ, ◌+◌, ◌*◌, ◌<◌, ◌≤◌, ◌^◌, List, [], length, Result, IfOk}
 use Rattle.std.specs.Prelude.{IfErr, OnOk, false}
-use Rattle.medium.specs.Tally.{Tally, none}
-use Rattle.medium.specs.{Medium.State, Moments.EachCut, declared.fault.MediumFault.MediumFault}
+use Rattle.medium.specs.{Tally.{Tally, none}, Medium.State, Moments.EachCut}
+use Rattle.medium.specs.declared.fault.MediumFault.{MediumFault}
 use Rattle.spec.specs.Blocks.{Array}
-use Rattle.journal.specs.declared.log_format.LogFormat.TheVariants.{One, Two}
-use Rattle.journal.specs.{declared.log_format.LogFormat.LogFormat}
-use Rattle.journal.specs.{declared.super_sector.Super.Super, Places.Shape, Places.sectors_of}
-use Rattle.journal.specs.{Places.limit_of, Formats.shape_of, Naming.IsUnread}
-use Rattle.journal.specs.{Reading.record_reads_of, Sectors.IsSuper, Sectors.IsHead, Standing.IsOurs}
+use Rattle.journal.specs.declared.log_format.LogFormat.{TheVariants.{One, Two}, LogFormat}
+use Rattle.journal.specs.{declared.super_sector.Super.Super, Places.{Shape, sectors_of, limit_of}}
+use Rattle.journal.specs.{Formats.shape_of, Naming.IsUnread, Reading.record_reads_of}
+use Rattle.journal.specs.{Sectors.{IsSuper, IsHead}, Standing.IsOurs}
 use Rattle.recovery.specs.Causes.{IsSuperCause, HasFewSlots, IsRefusalBy, WritesNothing}
-use Rattle.recovery.specs.Causes.{IsInspected, OnlyLooks, IsLookRefusal}
-use Rattle.recovery.specs.Copying.{Copying, CanCopy, copies_left, copy_kind, IsCopyStep}
-use Rattle.recovery.specs.Surveying.{surveys_left, IsSurveyStep}
-use Rattle.recovery.specs.Recovered.{LeavesAtLeast, IsRecoveredFrom, IsFresh, HasNoneWaiting}
+use Rattle.recovery.specs.{Causes.{IsInspected, OnlyLooks, IsLookRefusal}, Copying.Copying}
+use Rattle.recovery.specs.Copying.{CanCopy, copies_left, copy_kind, IsCopyStep}
+use Rattle.recovery.specs.{Surveying.{surveys_left, IsSurveyStep}, Recovered.LeavesAtLeast}
+use Rattle.recovery.specs.Recovered.{IsRecoveredFrom, IsFresh, HasNoneWaiting}
 use Rattle.recovery.specs.{Calls.most_reads_of, declared.surveying.Surveying.Surveying}
-use Rattle.recovery.specs.{declared.found.Found.Found, declared.inspection.Inspection.Inspection}
-use Rattle.recovery.specs.{declared.recovered.Recovered.Recovered}
-use Rattle.recovery.specs.{declared.start_fault.StartFault.StartFault}
-use Rattle.recovery.specs.{declared.copy_step.CopyStep.CopyStep}
-use Rattle.recovery.specs.{declared.start_point.StartPoint.StartPoint}
+use Rattle.recovery.specs.declared.{found.Found.Found, inspection.Inspection.Inspection}
+use Rattle.recovery.specs.declared.recovered.Recovered.{Recovered}
+use Rattle.recovery.specs.declared.{start_fault.StartFault.StartFault, copy_step.CopyStep.CopyStep}
+use Rattle.recovery.specs.declared.start_point.StartPoint.{StartPoint}
 pub use Rattle.recovery.specs.Stages.{StartStage, stage_at}
 use Rattle.medium.specs.declared.fault.MediumFault.TheVariants as medium
 use Rattle.recovery.specs.declared.start_fault.StartFault.TheVariants as fault
@@ -218,8 +216,7 @@ IsStartStep sectors least (stage.Copy found copying) got next = (after : Copying
     × IsCopiedOn found after next
 IsStartStep sectors least (stage.FlushCopies found) got next = next ≡ stage.WriteHead found
 IsStartStep sectors least (stage.WriteHead found) got next = next ≡ stage.FlushHead found
-IsStartStep sectors least (stage.FlushHead found) got next =
-    next ≡ stage.Started (answer_of found)
+IsStartStep sectors least (stage.FlushHead found) got next = next ≡ stage.Started (answer_of found)
 IsStartStep sectors least at got next = ⊥
 
 -- the kind of the next call

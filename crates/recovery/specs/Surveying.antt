@@ -4,11 +4,10 @@ use Rattle.std.specs.Prelude.{length, min, slice_index}
 use Rattle.medium.specs.{Medium.State, Moments.IsQuiet, Tally.Tally}
 use Rattle.journal.specs.Naming.{IsReading, IsUnread, Learns, IsKnown, names_left, HasStamps}
 use Rattle.journal.specs.{Naming.HasNoStamps, declared.log_format.LogFormat.LogFormat}
-use Rattle.journal.specs.{declared.record.Record.Record, declared.reader.RecordReader.RecordReader}
-use Rattle.journal.specs.declared.super_sector.Super.{Super}
-use Rattle.journal.specs.{declared.naming_stage.NamingStage.NamingStage, Format2.place_bytes}
-use Rattle.journal.specs.{Format2.format2, Layout.slot_at, Places.Shape, Formats.shape_of}
-use Rattle.journal.specs.{Formats.HasWhole, Reading.{HasPlaces, record_reads_of}}
+use Rattle.journal.specs.declared.{record.Record.Record, reader.RecordReader.RecordReader}
+use Rattle.journal.specs.declared.{super_sector.Super.Super, naming_stage.NamingStage.NamingStage}
+use Rattle.journal.specs.{Format2.{place_bytes, format2}, Layout.slot_at, Places.Shape}
+use Rattle.journal.specs.{Formats.{shape_of, HasWhole}, Reading.{HasPlaces, record_reads_of}}
 use Rattle.recovery.specs.{Calls.most_reads_of, Causes.{AreTries, HasCount}}
 use Rattle.journal.specs.declared.naming_stage.NamingStage.TheVariants as stage
 
@@ -133,8 +132,7 @@ pub record IsTrying (shape : Shape) (start now : State) (head : ℕ) (reader : R
   pub to : HasTriedTo shape start now head reader left place waiting reads before
 
 -- the record of the next stamp is not whole, or all slots were tried
-pub record HasTried (shape : Shape) (start now : State) (head : ℕ) (waiting : List ℕ)
-    : Type 0 where
+pub record HasTried (shape : Shape) (start now : State) (head : ℕ) (waiting : List ℕ) : Type 0 where
   pub ends : length waiting < shape.slots → ¬ HasWhole shape start.content (head + length waiting)
   pub calls : now.failures ≡ start.failures → AreTries shape start.content head
       (min (length waiting + 1) shape.slots) start.calls now.calls

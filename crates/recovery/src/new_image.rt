@@ -88,7 +88,7 @@ impl<M: Medium> Machine<M> for NewImage {
     }
 
     ghost leaves = { λ s had m view holds image cut. rw holds.plan_is (each_midway s.plan view.under
-        s.stage (M.state view.start) image (holds.shows.cuts image cut)) };
+        s.stage (M.state view.start) image (holds.shows.1 image cut)) };
 
     ghost room = { λ s size fits. fits.0 };
 

@@ -1,19 +1,13 @@
 -- The data place that comes next of the record under way, and what is written there.
 use Rattle.std.proofs.Common.{◌≡◌, ℕ, ◌+◌, ◌-◌, ◌*◌, ◌%◌, ◌<◌, ◌≤◌, List, [], length, take, drop, sym, ◌∙◌, ap, arith, Result}
-use Rattle.medium.specs.{Medium.State, Medium.IsSound, Performed.Performed}
-use Rattle.medium.specs.declared.fault.MediumFault.{MediumFault}
+use Rattle.medium.specs.{Medium.{State, IsSound}, Performed.Performed, declared.fault.MediumFault.MediumFault}
 use Rattle.medium.specs.declared.medium_call.Call.TheVariants.{Write}
-use Rattle.journal.specs.declared.log_format.LogFormat.{LogFormat}
-use Rattle.journal.specs.declared.log_format.LogFormat.TheVariants.{One, Two}
-use Rattle.journal.specs.{Places.first_data_of, Places.limit_of, Format2.place_bytes, Formats.layout_of}
-use Rattle.journal.specs.Record.{Entry, block_of, entries_of}
-use Rattle.journal.proofs.BatchEntries.{entry_of_batch, length_of_batch}
-use Rattle.journal.proofs.{Wholeness.by_place, Formats.laws_of, Formats.most_is}
-use Rattle.redo_log.specs.{Value.LogValue, Held.made_of, Shown.written_at}
-use Rattle.redo_log.specs.Halfway.{IsFlushDue, IsNextCall, IsNextData}
-use Rattle.redo_log.specs.Steps.{CanStep, StepCalled}
-use Rattle.redo_log.proofs.RecordSteps.{IsLog, written_is, flush_of_is}
-use Rattle.redo_log.proofs.{HeldLog.before_home, StoreFacts.step_called}
+use Rattle.journal.specs.{declared.log_format.LogFormat.LogFormat, declared.log_format.LogFormat.TheVariants.{One, Two}}
+use Rattle.journal.specs.{Places.{first_data_of, limit_of}, Format2.place_bytes, Formats.layout_of, Record.{Entry, block_of, entries_of}}
+use Rattle.journal.proofs.{BatchEntries.{entry_of_batch, length_of_batch}, Wholeness.by_place, Formats.{laws_of, most_is}}
+use Rattle.redo_log.specs.{Value.LogValue, Held.made_of, Shown.written_at, Halfway.IsNextData, Told.{IsFlushDue, IsNextCall}, Steps.CanStep}
+use Rattle.redo_log.specs.Steps.{StepCalled}
+use Rattle.redo_log.proofs.{RecordSteps.{IsLog, written_is, flush_of_is}, HeldLog.before_home, StoreFacts.step_called}
 
 -- the parts before the data places
 abbrev pub descriptors : LogFormat → ℕ → ℕ
@@ -27,7 +21,8 @@ offset_is Two n made behind below = grind (arith, by_place)
 
 -- no flush comes before it
 none_due : (format : LogFormat) (n made : ℕ) → descriptors format n ≤ made → made < descriptors format n + n
-    → (made < (layout_of format).parts n) × (written_at ((layout_of format).early n) made ≡ made) × (¬ IsFlushDue (layout_of format) n made)
+    → (made < (layout_of format).parts n) × (written_at ((layout_of format).before_barrier n) made ≡ made)
+    × (¬ IsFlushDue (layout_of format) n made)
 none_due One n made behind below = grind (arith, written_is (n + 1) made)
 none_due Two n made behind below = grind (arith, written_is 0 made, flush_of_is 0)
 
@@ -53,9 +48,9 @@ next_data_is {log} is count slot place few behind below slot_is place_is =
 
 -- the bytes of a data place: those of its block, or the stamp in place of the first ones
 pub data_is : (format : LogFormat) (stamp : ℕ) (entries : List Entry) (i : ℕ) → i < length entries
-    → ((layout_of format).early 1 ≡ 0
+    → ((layout_of format).before_barrier 1 ≡ 0
     → (layout_of format).part stamp entries (descriptors format (length entries) + i) ≡ place_bytes stamp (block_of entries i))
-    × (¬ ((layout_of format).early 1 ≡ 0)
+    × (¬ ((layout_of format).before_barrier 1 ≡ 0)
     → (layout_of format).part stamp entries (descriptors format (length entries) + i) ≡ block_of entries i)
 data_is One stamp entries i below = grind (arith, by_place)
 data_is Two stamp entries i below = grind (arith, by_place)
@@ -63,9 +58,9 @@ data_is Two stamp entries i below = grind (arith, by_place)
 -- those of the i-th of these blocks
 pub data_bytes : (format : LogFormat) (stamp : ℕ) (numbers bytes : List ℕ) (i : ℕ) → i < length numbers → {block : List ℕ}
     → block ≡ take 512 (drop (512 * i) bytes)
-    → ((layout_of format).early 1 ≡ 0 → place_bytes stamp block
+    → ((layout_of format).before_barrier 1 ≡ 0 → place_bytes stamp block
     ≡ (layout_of format).part stamp (entries_of numbers bytes) (descriptors format (length numbers) + i))
-    × (¬ ((layout_of format).early 1 ≡ 0)
+    × (¬ ((layout_of format).before_barrier 1 ≡ 0)
     → block ≡ (layout_of format).part stamp (entries_of numbers bytes) (descriptors format (length numbers) + i))
 data_bytes format stamp numbers bytes i below {block} is =
     let size : 512 * i + 512 - 512 * i ≡ 512 = omega arith in

@@ -1,14 +1,12 @@
 -- The bytes of the blocks that a log keeps: those of a view's records, and how many there are.
 use Rattle.std.proofs.Common.{◌≡◌, ℕ, ◌+◌, ◌-◌, ◌*◌, ◌<◌, ◌≤◌, List, [], ◌∷◌, ◌++◌, length, arith, get_or, Option, Some, None, ◌∙◌, sym}
 use Rattle.std.proofs.Common.{append-nil, zero, suc, take, drop, length-drop, take-append-drop, map, Bool, true, false, All, length-append}
-use Rattle.std.proofs.{Math.ListN.get_or-map, lemmas.Bool.cases_lt, Common.ap, Common.subst, Common.refl, Common.MatchOption}
-use Rattle.std.proofs.lemmas.List.{nil_from_length, length-map, map-append, get_or_append_left, get_or_at, get_or-drop, drop-drop}
-use Rattle.std.proofs.lemmas.List.{take-append-le, take_all, drop-append-le}
-use Rattle.journal.specs.Record.{Entry, block_of, entries_of, entries_from}
-use Rattle.redo_log.specs.Held.{kept_copies, begun_copies, bytes_of, AreSized}
-use Rattle.journal.specs.{declared.log_format.LogFormat.LogFormat, Places.limit_of}
-use Rattle.redo_log.specs.{Value.copy_kept, Value.with_copy, Shown.AreKept, Shown.begun_at, Shown.KeepsCopies}
-use Rattle.redo_log.specs.Copies.{CopiesValue, with_kept}
+use Rattle.std.proofs.{Common.{ap, subst, refl, MatchOption}, Math.ListN.get_or-map, lemmas.Bool.cases_lt, lemmas.List.nil_from_length}
+use Rattle.std.proofs.lemmas.List.{length-map, map-append, get_or_append_left, get_or_at, get_or-drop, drop-drop, take-append-le, take_all}
+use Rattle.std.proofs.lemmas.List.{drop-append-le}
+use Rattle.journal.specs.{Record.{Entry, block_of, entries_of, entries_from}, declared.log_format.LogFormat.LogFormat, Places.limit_of}
+use Rattle.redo_log.specs.{Held.{kept_copies, begun_copies, bytes_of, AreSized}, Value.{copy_kept, with_copy}, Shown.{AreKept, begun_at}}
+use Rattle.redo_log.specs.{Shown.KeepsCopies, Copies.{CopiesValue, with_kept}}
 
 -- ---- the copies of a view's blocks that a log keeps
 

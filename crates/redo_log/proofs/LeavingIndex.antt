@@ -1,13 +1,11 @@
 -- The copies of one record leave the index: where they are looked for, and what is left.
 use Rattle.std.proofs.Common.{◌≡◌, ◌≢◌, ℕ, zero, suc, ◌+◌, ◌-◌, ◌%◌, ◌<◌, ◌≤◌, List, [], ◌∷◌, length, get_or, take, drop, set, refl, sym}
-use Rattle.std.proofs.Common.{◌∙◌, arith}
-use Rattle.std.proofs.lemmas.List.{drop_more, take_more_set, drop-set-lt, append-nil, take-append-drop, length-take-le, get_or-take}
-use Rattle.std.proofs.lemmas.List.Elements.{filter-append, filter_more, All-from_get_or, Contains-get_or}
-use Rattle.std.proofs.{lemmas.Bool.cases_lt, lemmas.Bool.eq-eqb, lemmas.Bool.ne_eqb, lemmas.List.length-set, lemmas.List.get_or_default}
-use Rattle.std.specs.{Prelude.slice_index, Prelude.All, Prelude.Contains, List.filter, List.remove_range}
+use Rattle.std.proofs.{Common.{◌∙◌, arith}, lemmas.List.{drop_more, take_more_set, drop-set-lt, append-nil, take-append-drop}}
+use Rattle.std.proofs.{lemmas.List.{length-take-le, get_or-take, length-set, get_or_default}, lemmas.List.Elements.filter-append}
+use Rattle.std.proofs.{lemmas.List.Elements.{filter_more, All-from_get_or, Contains-get_or}, lemmas.Bool.{cases_lt, eq-eqb, ne_eqb}}
+use Rattle.std.specs.{Prelude.{slice_index, All, Contains}, List.{filter, remove_range}}
 use Rattle.journal.proofs.Wholeness.{other_slot}
-use Rattle.redo_log.specs.{declared.index.Copied.Copied, Value.IsNewest}
-use Rattle.redo_log.specs.Index.{IsIndex, is_outside, AreOutside, MayLeave, StandsAt}
+use Rattle.redo_log.specs.{declared.index.Copied.Copied, Value.IsNewest, Index.{IsIndex, is_outside, AreOutside, MayLeave, StandsAt}}
 use Rattle.redo_log.proofs.SortedIndex.{blank, look_found, All-drop_from}
 
 -- where all stand outside, all are kept

@@ -1,28 +1,24 @@
 -- What is true of every log, as a caller sees it, how its records come and go, and the calls of the record under way.
 use Rattle.std.proofs.Common.{◌≡◌, ◌⊎◌, ℕ, ◌+◌, ◌-◌, ◌%◌, ◌<◌, List, [], ◌∷◌, ◌++◌, length, drop, sym, ◌∙◌, arith, rules, ◌≢◌, suc, ◌*◌}
-use Rattle.std.proofs.Common.{◌≤◌, get_or, refl, ap, zero, Result, ⊎_elim}
-use Rattle.std.proofs.{Math.ListN.set, Math.Seq.set-append_seam, lemmas.Bool.Decides.nat_tests, lemmas.Bool.cases_Bool}
-use Rattle.std.proofs.Math.Nat.{mod-add-mod, mod-eq-sub-mod, mod-eq_of_lt, mul-le-mul_left}
+use Rattle.std.proofs.{Common.{◌≤◌, get_or, refl, ap, zero, Result, is_ok, ⊎_elim}, Math.ListN.set, Math.Seq.set-append_seam}
+use Rattle.std.proofs.{lemmas.Bool.Decides.nat_tests, lemmas.Bool.cases_Bool, Math.Nat.{mod-add-mod, mod-eq-sub-mod, mod-eq_of_lt}}
+use Rattle.std.proofs.{Math.Nat.mul-le-mul_left, lemmas.List.{length-map, map_push, get_or_past}, lemmas.List.Sums.sum_by-cons}
+use Rattle.std.proofs.lemmas.List.Sums.{sum_by-append, sum_by-le}
 use Rattle.std.specs.Prelude.{All, sum_by, true, ◌^◌}
 use Rattle.arrayvec.specs.ArrayVec.{ArrayVec}
-use Rattle.journal.specs.Places.{limit_of, first_home, sectors_of, Shape}
-use Rattle.redo_log.specs.Value.{none_ahead, retire_steps_of, LogValue, HasRoom, most_retire_steps, steps_of, behind_oldest, of_oldest}
-use Rattle.redo_log.specs.Value.{steps_for, most_steps, next_sends, turns_sends, sends_of_oldest, most_retire_sends, step_flushes}
-use Rattle.redo_log.specs.Value.{next_step_flushes, IsCovered, settled, IsReadBack}
-use Rattle.redo_log.specs.Shown.{AreInside, value_at, IsRecord, IsSized, lists_of, shown, Invariant, flush_of, written_at, flushed_at}
-use Rattle.redo_log.specs.Held.{needed_of, made_of, turned_of, View, HoldsView, MayLeave}
-use Rattle.redo_log.specs.{declared.log.Log.TheInside.Inside, Halfway.IsFlushDue, Halfway.IsNextCall, Steps.LeavesLog}
-use Rattle.std.proofs.lemmas.List.{length-map, map_push, get_or_past}
-use Rattle.std.proofs.lemmas.List.Sums.{sum_by-cons, sum_by-append, sum_by-le}
-use Rattle.journal.specs.{Formats.shape_of, Formats.layout_of, declared.super_sector.Super.Super, declared.log_format.LogFormat.LogFormat}
-use Rattle.journal.specs.{Layout.Layout, Record.entries_of, Record.Entry}
+use Rattle.journal.specs.{Places.{limit_of, first_home, sectors_of, Shape}, Formats.{shape_of, layout_of}}
+use Rattle.journal.specs.{declared.super_sector.Super.Super, declared.log_format.LogFormat.LogFormat, Layout.Layout, Record.entries_of}
+use Rattle.journal.specs.Record.{Entry}
 use Rattle.journal.proofs.{Formats.sectors_are, BatchEntries.length_of_batch}
-use Rattle.medium.specs.{declared.medium_call.Call.Call, Medium.State, Medium.Passes, Medium.LooksOnly, Moments.LeavesOnly}
-use Rattle.medium.specs.{Moments.SparesFrom, declared.fault.MediumFault.MediumFault, Sent.sent, declared.medium_call.Call.TheVariants.Read}
-use Rattle.medium.specs.{declared.medium_call.Call.TheVariants.Write, declared.medium_call.Call.TheVariants.Flush}
+use Rattle.redo_log.specs.Value.{none_ahead, retire_steps_of, LogValue, HasRoom, most_retire_steps, steps_of, behind_oldest, of_oldest}
+use Rattle.redo_log.specs.Value.{steps_for, next_sends, turns_sends, sends_of_oldest, most_retire_sends, step_flushes, next_step_flushes}
+use Rattle.redo_log.specs.{Value.{IsCovered, settled, IsReadBack}, Shown.{AreInside, value_at, IsRecord, IsSized, lists_of, shown}}
+use Rattle.redo_log.specs.{Shown.{Invariant, flush_of, written_at, flushed_at}, Held.{needed_of, made_of, turned_of, View, HoldsView}}
+use Rattle.redo_log.specs.{Held.MayLeave, declared.log.Log.TheInside.Inside, Told.{IsFlushDue, IsNextCall, CallMade}, Steps.LeavesLog}
+use Rattle.medium.specs.{declared.medium_call.Call.Call, Medium.{State, Passes, LooksOnly}, Moments.{LeavesOnly, SparesFrom}}
+use Rattle.medium.specs.{declared.fault.MediumFault.MediumFault, Sent.sent, declared.medium_call.Call.TheVariants.{Read, Write, Flush}}
 use Rattle.medium.specs.Performed.{Performed, fault_of, IsWithin, ReadsBefore, sends_of, flushes_of}
-use Rattle.medium.proofs.SectorsRead.{looks_wider}
-use Rattle.medium.proofs.{Moments.weaker, CallsSent.read_sends, CallsSent.write_sends, CallsSent.flush_sends}
+use Rattle.medium.proofs.{SectorsRead.looks_wider, Moments.weaker, CallsSent.{read_sends, write_sends, flush_sends}}
 use Rattle.medium.specs.declared.fault.MediumFault.TheVariants as fault
 
 -- where one is needed, one is left, or two whose flush was made
@@ -153,6 +149,12 @@ retired_value i is inv some = rw (← is) (grind (arith, inv.each 1 [], steps_of
 
 -- ---- the calls of a record
 
+-- a told call is made, or it is refused
+abbrev pub call_made : {Told : Call → List ℕ → Type 0} {call : Call} {bytes after : List ℕ} {answer : Result (Unit {0}) MediumFault}
+    {old new : State} → Told call bytes → Performed call bytes after answer old new → CallMade Told (is_ok answer) old new
+call_made {call = call} {bytes = bytes} {after = after} {answer = answer} told performed =
+    record { call = call; bytes = bytes; after = after; answer = answer; told = told; performed = performed; answered = refl }
+
 -- what steps of a log leave, by what a cut leaves of it
 pub leaves_log : {log : LogValue} {old new : State} → ((view : View) → HoldsView log old view → view.ours ≡ true
     → LeavesOnly (MayLeave old.size log view) old new) → SparesFrom (sectors_of log.shape) old new
@@ -168,7 +170,7 @@ reads_back log {old = old} {new = new} made before none = ⊎_elim
     (λ not. looks_wider (λ s. s < first_home log.shape) (IsReadBack log) old new (λ s low. (not, low))
     (made.looks (first_home log.shape) before)) (cases_Bool log.keeps)
 
--- the early parts have a flush, where there are any
+-- a barrier has a flush
 pub flush_of_is : (e : ℕ) → ((e ≡ 0) × (flush_of e ≡ 0)) ⊎ ((0 < e) × (flush_of e ≡ 1))
 unfolding flush_of
 flush_of_is e = grind (arith, nat_tests)
@@ -179,20 +181,20 @@ pub written_is : (e made : ℕ) → ((made ≤ e) × (written_at e made ≡ made
 unfolding written_at flushed_at
 written_is e made = grind (arith, nat_tests)
 
--- the steps are a call for each part, a flush, and one for the early parts where there are any
+-- the steps are a call for each part, a flush, and one at the barrier where there is one
 pub steps_are : (format : LogFormat) (n : ℕ)
-    → steps_for format n ≡ (layout_of format).parts n + 1 + flush_of ((layout_of format).early n)
+    → steps_for format n ≡ (layout_of format).parts n + 1 + flush_of ((layout_of format).before_barrier n)
 steps_are format n = grind (arith, flush_of_is)
 
--- all parts are written with the last call but one, and the early ones are flushed then
+-- all parts are written with the last call but one, and those before the barrier are flushed then
 pub all_written : (e parts made : ℕ) → e < parts → ((parts ≤ written_at e made) × (e ≤ flushed_at e made) × (parts + flush_of e ≤ made))
     ⊎ ((written_at e made < parts) × (made < parts + flush_of e))
 all_written e parts made late = grind (arith, written_is e made, flush_of_is e, late)
 
--- the early flush
-pub early_written : (e made next : ℕ) → next ≡ made + 1 → 0 < e → made ≡ e
+-- the flush at the barrier
+pub barrier_written : (e made next : ℕ) → next ≡ made + 1 → 0 < e → made ≡ e
     → (written_at e next ≡ written_at e made) × (flushed_at e next ≡ written_at e made)
-early_written e made next one some is = grind (arith, written_is e made, written_is e next, flush_of_is e)
+barrier_written e made next one some is = grind (arith, written_is e made, written_is e next, flush_of_is e)
 
 -- a part is written
 pub part_written : (e made next : ℕ) → next ≡ made + 1 → (e ≤ 0) ⊎ (made ≢ e)
@@ -206,10 +208,6 @@ none_written e made none = grind (arith, written_is e made)
 -- a flush is due, or it is not
 pub due_or_not : (L : Layout) (n made : ℕ) → IsFlushDue L n made ⊎ (¬ IsFlushDue L n made)
 due_or_not L n made = grind arith
-
--- the limit of steps
-pub few_steps_for : (format : LogFormat) (n : ℕ) → n ≤ limit_of format → steps_for format n ≤ most_steps format
-few_steps_for format n few = grind (arith, few)
 
 -- a record needs steps
 pub steps_some : (format : LogFormat) (n : ℕ) → 0 < steps_for format n

@@ -1,29 +1,21 @@
 -- Each turn that retires the oldest durable record: what the log and its medium hold after it.
-use Rattle.std.proofs.Common.{◌≡◌, ◌≢◌, ℕ, ◌+◌, ◌-◌, ◌<◌, ◌≤◌, List, [], ◌∷◌, length, get_or, drop, refl}
-use Rattle.std.proofs.Common.{length-drop, add-zero, true, false, map, slice_index, drop-cons, arith, rules}
-use Rattle.std.proofs.{lemmas.Bool.cases_eq, lemmas.Bool.cases_lt}
-use Rattle.std.proofs.{lemmas.List.drop-map, lemmas.List.length-map, Math.ListN.get_or-map}
-use Rattle.std.proofs.lemmas.List.Elements.{All-drop}
-use Rattle.medium.specs.Medium.{State, Image, Holds, Gains, Only, Stays, IsSound}
-use Rattle.medium.specs.Moments.{EachCut, LeavesOnly}
+use Rattle.std.proofs.Common.{◌≡◌, ◌≢◌, ℕ, ◌+◌, ◌-◌, ◌<◌, ◌≤◌, List, [], ◌∷◌, length, get_or, drop, refl, length-drop, add-zero, true}
+use Rattle.std.proofs.{Common.{false, map, slice_index, drop-cons, arith, rules}, lemmas.Bool.{cases_eq, cases_lt}, lemmas.List.drop-map}
+use Rattle.std.proofs.{lemmas.List.length-map, Math.ListN.get_or-map, lemmas.List.Elements.All-drop}
+use Rattle.medium.specs.{Medium.{State, Image, Holds, Gains, Only, Stays, IsSound}, Moments.{EachCut, LeavesOnly}}
 use Rattle.medium.proofs.Moments.{each_write, each_flush, content_has}
-use Rattle.journal.specs.{Places.sectors_of, Places.first_home, Sectors.IsHead, Record.Entry, Record.numbers_of, Formats.layout_of}
-use Rattle.journal.specs.{Formats.IsWhole}
-use Rattle.journal.specs.Staged.{IsHomed, with_less, View as ImageView}
-use Rattle.journal.proofs.{SectorsRead.begun_is, Formats.laws_of, Formats.most_is, Wholeness.records-hide}
-use Rattle.journal.proofs.Engine.{IsWholeIn-same, IsKept, kept_home, kept_head}
-use Rattle.redo_log.specs.Value.{LogValue, Ahead, IsAway, IsSentHome, of_oldest, ahead_of, settled}
-use Rattle.redo_log.specs.{Held.AreSized}
-use Rattle.redo_log.specs.Held.{View, with_record, view_retired, made_of, turned_of, needed_of, image_view, MayLeave, Safe, AreHome}
-use Rattle.redo_log.specs.Halfway.{kept_of}
-use Rattle.redo_log.specs.Halfway.{copy_of, home_of, brought, WritesOnly}
-use Rattle.redo_log.specs.{Held.HasHead, Held.IsGuarded, Held.HoldsView}
-use Rattle.redo_log.specs.{Steps.HoldsCounted}
+use Rattle.journal.specs.{Places.{sectors_of, first_home}, Sectors.IsHead, Record.{Entry, numbers_of}, Formats.{layout_of, IsWhole}}
+use Rattle.journal.specs.Staged.{IsHomed, with_less}
+use Rattle.journal.proofs.{SectorsRead.begun_is, Formats.{laws_of, most_is}, Wholeness.records-hide, Engine.{IsWholeIn-same, IsKept}}
+use Rattle.journal.proofs.Engine.{kept_home, kept_head}
+use Rattle.redo_log.specs.{Value.{LogValue, Ahead, IsAway, IsSentHome, of_oldest, ahead_of, settled}, Held.{AreSized, View, with_record}}
+use Rattle.redo_log.specs.Held.{view_retired, made_of, turned_of, needed_of, image_view, MayLeave, Safe, AreHome, HasHead, IsGuarded}
+use Rattle.redo_log.specs.{Held.HoldsView, Halfway.WritesOnly, Told.{copy_of, home_of, brought, kept_of}, Steps.HoldsCounted}
 use Rattle.redo_log.proofs.HeldLog.{moments_have, Stands, hides_behind, front, has_before, guard_logged, newest, with_newest, same_head}
 use Rattle.redo_log.proofs.HeldLog.{safe_here, guard_leaves, Stores-stays, many, named, count, under_count, stands_now, goes_on, counts_of}
-use Rattle.redo_log.proofs.HeldLog.{kept_is, retired_kept}
-use Rattle.redo_log.proofs.RecordSteps.{needed_one, IsLog, retired_of, one_waits, nothing_home, not_homed}
-use Rattle.redo_log.proofs.KeptCopies.{retired_copies, copy_kept_is}
+use Rattle.redo_log.proofs.{HeldLog.{kept_is, retired_kept}, RecordSteps.{needed_one, IsLog, retired_of, one_waits, nothing_home}}
+use Rattle.redo_log.proofs.{RecordSteps.not_homed, KeptCopies.{retired_copies, copy_kept_is}}
+use Rattle.journal.specs.Staged.{View as ImageView}
 
 module _ {log : LogValue} (is : IsLog log) (live : log.dead ≡ false) (owed : 0 < of_oldest log) {old : State}
     (sound : IsSound old) {view : View} (hv : HoldsView log old view) where

@@ -1,35 +1,31 @@
 -- What a store on top of a log cites, and each step of the record under way: what the log and its medium hold after it.
 use Rattle.std.proofs.Common.{◌≡◌, ◌≢◌, ◌⊎◌, inl, ℕ, ◌+◌, ◌-◌, ◌<◌, ◌≤◌, List, [], ◌∷◌, ◌++◌, length, refl, sym, ◌∙◌, ap, arith, rules}
-use Rattle.std.proofs.Common.{length-append, inr, ◌*◌, get_or, Bool, true, false, map, Result, OnOk}
-use Rattle.std.proofs.lemmas.List.{nil_from_length, map-append, get_or_append_left}
-use Rattle.medium.specs.Medium.{State, Image, CutLeaves, IsSound, Holds, Gains}
-use Rattle.medium.specs.{Moments.EachCut, Moments.LeavesOnly, declared.fault.MediumFault.MediumFault}
-use Rattle.medium.specs.{declared.medium_call.Call.TheVariants.Write, declared.medium_call.Call.TheVariants.Flush, Performed.IsDone}
-use Rattle.medium.specs.{Performed.IsWithin, Performed.Performed, declared.medium_call.Call.Call}
+use Rattle.std.proofs.{Common.{length-append, inr, ◌*◌, get_or, Bool, true, false, map, Result, OnOk}, lemmas.List.nil_from_length}
+use Rattle.std.proofs.{lemmas.List.{map-append, get_or_append_left}, lemmas.Result.on_ok_weaker, lemmas.Bool.{cases_eq, cases_lt}}
+use Rattle.std.proofs.lemmas.List.Elements.{All-push}
+use Rattle.medium.specs.{Medium.{State, Image, CutLeaves, IsSound, Holds, Gains}, Moments.{EachCut, LeavesOnly}}
+use Rattle.medium.specs.{declared.fault.MediumFault.MediumFault, declared.medium_call.Call.TheVariants.{Write, Flush}, Performed.IsDone}
+use Rattle.medium.specs.{Performed.{IsWithin, Performed}, declared.medium_call.Call.Call}
 use Rattle.medium.proofs.Moments.{updated_elsewhere, shrunk, one_call, each_write, each_flush}
 use Rattle.spec.specs.Blocks.{Array}
-use Rattle.journal.specs.{Places.Shape, Places.sectors_of, Places.first_home, Format2.firsts_of, Standing.Keeps, Standing.IsOurs}
-use Rattle.journal.specs.{Layout.Layout, Layout.part_at, Layout.IsRecordOf, Formats.layout_of}
-use Rattle.journal.specs.Record.{Entry, with_blocks, entries_of, numbers_of}
-use Rattle.journal.proofs.{BatchEntries.numbers_of_batch, BatchEntries.length_of_batch, BatchEntries.sized_batch, Formats.laws_of}
-use Rattle.journal.proofs.Engine.{rests_found, Guarded-lost, Guarded-write, Stored-write, other_written, Stored-durable, carries_below}
-use Rattle.redo_log.specs.Value.{LogValue, HasRoom, IsCovered, retire_steps_of, behind_oldest, idle_from, begun, died, settled, IsBatch}
-use Rattle.redo_log.specs.Value.{empty_from}
-use Rattle.redo_log.specs.Held.{View, resting_view, IsStored, IsGuarded, HasNoRecord, with_begun, made_of, turned_of, needed_of, MayLeave}
-use Rattle.redo_log.specs.Held.{Safe, with_passed, image_view, HoldsView, with_record, view_stepped, written_of, HasDurable, HasHead}
-use Rattle.redo_log.specs.{Value.steps_of, Value.steps_for, Value.IsStepped, Shown.flush_of, declared.progress.Progress.Progress}
-use Rattle.redo_log.specs.{declared.progress.Progress.TheVariants.More, declared.progress.Progress.TheVariants.Durable, Halfway.IsNextCall}
-use Rattle.redo_log.specs.{Halfway.IsFlushDue, Steps.StepCalled, Held.AreHome, Held.AreSized, Held.kept_copies}
-use Rattle.redo_log.proofs.RecordSteps.{steps_some, steps_are, due_or_not, all_written, early_written, part_written, needed_covered}
+use Rattle.journal.specs.{Places.{Shape, sectors_of, first_home}, Format2.firsts_of, Standing.{Keeps, IsOurs}, Layout.{Layout, part_at}}
+use Rattle.journal.specs.{Layout.IsRecordOf, Formats.layout_of, Record.{Entry, with_blocks, entries_of, numbers_of}}
+use Rattle.journal.proofs.{BatchEntries.{numbers_of_batch, length_of_batch, sized_batch}, Formats.laws_of, Engine.rests_found}
+use Rattle.journal.proofs.Engine.{Guarded-lost, Guarded-write, Stored-write, other_written, Stored-durable, carries_below}
+use Rattle.redo_log.specs.Value.{LogValue, HasRoom, IsCovered, retire_steps_of, behind_oldest, begun, died, settled, IsBatch}
+use Rattle.redo_log.specs.{Value.{empty_from, steps_of, steps_for, IsStepped}, Held.{View, resting_view, IsStored, IsGuarded, HasNoRecord}}
+use Rattle.redo_log.specs.Held.{with_begun, made_of, turned_of, needed_of, MayLeave, Safe, with_passed, image_view, HoldsView, with_record}
+use Rattle.redo_log.specs.{Held.{view_stepped, written_of, HasDurable, HasHead, AreHome, AreSized, kept_copies}, Shown.flush_of}
+use Rattle.redo_log.specs.{declared.progress.Progress.Progress, declared.progress.Progress.TheVariants.{More, Durable}, Told.IsNextCall}
+use Rattle.redo_log.specs.{Told.IsFlushDue, Steps.StepCalled}
+use Rattle.redo_log.proofs.RecordSteps.{steps_some, steps_are, due_or_not, all_written, barrier_written, part_written, needed_covered}
 use Rattle.redo_log.proofs.RecordSteps.{needed_one, made_is, none_made, IsLog, durable_of, durable_alone, durable_more, step_flushed}
-use Rattle.redo_log.proofs.RecordSteps.{leaves_log, within_more, one_sent, few_sends, reads_nothing, reads_back}
-use Rattle.redo_log.proofs.KeptCopies.{begun_kept, bytes_of_batch, durable_copies, none_kept}
-use Rattle.redo_log.proofs.HeldLog.{rests_safe, safe_rests, keeps_stored, with_newest, same_head, put_head, put_safe, has_view}
-use Rattle.redo_log.proofs.HeldLog.{Stores-stays, count, under_count, going_held, Stands, stands_idle, same_stamp, stands_front}
-use Rattle.redo_log.proofs.HeldLog.{guard_logged, guard_leaves, safe_here, counts_of, many, stands_then, stands_now, goes_on}
-use Rattle.redo_log.proofs.HeldLog.{record_entries, before_home, durable_kept, dead_held}
+use Rattle.redo_log.proofs.RecordSteps.{call_made, leaves_log, within_more, one_sent, few_sends, reads_nothing, reads_back}
+use Rattle.redo_log.proofs.{KeptCopies.{begun_kept, bytes_of_batch, durable_copies, none_kept}, HeldLog.{rests_safe, safe_rests}}
+use Rattle.redo_log.proofs.HeldLog.{keeps_stored, with_newest, same_head, put_head, put_safe, has_view, Stores-stays, count, under_count}
+use Rattle.redo_log.proofs.HeldLog.{going_held, Stands, stands_idle, same_stamp, stands_front, guard_logged, guard_leaves, safe_here}
+use Rattle.redo_log.proofs.HeldLog.{counts_of, many, stands_then, stands_now, goes_on, record_entries, before_home, durable_kept, dead_held}
 pub use Rattle.redo_log.proofs.HeldLog.{quiet_held, put_head, home_is}
-use Rattle.std.proofs.{lemmas.Result.on_ok_weaker, lemmas.Bool.cases_eq, lemmas.Bool.cases_lt, lemmas.List.Elements.All-push}
 
 -- a new log holds a medium that has its head and its blocks at home, and whose log is fresh
 pub empty_holds : (shape : Shape) (next ring : ℕ) (keeps_blocks : Bool) (array : Array) (ours : Bool) (m : State)
@@ -46,12 +42,6 @@ empty_holds shape next ring keeps_blocks array ours m fits keeps fresh =
     let guards : ours ≡ true → IsGuarded log (resting_view array ours) m =
     λ is image cut. with_newest (rests_safe view refl (fresh is image cut)) (λ none. absurd (omega (arith, none))) in
     search (rules, arith)
-
--- one that reads back
-pub idle_holds : (shape : Shape) (next : ℕ) (array : Array) (ours : Bool) (m : State) → sectors_of shape ≤ m.size
-    → Keeps shape m.content next [] array → (ours ≡ true → EachCut (HasNoRecord shape next array) m)
-    → HoldsView (idle_from shape next) m (resting_view array ours)
-idle_holds shape next array ours m fits keeps fresh = empty_holds shape next shape.slots false array ours m fits keeps fresh
 
 -- a log that is given up holds what a cut may leave
 pub died_holds : (log : LogValue) (m : State) (view : View) → HoldsView log m view → HoldsView (died log) m view
@@ -130,11 +120,11 @@ module _ {log : LogValue} (is : IsLog log) (live : log.dead ≡ false) (some : 0
   abbrev k : ℕ
   k = written_of log.shape view (made_of log)
 
-  late : L.early n < L.parts n
-  late = (laws_of log.shape.format).last_is_late n
+  late : L.before_barrier n < L.parts n
+  late = (laws_of log.shape.format).last_is_behind n
 
   -- the steps are those of the layout
-  all_steps : steps_of log.shape.format log.under_way ≡ L.parts n + 1 + flush_of (L.early n)
+  all_steps : steps_of log.shape.format log.under_way ≡ L.parts n + 1 + flush_of (L.before_barrier n)
   all_steps = ap (λ (k : ℕ). steps_for log.shape.format k) (under_count hv) ∙ steps_are log.shape.format n
 
   -- its records stand, also after one call more
@@ -169,14 +159,14 @@ module _ {log : LogValue} (is : IsLog log) (live : log.dead ≡ false) (some : 0
       flushes : IsFlushDue L n (made_of log) → call ≡ Flush
       flushes due = next.0 (rw other_count due)
 
-      -- ---- a flush of the early parts
-      early_flushed : 1 < log.steps_left → IsFlushDue L n (made_of log) → IsDone call sector last old new
+      -- ---- the flush at the barrier
+      barrier_flushed : 1 < log.steps_left → IsFlushDue L n (made_of log) → IsDone call sector last old new
           → HoldsView more_log new view
-      early_flushed more due done =
+      barrier_flushed more due done =
           let wrote = rw (flushes due) at done in
           let few : k < L.parts n = omega (arith, all_written _ _ (made_of log) late, made_is log some, more, all_steps, is.most_left) in
-          let early : (0 < L.early n) × (made_of log ≡ L.early n) = grind (arith, due, few) in
-          let after = early_written _ (made_of log) (made_of more_log) (then_made more) early.0 early.1 in
+          let early : (0 < L.before_barrier n) × (made_of log ≡ L.before_barrier n) = grind (arith, due, few) in
+          let after = barrier_written _ (made_of log) (made_of more_log) (then_made more) early.0 early.1 in
           let s = hv.stores live in
           goes_on hv is (log.steps_left - 1) log.retire_steps_left log.ahead new (omega arith) performed.passes.size_stays live
           (Stores-stays s (made_of more_log) (turned_of log) new.content wrote.0 (omega (arith, after.0)) (λ i low high. low))
@@ -246,7 +236,7 @@ module _ {log : LogValue} (is : IsLog log) (live : log.dead ≡ false) (some : 0
         part_each : part ≡ L.part stamp view.under_way k → view.ours ≡ true → (then : ℕ) → then ≡ made_of log + 1
             → EachCut (HasHead log.shape log.head view then (needed_of log)) new
         part_each mine ours then one =
-            let now = part_written (L.early n) (made_of log) then one (grind (arith, not)) in
+            let now = part_written (L.before_barrier n) (made_of log) then one (grind (arith, not)) in
             each_write _ _ old new place part sound adds (hv.guards live ours)
             (λ image g. same_head g (rw (now.0, now.1) (Guarded-lost k g.safe)) g.flushed)
             (λ before image write g. same_head g
@@ -276,7 +266,7 @@ module _ {log : LogValue} (is : IsLog log) (live : log.dead ≡ false) (some : 0
             let write = rw (writes.0, writes.1) at done in
             let s = hv.stores live in
             let mine : part ≡ L.part stamp view.under_way k = ap (λ (l : List Entry). L.part stamp l k) (sym named) in
-            let now = part_written (L.early n) (made_of log) (made_of more_log) (then_made more) (grind (arith, not)) in
+            let now = part_written (L.before_barrier n) (made_of log) (made_of more_log) (then_made more) (grind (arith, not)) in
             goes_on hv is (log.steps_left - 1) log.retire_steps_left log.ahead new (omega arith) performed.passes.size_stays live
             (record {
               stored = Stored-write _ (laws_of _) _ (stands.slots some) k small (λ p low not. omega arith)
@@ -298,7 +288,7 @@ module _ {log : LogValue} (is : IsLog log) (live : log.dead ≡ false) (some : 0
         pub counted_held : (progress : Progress) → IsStepped progress log then
             → OnOk result (HoldsView then new (view_stepped progress view))
         counted_held More stepped = rw stepped.1 (on_ok_weaker result (λ done. elim (due_or_not L n (made_of log)) [
-          | inl due ↦ early_flushed stepped.0 due done
+          | inl due ↦ barrier_flushed stepped.0 due done
           | inr not ↦ part_written_now not stepped.0 entries done
         ]) performed.done)
         counted_held Durable stepped = rw stepped.1 (on_ok_weaker result (all_flushed stepped.0) performed.done)
@@ -335,4 +325,5 @@ step_called {log} is live some {numbers} bytes same size {call} {sector} next in
           counted_held is live some sound holds bytes same size next made entries then progress stepped;
       durable = λ view holds entries ours then stepped.
           counted_whole is live some sound holds bytes same size next made entries then ours stepped;
+      told = call_made next made;
     }

@@ -1,31 +1,22 @@
 -- The calls of each turn that retires the oldest durable record, one by one: what each leaves of the log and its medium.
-use Rattle.std.proofs.Common.{subst, ◌≡◌, ◌≢◌, ◌⊎◌, inl, inr, ⊎_elim, ℕ, ◌+◌, ◌-◌, ◌<◌, List, [], refl, sym}
-use Rattle.std.proofs.Common.{◌∙◌, true, false, arith, rules, Some, None, Option}
-use Rattle.std.proofs.{Common.MatchOption, Common.Result, Common.Ok, Common.Err, Common.OnOk, lemmas.Bool.cases_lt}
-use Rattle.std.proofs.lemmas.Bool.{cases_Bool}
-use Rattle.std.proofs.{lemmas.Result.on_ok_weaker}
+use Rattle.std.proofs.Common.{subst, ◌≡◌, ◌≢◌, ◌⊎◌, inl, inr, ⊎_elim, ℕ, ◌+◌, ◌-◌, ◌<◌, List, [], refl, sym, ◌∙◌, true, false, arith, rules}
+use Rattle.std.proofs.{Common.{Some, None, Option, MatchOption, Result, Ok, Err, OnOk}, lemmas.Bool.{cases_lt, cases_Bool}}
+use Rattle.std.proofs.lemmas.Result.{on_ok_weaker}
 use Rattle.std.specs.Prelude.{IsErr}
-use Rattle.medium.specs.Medium.{State, Holds, Only, Stays, IsSound, Passes}
-use Rattle.medium.specs.Moments.{LeavesOnly, IsQuiet}
+use Rattle.medium.specs.{Medium.{State, Holds, Only, Stays, IsSound, Passes}, Moments.{LeavesOnly, IsQuiet}}
 use Rattle.medium.specs.{declared.fault.MediumFault.MediumFault, declared.medium_call.Call.Call, Sent.sent}
+use Rattle.medium.specs.{declared.medium_call.Call.TheVariants.{Write, Flush}, Performed.{IsWithin, ReadsBefore, IsDone, Performed}}
+use Rattle.medium.specs.Performed.{fault_of}
+use Rattle.medium.proofs.{SparedSectors.spared_joined, SectorsRead.looks_joined, Moments.{quiet_call, quiet_leaves, joined_same}}
+use Rattle.journal.specs.Places.{sectors_of, first_home}
+use Rattle.redo_log.specs.Value.{LogValue, CanPass, IsAway, IsSentHome, of_oldest, next_calls, next_sends, IsReadBack, next_turn_flushes}
+use Rattle.redo_log.specs.{Held.{View, view_retired, turned_of, MayLeave, HoldsView}, Steps.{BringsOn, IsOn, CountsStep, LeavesLog}}
+use Rattle.redo_log.specs.{Steps.HoldsCounted, Halfway.{HoldsSent, Makes, flushed, WritesOnly, HoldsHalf, TurnBegun, TurnEnded, TellsFirst}}
+use Rattle.redo_log.specs.{Halfway.TellsSecond, Told.{IsFirst, IsSecond, IsOneCall, copy_of, home_of, brought}}
+use Rattle.redo_log.proofs.{HeldLog.{shrunk_held, one_write, dead_held, quiet_held}, RecordSteps.{call_made, IsLog, one_waits, one_sent}}
+use Rattle.redo_log.proofs.{RecordSteps.{leaves_log, reads_back}, RetireTurns.{block, head_leaves, flushed_held, covered_held, ahead_held}}
+use Rattle.redo_log.proofs.RetireTurns.{home_leaves, sent_held, home_counted, brought_is, kept_block_is}
 use Rattle.medium.specs.declared.fault.MediumFault.TheVariants as fault
-use Rattle.medium.specs.declared.medium_call.Call.TheVariants.{Write, Flush}
-use Rattle.medium.specs.Performed.{IsWithin, ReadsBefore, IsDone, Performed, fault_of}
-use Rattle.medium.proofs.{SparedSectors.spared_joined, SectorsRead.looks_joined}
-use Rattle.medium.proofs.Moments.{quiet_call, quiet_leaves, joined_same}
-use Rattle.journal.specs.{Places.sectors_of, Places.first_home}
-use Rattle.redo_log.specs.Value.{LogValue, CanPass, IsAway, IsSentHome, of_oldest, next_calls, next_sends}
-use Rattle.redo_log.specs.{Value.IsReadBack}
-use Rattle.redo_log.specs.Held.{View, view_retired, turned_of, MayLeave}
-use Rattle.redo_log.specs.{Steps.BringsOn, Steps.IsOn}
-use Rattle.redo_log.specs.Halfway.{IsOneCall, HoldsSent, Makes}
-use Rattle.redo_log.specs.Halfway.{IsFirst, IsSecond, flushed, copy_of, home_of, brought, WritesOnly, HoldsHalf, TurnBegun, TurnEnded}
-use Rattle.redo_log.specs.{Value.next_turn_flushes, Held.HoldsView, Steps.CountsStep, Steps.LeavesLog}
-use Rattle.redo_log.specs.{Steps.HoldsCounted, Halfway.TellsFirst, Halfway.TellsSecond}
-use Rattle.redo_log.proofs.HeldLog.{shrunk_held, one_write, dead_held, quiet_held}
-use Rattle.redo_log.proofs.RecordSteps.{IsLog, one_waits, one_sent, leaves_log, reads_back}
-use Rattle.redo_log.proofs.RetireTurns.{block, head_leaves, flushed_held, covered_held, ahead_held, home_leaves, sent_held, home_counted}
-use Rattle.redo_log.proofs.RetireTurns.{brought_is, kept_block_is}
 
 module _ {log : LogValue} (is : IsLog log) (owed : 0 < of_oldest log) where
   -- a block goes home, the blocks are flushed, or the head goes past the record
@@ -276,6 +267,7 @@ module _ {M : Type 0} {state : M → State} {log : LogValue} (owed : 0 < of_olde
         dead = begun.dead;
         counted = λ view holds. on_ok_weaker result (λ half. half.one alone) (begun.half view holds);
         sent = λ away view holds next home. on_ok_weaker result (λ half. half.kept away (kept away) next home) (begun.half view holds);
+        told = record { owed = owed; calls = inl (record { call = call_made f.call_is made.performed; alone = λ _. inl alone }) };
       }
 
   -- both bring it on, where the first one is good
@@ -300,6 +292,10 @@ module _ {M : Type 0} {state : M → State} {log : LogValue} (owed : 0 < of_olde
         dead = λ view holds. ended.dead view (begun.half view holds);
         counted = λ view holds. ended.done view (begun.half view holds);
         sent = λ away view holds next sent. ended.sent view (begun.half view holds) away next sent;
+        told = record {
+          owed = owed;
+          calls = inr (record { mid = mid; first = call_made f.call_is a.performed; second = call_made s.call_is b.performed });
+        };
       }
 
   -- a refused first call is no more than they are
@@ -323,4 +319,5 @@ module _ {M : Type 0} {state : M → State} {log : LogValue} (owed : 0 < of_olde
         dead = begun.dead;
         counted = λ view holds. tt;
         sent = λ away view holds next sent. tt;
+        told = record { owed = owed; calls = inl (record { call = call_made f.call_is made.performed; alone = λ good. absurd (cc good) }) };
       }

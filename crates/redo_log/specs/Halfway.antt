@@ -1,42 +1,24 @@
--- The calls of a medium that write a record and retire it, and what a log and its medium hold
--- halfway through a turn.
-use Rattle.std.specs.Prelude.{◌≡◌, ℕ, ◌+◌, ◌-◌, ◌<◌, List, true, false, Result, OnOk, [], length}
-use Rattle.std.specs.Prelude.{slice_index, get_or, Option, Some, None, ◌⊎◌, ◌≤◌}
+-- What a log and its medium hold halfway through a turn, and what whoever makes a told call leaves.
+use Rattle.std.specs.Prelude.{◌≡◌, ℕ, ◌+◌, ◌-◌, ◌<◌, List, true, false, Result, OnOk, length}
+use Rattle.std.specs.Prelude.{Some, ◌⊎◌}
 use Rattle.medium.specs.Medium.{State, LooksOnly, Sets, Gains}
 use Rattle.medium.specs.Moments.{LeavesOnly, SparesFrom, StaysWithin}
 use Rattle.medium.specs.{declared.fault.MediumFault.MediumFault, declared.medium_call.Call.Call}
-use Rattle.medium.specs.declared.medium_call.Call.TheVariants.{Read, Write, Flush}
-use Rattle.medium.specs.Performed.{IsWithin, ReadsBefore, Performed, sends_of, flushes_of}
-use Rattle.journal.specs.Places.{first_data_of, first_home, sectors_of, Shape}
-use Rattle.journal.specs.Layout.{slot_at, Layout, part_at}
-use Rattle.journal.specs.{Formats.layout_of, Sectors.IsHead, Record.Entry, Record.begun_with}
-use Rattle.redo_log.specs.Value.{LogValue, died, of_oldest, IsSentHome, IsAway, CanPass, first_kept}
-use Rattle.redo_log.specs.Value.{copy_kept, IsReadBack}
-use Rattle.redo_log.specs.Held.{View, HoldsView, MayLeave, made_of, turned_of}
+use Rattle.medium.specs.Performed.{IsWithin, Performed, sends_of, flushes_of}
+use Rattle.journal.specs.{Places.{first_home, sectors_of}, Layout.part_at, Formats.layout_of}
+use Rattle.journal.specs.{Record.Entry}
+use Rattle.redo_log.specs.Value.{LogValue, died, of_oldest, IsSentHome, IsAway, CanPass, IsReadBack}
+use Rattle.redo_log.specs.{Held.{View, HoldsView, MayLeave, made_of}, Shown.written_at}
 use Rattle.redo_log.specs.Steps.{LeavesLog, IsOn, HoldsCounted, StepCalled}
-use Rattle.redo_log.specs.{Shown.written_at}
-
--- a flush comes next: the early parts are written, or all
-abbrev pub IsFlushDue : Layout → ℕ → ℕ → Type 0
-IsFlushDue L count made = ((0 < L.early count) × (made ≡ L.early count))
-    ⊎ (L.parts count ≤ written_at (L.early count) made)
-
--- The next call of a record of which `made` calls are made: a flush where one is due, or the next
--- part, whose bytes are these.
-abbrev pub IsNextCall : Layout → Shape → ℕ → List Entry → ℕ → Call → List ℕ → Type 0
-IsNextCall L shape stamp entries made call bytes =
-    (IsFlushDue L (length entries) made → call ≡ Flush)
-    × (¬ IsFlushDue L (length entries) made
-    → let written = written_at (L.early (length entries)) made in
-    (call ≡ Write (part_at L shape stamp (length entries) written))
-    × (bytes ≡ L.part stamp entries written))
+use Rattle.redo_log.specs.Told.{IsFlushDue, IsNextCall, IsFirst, IsSecond, IsOneCall, copy_of}
 
 -- The next call of the record under way, of so many blocks, writes the i-th one's data place.
 pub record IsNextData (log : LogValue) (count place i : ℕ) : Type 0 where
   pub inside : i < count
   pub before : place < first_home log.shape
   pub due : ¬ IsFlushDue (layout_of log.shape.format) count (made_of log)
-  pub written : written_at ((layout_of log.shape.format).early count) (made_of log) ≡ made_of log
+  pub written : written_at ((layout_of log.shape.format).before_barrier count) (made_of log)
+      ≡ made_of log
   pub part : made_of log ≡ (layout_of log.shape.format).parts count - count - 1 + i
   pub place_is : place ≡ part_at (layout_of log.shape.format) log.shape
       (log.head + length log.waiting) count (made_of log)
@@ -78,47 +60,6 @@ pub record TellsStep {M : Type 0} (state : M → State) (entries : List Entry) (
 -- this medium, if all that it holds were durable
 abbrev pub flushed : State → State
 flushed m = record m { may_leave = λ s c. c ≡ m.content s }
-
--- where the next block of the oldest record stands in the log, and where it goes
-abbrev pub copy_of : LogValue → ℕ
-copy_of log = slot_at (layout_of log.shape.format) log.shape log.head
-    + first_data_of log.shape.format + turned_of log
-
-abbrev pub home_of : LogValue → ℕ
-home_of log = first_home log.shape + slice_index (get_or log.waiting 0 []) (turned_of log)
-
--- what goes there, where its copy has these bytes
-abbrev pub brought : LogValue → List ℕ → List ℕ
-brought log copy = begun_with (first_kept log.firsts 0 (turned_of log)) copy
-
--- the bytes of that block, where they are kept
-abbrev pub kept_of : LogValue → List ℕ
-kept_of log = copy_kept log.copies 0 (turned_of log)
-
--- One call makes the next turn: its blocks are flushed at home, or a block goes home that is kept.
-abbrev pub IsOneCall : LogValue → Type 0
-IsOneCall log = (of_oldest log ≡ 2) ⊎ (IsAway log × (log.keeps ≡ true))
-
--- The first call of the next turn, with these bytes in the lent sector: a block is read, or written
--- home where it is kept, its blocks are flushed at home, or the head is written. It reads nothing
--- at home.
-pub record IsFirst (log : LogValue) (call : Call) (bytes : List ℕ) : Type 0 where
-  pub inside : IsWithin (sectors_of log.shape) call
-  pub reads : ReadsBefore (first_home log.shape) call
-  pub home : IsAway log → log.keeps ≡ false → call ≡ Read (copy_of log)
-  pub kept : IsAway log → log.keeps ≡ true
-      → (call ≡ Write (home_of log)) × (bytes ≡ kept_of log)
-  pub flush : of_oldest log ≡ 2 → call ≡ Flush
-  pub head : of_oldest log ≡ 1 → (call ≡ Write 1) × IsHead (log.head + 1) bytes
-
--- The call behind it, if there is one: the first one left the one list in the lent sector, and the
--- other one goes with this.
-pub record IsSecond (log : LogValue) (had : List ℕ) (call : Option Call) (bytes : List ℕ)
-    : Type 0 where
-  pub home : IsAway log → log.keeps ≡ false
-      → (call ≡ Some (Write (home_of log))) × (bytes ≡ brought log had)
-  pub one : IsOneCall log → call ≡ None
-  pub head : of_oldest log ≡ 1 → call ≡ Some Flush
 
 -- a medium holds this log once a block of its oldest record is counted that went home
 abbrev pub HoldsSent : LogValue → State → View → Type 0

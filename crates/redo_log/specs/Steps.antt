@@ -2,20 +2,20 @@
 use Rattle.std.specs.Prelude.{◌≡◌, ℕ, ◌+◌, ◌-◌, ◌*◌, ◌^◌, ◌<◌, ◌≤◌, ◌↔◌, Bool, true, false, List}
 use Rattle.std.specs.Prelude.{[], IsTrue, if◌then◌else◌, Result, Ok, is_ok, IsOk, IfOk, IfErr, OnOk}
 use Rattle.std.specs.Prelude.{OnErr, MatchResult, length}
-use Rattle.medium.specs.{Medium.State, Medium.LooksOnly, Medium.Passes, Sent.SendsUpTo}
-use Rattle.medium.specs.{declared.fault.MediumFault.MediumFault}
-use Rattle.medium.specs.declared.fault.MediumFault.TheVariants.{Read, Flush}
-use Rattle.medium.specs.Moments.{EachCut, LeavesOnly, SparesFrom, IsQuiet}
-use Rattle.journal.specs.{Places.sectors_of, Format2.firsts_of, Record.Entry}
-use Rattle.journal.specs.{Record.entries_of}
+use Rattle.medium.specs.{Medium.{State, LooksOnly, Passes}, Sent.SendsUpTo}
+use Rattle.medium.specs.declared.fault.MediumFault.{MediumFault}
+use Rattle.medium.specs.{declared.fault.MediumFault.TheVariants.{Read, Flush}, Moments.EachCut}
+use Rattle.medium.specs.Moments.{LeavesOnly, SparesFrom, IsQuiet}
+use Rattle.journal.specs.{Places.sectors_of, Format2.firsts_of, Record.{Entry, entries_of}}
 use Rattle.redo_log.specs.declared.fault.LogFault.TheVariants.{Medium, StampsUsedUp, NoMemory}
 use Rattle.redo_log.specs.Value.{LogValue, died, begun, most_steps, most_retire_steps, IsStepped}
 use Rattle.redo_log.specs.Value.{Owes, IsAway, IsSentHome, IsRetireStepped, FlushesUpTo, IsReadBack}
-use Rattle.redo_log.specs.Held.{View, HoldsView, MayLeave, HasDurable, with_record, view_stepped}
+use Rattle.redo_log.specs.Value.{next_step_flushes, next_calls, next_sends, next_turn_flushes}
+use Rattle.redo_log.specs.{Value.{ahead_calls, pass_calls, CanPass}, Held.{View, HoldsView}}
+use Rattle.redo_log.specs.Held.{MayLeave, HasDurable, with_record, view_stepped, view_retired}
 use Rattle.redo_log.specs.{declared.fault.LogFault.LogFault, declared.progress.Progress.Progress}
-use Rattle.redo_log.specs.{declared.progress.Progress.TheVariants.Durable, Value.next_step_flushes}
-use Rattle.redo_log.specs.Value.{next_calls, next_sends, next_turn_flushes}
-use Rattle.redo_log.specs.{Held.view_retired}
+use Rattle.redo_log.specs.{declared.progress.Progress.TheVariants.Durable, Told.{CallMade, IsNext}}
+use Rattle.redo_log.specs.Told.{TurnMade}
 
 -- a step that answers Ok did this, and else the medium refused a call, and the log is dead
 pub record AnswersStep {X : Type 0} (Done : X → Type 0) (result : Result X LogFault)
@@ -95,6 +95,10 @@ pub record CanStep (log : LogValue) (numbers bytes : List ℕ) (m : State) : Typ
   pub numbers_are : numbers ≡ log.under_way
   pub size : length bytes ≡ 512 * length numbers
 
+-- This is so, or that is. (What cites a record with such a field need not go through its cases.)
+unfoldable pub Unless : Type 0 → Type 0 → Type 0
+Unless None Made = ¬ None → Made
+
 -- A call makes the next turn of the log's oldest record, or where there is none nothing. A view is
 -- afterwards as this function has it.
 pub record MakesTurns {M : Type 0} (state : M → State) (Follows : M → M → Type 0)
@@ -107,6 +111,30 @@ pub record MakesTurns {M : Type 0} (state : M → State) (Follows : M → M → 
       → MatchResult result (λ _. HoldsView new (state n) (after view))
       (λ _. HoldsView new (state n) view)
   pub leaves : LeavesLog old (state m) (state n)
+  -- the calls that it made are those that the log tells
+  pub told : Unless None (TurnMade state old (is_ok result) m n)
+
+-- a retire step is made
+abbrev pub MakesRetireStep : {M : Type 0} → (M → State) → (M → M → Type 0)
+    → Result (Unit {0}) LogFault → (old new : LogValue) → M → M → Type 0
+MakesRetireStep state Follows result old new m n = MakesTurns state Follows (old.waiting ≡ [])
+    (0 < length old.waiting → IsRetireStepped old new) (CountsStep (next_calls old)
+    (next_sends old) (next_turn_flushes old) result (state m) (state n))
+    (view_retired (new.head - old.head)) result old new m n
+
+-- a block of the oldest record goes home ahead
+abbrev pub MakesHomeAhead : {M : Type 0} → (M → State) → (M → M → Type 0)
+    → Result (Unit {0}) LogFault → (old new : LogValue) → M → M → Type 0
+MakesHomeAhead state Follows result old new m n = MakesTurns state Follows (¬ IsAway old)
+    (IsAway old → IsSentHome old new) (CountsStep (ahead_calls old) (next_sends old) 0 result
+    (state m) (state n)) (λ view. view) result old new m n
+
+-- the head goes ahead past it
+abbrev pub MakesHeadAhead : {M : Type 0} → (M → State) → (M → M → Type 0)
+    → Result (Unit {0}) LogFault → (old new : LogValue) → M → M → Type 0
+MakesHeadAhead state Follows result old new m n = MakesTurns state Follows (¬ CanPass old)
+    (CanPass old → IsRetireStepped old new) (CountsStep (pass_calls old) (pass_calls old) 0 result
+    (state m) (state n)) (view_retired (new.head - old.head)) result old new m n
 
 -- a medium holds this log once a retire step of it is counted
 abbrev pub HoldsCounted : LogValue → State → View → Type 0
@@ -127,6 +155,7 @@ pub record BringsOn {M : Type 0} (state : M → State) (Follows : M → M → Ty
   -- and with the turn counted that brings a block home ahead
   pub sent : IsAway log → (view : View) → HoldsView log (state m) view → (next : LogValue)
       → IsSentHome log next → OnOk result (HoldsView next (state n) view)
+  pub told : TurnMade state log (is_ok result) m n
 
 -- The calls of the next retire step, of which so many are made, bring this log on.
 abbrev pub TurnsOn : {M : Type 0} → (M → State) → (M → M → Type 0) → Result (Unit {0}) MediumFault
@@ -152,6 +181,7 @@ pub record StepCalled (entries : List Entry) (result : Result (Unit {0}) MediumF
   pub durable : (view : View) → HoldsView log old view → view.under_way ≡ entries
       → view.ours ≡ true → (next : LogValue) → IsStepped Durable log next
       → OnOk result (EachCut (HasDurable new.size next (with_record view)) new)
+  pub told : CallMade (IsNext entries log) (is_ok result) old new
 
 -- A call makes the next step of the record under way, which is one of these entries.
 pub record MakesStep {M : Type 0} (state : M → State) (Follows : M → M → Type 0)
@@ -168,6 +198,8 @@ pub record MakesStep {M : Type 0} (state : M → State) (Follows : M → M → T
       → view.ours ≡ true → result ≡ Ok Durable
       → EachCut (HasDurable (state n).size new (with_record view)) (state n)
   pub leaves : LeavesLog old (state m) (state n)
+  -- the call that it made is the one that the log tells
+  pub told : CallMade (IsNext entries old) (is_ok result) (state m) (state n)
 
 -- A record of these blocks is begun, which takes so few steps at most, or no stamp is left for it.
 pub record BeginsRecord (numbers bytes : List ℕ) (result : Result (Unit {0}) LogFault)

@@ -5,39 +5,46 @@ ghost use Rattle.journal.specs.Formats.{shape_of, layout_of};
 ghost use Rattle.journal.specs.Record.{entries_of};
 ghost use Rattle.redo_log.specs.Shown.{written_at};
 ghost use Rattle.medium.specs.Performed.{IsWithin};
-ghost use Rattle.redo_log.specs.Halfway.{IsNextCall};
+ghost use Rattle.redo_log.specs.Told.{IsNextCall};
 ghost use Rattle.redo_log.specs.Value.{IsBatch};
 
-use journal::{LogFormat, Super, early, parts, slot_of, slot_place, write_part};
+use journal::{LogFormat, Super, before_barrier, parts, slot_of, slot_place, write_part};
 use medium::Call;
 
-// How many parts of a record are written after `made` calls. One of them may be the early flush.
+// How many parts of a record are written after `made` calls. One of them may be the flush at the
+// barrier.
 #[tactic(auto, unfolding(crate::specs::Shown::written_at, crate::specs::Shown::flush_of))]
-fn written_at(early: usize, made: usize) -> usize
-    ensures { result ≡ written_at early made }
+fn written_at(barrier: usize, made: usize) -> usize
+    ensures { result ≡ written_at barrier made }
 {
-    if 0 < early && early < made {
+    if 0 < barrier && barrier < made {
         made - 1
     } else {
         made
     }
 }
 
-// Whether the early parts are written, and not flushed yet.
-fn is_early_due(early: usize, made: usize) -> bool
-    ensures { IsTrue result ↔ ((0 < early) × (made ≡ early)) }
+// Whether the parts before the barrier are written, and not flushed yet.
+fn is_barrier_due(barrier: usize, made: usize) -> bool
+    ensures { IsTrue result ↔ ((0 < barrier) × (made ≡ barrier)) }
 {
-    0 < early && made == early
+    0 < barrier && made == barrier
 }
 
-// Whether a flush comes next: the early parts are written, or all. A record has more parts than
-// blocks, so that they are not counted for each of these.
-fn is_flush_due(format: LogFormat, count: usize, early: usize, made: usize, written: usize) -> bool
+// Whether a flush comes next: the parts before the barrier are written, or all. A record has more
+// parts than blocks, so that they are not counted for each of these.
+fn is_flush_due(
+    format: LogFormat,
+    count: usize,
+    barrier: usize,
+    made: usize,
+    written: usize,
+) -> bool
     requires { count ≤ limit_of format }
-    ensures { IsTrue result ↔ (((0 < early) × (made ≡ early))
+    ensures { IsTrue result ↔ (((0 < barrier) × (made ≡ barrier))
         ⊎ ((layout_of format).parts count ≤ written)) }
 {
-    is_early_due(early, made) || (count < written && parts(format, count) <= written)
+    is_barrier_due(barrier, made) || (count < written && parts(format, count) <= written)
 }
 
 /// The next call of a record of which `made` calls are made, and in the sector what it writes. It
@@ -58,9 +65,9 @@ pub(crate) fn next_call(
     ensures inside { IsWithin (first_home (shape_of sizes.now)) result }
 {
     let count = numbers.len();
-    let early = early(sizes.format, count);
-    let written = written_at(early, made);
-    if is_flush_due(sizes.format, count, early, made, written) {
+    let barrier = before_barrier(sizes.format, count);
+    let written = written_at(barrier, made);
+    if is_flush_due(sizes.format, count, barrier, made, written) {
         return Call::Flush;
     }
     let slot = slot_of(stamp, sizes.slots);
@@ -72,7 +79,7 @@ pub(crate) fn next_call(
 /// does where no part of a record is flushed before the last.
 #[inline]
 pub(crate) fn is_stamped(format: LogFormat) -> bool
-    ensures { IsTrue result ↔ ((layout_of format).early 1 ≡ 0) }
+    ensures { IsTrue result ↔ ((layout_of format).before_barrier 1 ≡ 0) }
 {
-    early(format, 1) == 0
+    before_barrier(format, 1) == 0
 }

@@ -1,6 +1,6 @@
 //! A redo log and its records.
-ghost use Rattle.std.specs.Prelude.{◌≡◌, ℕ, ◌+◌, ◌-◌, ◌*◌, ◌^◌, ◌<◌, ◌≤◌, ◌↔◌, true, false, []};
-ghost use Rattle.std.specs.Prelude.{length, IsTrue, OnOk, IfOk, IfErr, MatchOption};
+ghost use Rattle.std.specs.Prelude.{◌≡◌, ℕ, ◌+◌, ◌*◌, ◌^◌, ◌<◌, ◌≤◌, ◌↔◌, true, false, length};
+ghost use Rattle.std.specs.Prelude.{IsTrue, OnOk, IfOk, IfErr, MatchOption};
 
 use crate::begun::BegunNumbers;
 use crate::copies::Copies;
@@ -65,12 +65,10 @@ impl Log {
     ghost use Rattle.journal.specs.Formats.{shape_of};
     ghost use Rattle.redo_log.specs.Value.{HasRoom, Owes, HasNoCopy, IsNewestCopy, idle_from};
     ghost use Rattle.redo_log.specs.Value.{empty_from, keeping_from};
-    ghost use Rattle.redo_log.specs.Value.{IsRetireStepped, next_calls, next_sends};
     ghost use Rattle.redo_log.specs.Value.{sends_of_oldest, most_retire_sends, IsBatch, entries_of};
-    ghost use Rattle.redo_log.specs.Value.{next_turn_flushes};
-    ghost use Rattle.redo_log.specs.Held.{View, HoldsView, view_retired};
-    ghost use Rattle.redo_log.specs.Steps.{IsOn, BeginsRecord, MakesStep, MakesTurns, KeepsLog};
-    ghost use Rattle.redo_log.specs.Steps.{CountsStep, TellsRetired, ReadsCopy, MakesLog};
+    ghost use Rattle.redo_log.specs.Held.{View, HoldsView};
+    ghost use Rattle.redo_log.specs.Steps.{IsOn, BeginsRecord, MakesStep, MakesRetireStep};
+    ghost use Rattle.redo_log.specs.Steps.{KeepsLog, TellsRetired, ReadsCopy, MakesLog};
 
     /// A log without records on a medium with this super. Its first record takes the stamp `next`,
     /// and as many may stand in it at once as there are slots. It reads the blocks of its records
@@ -213,15 +211,12 @@ impl Log {
     /// # Errors
     ///
     /// `Medium` where the medium refused a call. The log is dead then.
+    #[tactic(auto, unfolding(crate::specs::Steps::Unless))]
     pub fn retire_step<M: Medium>(&mut self, m: &mut M) -> Result<(), LogFault>
         requires { IsOn self.old (M.state m.old) }
         // Two calls copy a block, or one writes it that is kept, one flushes, two write the head
         // and flush it.
-        ensures { MakesTurns M.state M.follows (self.old.waiting ≡ [])
-            (0 < length self.old.waiting → IsRetireStepped self.old self.new)
-            (CountsStep (next_calls self.old) (next_sends self.old) (next_turn_flushes self.old)
-            result (M.state m.old) (M.state m.new)) (view_retired (self.new.head - self.old.head))
-            result self.old self.new m.old m.new }
+        ensures { MakesRetireStep M.state M.follows result self.old self.new m.old m.new }
     {
         if self.waiting.is_empty() {
             return Ok(());

@@ -6,7 +6,8 @@ ghost use Rattle.journal.specs.Places.{sectors_of};
 ghost use Rattle.redo_log.specs.Value.{next_calls, next_sends, of_oldest, IsAway, IsSentHome};
 ghost use Rattle.redo_log.specs.Value.{IsRetireStepped, next_turn_flushes};
 ghost use Rattle.redo_log.specs.Steps.{CountsStep, BringsOn, TurnsOn};
-ghost use Rattle.redo_log.specs.Halfway.{IsFirst, IsSecond, IsOneCall, TellsFirst, TellsSecond};
+ghost use Rattle.redo_log.specs.Halfway.{TellsFirst, TellsSecond};
+ghost use Rattle.redo_log.specs.Told.{IsFirst, IsSecond, IsOneCall};
 
 use crate::Log;
 use crate::firsts::first_kept;

@@ -11,9 +11,9 @@ use crate::begun::BegunNumbers;
 use crate::call::{is_stamped, next_call};
 use crate::index::enter_record;
 use crate::log::Numbers;
-use crate::making::{make, write};
+use crate::making::{make, write, write_stamped};
 use crate::{Log, Progress};
-use journal::{copy_place, data_sector2, parts, slot_of};
+use journal::{copy_place, parts, slot_of};
 use medium::{Call, Medium, MediumFault};
 use std::collections::VecDeque;
 
@@ -60,7 +60,7 @@ impl Log {
             unreachable!()
         };
         if is_stamped(self.sizes.format) {
-            return write(m, place, &data_sector2(self.stamp(), block));
+            return write_stamped(m, place, self.stamp(), block);
         }
         write(m, place, block)
     }

@@ -9,3 +9,4 @@ pub mod Ordering
 pub mod LoggedSteps
 pub mod LoggedTurns
 pub mod Logging
+pub mod Making

@@ -1,25 +1,24 @@
 -- A record of a log that is begun, and the calls that write it: each may be next.
 use Rattle.std.proofs.Common.{◌≡◌, ◌≢◌, ◌⊎◌, inl, inr, ⊎_elim, ℕ, suc, ◌+◌, ◌-◌, ◌*◌, ◌<◌, ◌≤◌, List, [], ◌∷◌, ◌++◌, length, get_or, refl}
-use Rattle.std.proofs.Common.{sym, ◌∙◌, arith, rules, ap, length-append, length-drop, drop, map, true, take}
-use Rattle.std.proofs.{lemmas.Bool.{cases_eq, cases_lt}, lemmas.Bool.Decides.nat_tests}
-use Rattle.std.proofs.lemmas.List.{length-map, map-append, drop-append-le, drop-drop, get_or_append_left, get_or_at, nil_from_length}
-use Rattle.std.proofs.{lemmas.List.{drop_at, take-append-le, take_all}, lemmas.List.Sums.{sum_by-append, sum_by-cons}}
-use Rattle.std.proofs.{lemmas.List.Elements.All-append}
+use Rattle.std.proofs.{Common.{sym, ◌∙◌, arith, rules, ap, length-append, length-drop, drop, map, true, take}, lemmas.Bool.cases_eq}
+use Rattle.std.proofs.{lemmas.Bool.cases_lt, lemmas.Bool.Decides.nat_tests, lemmas.List.{length-map, map-append, drop-append-le, drop-drop}}
+use Rattle.std.proofs.lemmas.List.{get_or_append_left, get_or_at, nil_from_length, drop_at, take-append-le, take_all}
+use Rattle.std.proofs.{lemmas.List.Sums.{sum_by-append, sum_by-cons}, lemmas.List.Elements.All-append}
 use Rattle.std.specs.Prelude.{All, ◌^◌, sum_by}
 use Rattle.medium.specs.{declared.medium_call.Call.Call, declared.medium_call.Call.TheVariants.Flush}
-use Rattle.journal.specs.{Places.Shape, Record.{Entry, numbers_of, entries_of, entries_from}, Formats.layout_of}
-use Rattle.journal.specs.{Layout.{IsRecordOf, part_at}, Sectors.IsRising}
+use Rattle.journal.specs.{Places.Shape, Record.{Entry, numbers_of, entries_of, entries_from}, Formats.layout_of, Layout.IsRecordOf}
+use Rattle.journal.specs.{Layout.part_at, Sectors.IsRising}
 use Rattle.journal.proofs.{Formats.{laws_of, most_is}, BatchEntries.{numbers_of_batch, length_of_batch, sized_batch}}
 use Rattle.redo_log.specs.Value.{LogValue, HasRoom, IsStepped, begun, of_oldest, behind_oldest, steps_of, steps_for, retire_steps_of}
-use Rattle.redo_log.specs.Held.{made_of, needed_of, AreSized, kept_copies, stamps_of, bytes_of, begun_copies}
-use Rattle.redo_log.specs.{Halfway.{IsNextCall, IsFlushDue}, Shown.{written_at, flushed_at, flush_of}, declared.progress.Progress.Progress}
+use Rattle.redo_log.specs.{Held.{made_of, needed_of, AreSized, kept_copies, stamps_of, bytes_of, begun_copies}, Told.IsNextCall}
+use Rattle.redo_log.specs.{Told.IsFlushDue, Shown.{written_at, flushed_at, flush_of}, declared.progress.Progress.Progress}
 use Rattle.redo_log.specs.declared.progress.Progress.TheVariants.{More, Durable}
-use Rattle.redo_log.proofs.KeptCopies.{durable_copies, begun_kept, bytes_of_batch}
-use Rattle.redo_log.proofs.RecordSteps.{durable_of, durable_more, made_is, written_is, flush_of_is, steps_are, all_written, early_written}
-use Rattle.redo_log.proofs.RecordSteps.{part_written, none_written, due_or_not}
-use Rattle.theorems.specs.Ordering.{Written, stamp_of, layout, parts_of, early_of, with_part, without_parts, Begins, Lands, WritesPart}
-use Rattle.theorems.specs.{Ordering.MayBeNext}
-use Rattle.theorems.specs.Logging.{Logs, HasRecords, HasParts, HasHome, AreHome, HasLanded, waiting_of, TakesRecord, StepsBy, begun_of}
+use Rattle.redo_log.proofs.{KeptCopies.{durable_copies, begun_kept, bytes_of_batch}, RecordSteps.{durable_of, durable_more, made_is}}
+use Rattle.redo_log.proofs.RecordSteps.{written_is, flush_of_is, steps_are, all_written, barrier_written, part_written, none_written}
+use Rattle.redo_log.proofs.RecordSteps.{due_or_not}
+use Rattle.theorems.specs.Ordering.{Written, stamp_of, layout, parts_of, barrier_of, with_part, without_parts, Begins, Lands, WritesPart}
+use Rattle.theorems.specs.{Ordering.MayBeNext, Logging.{Logs, HasRecords, HasParts, HasHome, AreHome, HasLanded, waiting_of, TakesRecord}}
+use Rattle.theorems.specs.Logging.{StepsBy, begun_of}
 
 -- what a flush makes of the turns that are made
 pub after_flush : {log : LogValue} {w : Written} → w.flushed ≡ w.written → log.ring ≤ log.shape.slots
@@ -33,7 +32,7 @@ after_flush {log} {w} same ring owed few head order home =
 
 -- the steps are a call for each part, and the flushes
 steps_for_shape : (a b : Shape) → a ≡ b → (n : ℕ)
-    → steps_for b.format n ≡ (layout_of a.format).parts n + 1 + flush_of ((layout_of a.format).early n)
+    → steps_for b.format n ≡ (layout_of a.format).parts n + 1 + flush_of ((layout_of a.format).before_barrier n)
 steps_for_shape a b same n = rw same (steps_are b.format n)
 
 -- the blocks of a record are those that its numbers and bytes make
@@ -69,8 +68,8 @@ module _ {log : LogValue} {w : Written} (k : Logs log w) where
 
   pub flush_parts : HasParts log flushed
   flush_parts =
-      let all : (p : ℕ) → p < flushed_at (early_of w) (made_of log) → w.written.parts p ≡ true =
-      λ p low. k.parts.written p (omega (arith, low, written_is (early_of w) (made_of log), flush_of_is (early_of w))) in
+      let all : (p : ℕ) → p < flushed_at (barrier_of w) (made_of log) → w.written.parts p ≡ true =
+      λ p low. k.parts.written p (omega (arith, low, written_is (barrier_of w) (made_of log), flush_of_is (barrier_of w))) in
       search (rules, k.parts)
 
   flush_home : HasHome log flushed
@@ -109,7 +108,7 @@ module _ {log : LogValue} {w : Written} (k : Logs log w) where
       let names = sym named in
       let records : HasRecords more new = search (rules, arith, r, next, one) in
       let none_made : made_of more ≡ 0 = grind (arith, nat_tests) in
-      let zero_made = none_written (early_of new) (made_of more) none_made in
+      let zero_made = none_written (barrier_of new) (made_of more) none_made in
       let parts : HasParts more new = search (rules, arith, long, batch.some, zero_made) in
       let behind : (behind_oldest log + retire_steps_of numbers ≡ behind_oldest more) = rw room.none_under_way (omega arith) in
       let same : of_oldest more ≡ of_oldest log = omega (arith, behind) in
@@ -121,10 +120,10 @@ module _ {log : LogValue} {w : Written} (k : Logs log w) where
       rw t.next_is (new, is, record { records = records; parts = parts; home = home })
 
   -- ---- a call of the record under way
-  all_steps : 0 < log.steps_left → made_of log + log.steps_left ≡ parts_of w + 1 + flush_of (early_of w)
+  all_steps : 0 < log.steps_left → made_of log + log.steps_left ≡ parts_of w + 1 + flush_of (barrier_of w)
   all_steps some =
       let named : length log.under_way ≡ length w.under_way = rw k.records.under_way (length-map w.under_way (λ (e : Entry). e.0)) in
-      let total : steps_of log.shape.format log.under_way ≡ parts_of w + 1 + flush_of (early_of w) =
+      let total : steps_of log.shape.format log.under_way ≡ parts_of w + 1 + flush_of (barrier_of w) =
       rw named (steps_for_shape w.shape log.shape k.records.shape (length w.under_way)) in
       omega (arith, made_is log some, k.parts.few, total)
 
@@ -144,24 +143,24 @@ module _ {log : LogValue} {w : Written} (k : Logs log w) where
   flush_more : 1 < log.steps_left → IsFlushDue (layout w) (length w.under_way) (made_of log) → Logs step_next flushed
   flush_more more due =
       let next = one_more more in
-      let e : ℕ = early_of w in
-      let late : early_of w < parts_of w = (laws_of w.shape.format).last_is_late (length w.under_way) in
+      let e : ℕ = barrier_of w in
+      let late : barrier_of w < parts_of w = (laws_of w.shape.format).last_is_behind (length w.under_way) in
       let sum = all_steps (omega (arith, more)) in
       let first : (0 < e) × (made_of log ≡ e) = ⊎_elim (λ both. both)
       (λ whole. absurd (omega (arith, whole, sum, more, all_written e (parts_of w) (made_of log) late))) due in
-      let now = early_written e (made_of log) (made_of step_next) next first.0 first.1 in
+      let now = barrier_written e (made_of log) (made_of step_next) next first.0 first.1 in
       let parts : HasParts step_next flushed = search (rules, arith, k.parts, now, more) in
       search (rules, k.records, parts, step_home more flush_home)
 
   -- or writes a part
   part_more : 1 < log.steps_left → (¬ IsFlushDue (layout w) (length w.under_way) (made_of log))
-      → Logs step_next (record w { written = with_part (written_at (early_of w) (made_of log)) w.written })
+      → Logs step_next (record w { written = with_part (written_at (barrier_of w) (made_of log)) w.written })
   part_more more not =
       let next = one_more more in
-      let e : ℕ = early_of w in
+      let e : ℕ = barrier_of w in
       let apart : (e ≤ 0) ⊎ (made_of log ≢ e) = grind (arith, not) in
       let now = part_written e (made_of log) (made_of step_next) next apart in
-      let part : ℕ = written_at (early_of w) (made_of log) in
+      let part : ℕ = written_at (barrier_of w) (made_of log) in
       let parts : HasParts step_next (record w { written = with_part part w.written }) =
       grind (arith, nat_tests, cases_eq, now, k.parts, more) in
       record { records = search (rules, k.records); parts = parts; home = step_home more (search (rules, k.home)) }
@@ -173,9 +172,9 @@ module _ {log : LogValue} {w : Written} (k : Logs log w) where
   module _ (last : log.steps_left ≡ 1) where
     whole : (p : ℕ) → p < parts_of w → w.written.parts p ≡ true
     whole p low =
-        let late : early_of w < parts_of w = (laws_of w.shape.format).last_is_late (length w.under_way) in
+        let late : barrier_of w < parts_of w = (laws_of w.shape.format).last_is_behind (length w.under_way) in
         let sum = all_steps (omega (arith, last)) in
-        k.parts.written p (omega (arith, low, sum, last, all_written (early_of w) (parts_of w) (made_of log) late))
+        k.parts.written p (omega (arith, low, sum, last, all_written (barrier_of w) (parts_of w) (made_of log) late))
 
     durable_records : HasRecords (durable_of log) landed
     durable_records =
@@ -196,7 +195,7 @@ module _ {log : LogValue} {w : Written} (k : Logs log w) where
 
     durable_parts : HasParts (durable_of log) landed
     durable_parts =
-        let none = none_written (early_of landed) 0 refl in
+        let none = none_written (barrier_of landed) 0 refl in
         search (rules, arith, none)
 
     durable_home : HasHome (durable_of log) landed
@@ -241,8 +240,8 @@ module _ {log : LogValue} {w : Written} (k : Logs log w) where
   part_step : {next : LogValue} {call : Call} {bytes : List ℕ} (progress : Progress) → IsStepped progress log next
       → (¬ IsFlushDue (layout w) (length w.under_way) (made_of log)) → Told call bytes → Stepped progress next call bytes
   part_step {bytes = bytes} More stepped not told =
-      let e : ℕ = early_of w in
-      let part : ℕ = written_at (early_of w) (made_of log) in
+      let e : ℕ = barrier_of w in
+      let part : ℕ = written_at (barrier_of w) (made_of log) in
       let new : Written = record w { written = with_part part w.written } in
       let apart : (e ≤ 0) ⊎ (made_of log ≢ e) = grind (arith, not) in
       let inside : part < parts_of w = grind (arith, not) in
@@ -259,10 +258,10 @@ module _ {log : LogValue} {w : Written} (k : Logs log w) where
       } in
       rw ((told.1 not).0, stepped.1) (new, new, inl writes, refl, part_more stepped.0 not)
   part_step Durable stepped not told =
-      let late : early_of w < parts_of w = (laws_of w.shape.format).last_is_late (length w.under_way) in
-      let inside : written_at (early_of w) (made_of log) < parts_of w = grind (arith, not) in
+      let late : barrier_of w < parts_of w = (laws_of w.shape.format).last_is_behind (length w.under_way) in
+      let inside : written_at (barrier_of w) (made_of log) < parts_of w = grind (arith, not) in
       let sum = all_steps (omega (arith, stepped.0)) in
-      absurd (omega (arith, inside, sum, stepped.0, all_written (early_of w) (parts_of w) (made_of log) late))
+      absurd (omega (arith, inside, sum, stepped.0, all_written (barrier_of w) (parts_of w) (made_of log) late))
 
   pub begun_is : begun_of log ≡ w.under_way
   begun_is = elim (cases_lt 0 (length w.under_way)) [

@@ -8,7 +8,7 @@ use Rattle.medium.specs.{declared.medium_call.Call.Call, declared.medium_call.Ca
 use Rattle.journal.specs.{Record.{Entry, numbers_of}, Sectors.IsHead}
 use Rattle.redo_log.specs.Value.{LogValue, IsAway, IsSentHome, IsRetireStepped, IsCovered, CanPass, settled, Ahead, of_oldest}
 use Rattle.redo_log.specs.{Value.{behind_oldest, ahead_of, retire_steps_of}, Held.{turned_of, needed_of, AreSized, kept_copies}}
-use Rattle.redo_log.specs.Halfway.{IsFirst, kept_of, home_of}
+use Rattle.redo_log.specs.Told.{IsFirst, kept_of, home_of}
 use Rattle.redo_log.proofs.{KeptCopies.{retired_copies, copy_kept_is}, RecordSteps.{needed_one, retired_of, nothing_home, not_homed}}
 use Rattle.theorems.specs.Ordering.{Extent, Written, stamp_of, record_at, with_home, IsFlushedHome, WritesHome, WritesHead, MayBeNext}
 use Rattle.theorems.specs.Logging.{Logs, HasRecords, HasHome, AreHome, MayCall, waiting_of, TurnsBy, RetiresBy}
@@ -196,6 +196,20 @@ module _ {log : LogValue} {w : Written} (k : Logs log w) where
       let may : MayBeNext Flush with (passed one) (passed_flushed one) = refl in
       rw ((by.is_first.head one).0, flush, by.counted.last (omega (arith, one)))
       (passed one, inr (inr (passes_head one (by.is_first.head one).1)), (passed_flushed one, may, retired_logs one))
+
+  -- the first call of a turn may be next, whatever comes of it
+  pub first_may : 0 < of_oldest log → {call : Call} {bytes : List ℕ} → IsFirst log call bytes → (new : Written) × MayBeNext call bytes w new
+  first_may owed {bytes = bytes} first = elim (cases_lt 2 (of_oldest log)) [
+    | inl away ↦
+        let kept = first.kept away k.records.keeps in
+        let writes : WritesHome w (home_of log) bytes (homed away) = rw kept.1 (goes_home away) in rw kept.0 (homed away, inr (inl writes))
+    | inr behind ↦ elim (cases_eq (of_oldest log) 2) [
+      | inl two ↦ let may : MayBeNext Flush bytes w (flushed k) = refl in rw (first.flush two) (flushed k, may)
+      | inr not ↦
+          let one : of_oldest log ≡ 1 = omega (arith, owed, behind, not) in
+          rw (first.head one).0 (passed one, inr (inr (passes_head one (first.head one).1)))
+    ]
+  ]
 
   passes : {next : LogValue} {call : Call} {bytes : List ℕ} → CanPass log → IsFirst log call bytes → IsRetireStepped log next
       → MayCall next w call bytes

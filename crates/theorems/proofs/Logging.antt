@@ -4,19 +4,18 @@ use Rattle.std.proofs.{Common.{rules, subst}, lemmas.Bool.cases_lt, lemmas.Bool.
 use Rattle.std.specs.Prelude.{◌^◌, Ok}
 use Rattle.medium.specs.{Medium.{State, IsSound}, Performed.Performed, declared.medium_call.Call.Call}
 use Rattle.medium.specs.declared.medium_call.Call.TheVariants.{Read, Write, Flush}
-use Rattle.journal.specs.{Record.Entry}
+use Rattle.journal.specs.Record.{Entry}
 use Rattle.redo_log.specs.{Value.{LogValue, keeping_from, settled, of_oldest, IsStepped}, declared.progress.Progress.Progress}
 use Rattle.redo_log.specs.declared.progress.Progress.TheVariants.{More, Durable}
-use Rattle.redo_log.proofs.{RecordSteps.none_written}
-use Rattle.theorems.specs.Ordering.{Written, early_of, MayBeNext}
-use Rattle.theorems.specs.Logging.{Logs, HasLanded, LogKeepsTheRules, unwritten, GoesOn, GoesThrough, EveryLogIsSafe, landed_in, all_landed}
-use Rattle.theorems.specs.Logging.{TurnsBy, RetiresBy}
-use Rattle.theorems.proofs.Ordering.{Kept, opened_kept, begins_kept, lands_kept, call_kept, kept_safe}
-use Rattle.theorems.proofs.{LoggedSteps.{begins, steps, begun_is}, LoggedTurns.{turns, settles, retires}}
+use Rattle.redo_log.proofs.RecordSteps.{none_written}
+use Rattle.theorems.specs.{Ordering.{Written, barrier_of, MayBeNext, Opens}, Logging.{Logs, HasLanded, LogKeepsTheRules, unwritten, GoesOn}}
+use Rattle.theorems.specs.Logging.{Through, EveryLogIsSafe, landed_in, all_landed, TurnsBy, RetiresBy, IsSafeLog}
+use Rattle.theorems.proofs.{Ordering.{Kept, opened_kept, begins_kept, lands_kept, call_kept, kept_safe}, LoggedSteps.{begins, steps}}
+use Rattle.theorems.proofs.{LoggedSteps.begun_is, LoggedTurns.{turns, settles, retires}}
 
 opens : (w : Written) (count : ℕ) → w.shape.blocks ≤ 2 ^ 31 → 1 ≤ w.first → Logs (keeping_from w.shape w.first count) (unwritten w)
 opens w count small least =
-    let none = none_written (early_of (unwritten w)) 0 refl in
+    let none = none_written (barrier_of (unwritten w)) 0 refl in
     record {
       records = grind (arith, small, least);
       parts = search (rules, arith, none);
@@ -59,10 +58,10 @@ retire_stays by = rw (by.counted.last (omega (arith, by.one))) refl
 
 module _ {M : Type 0} (state : M → State) (sound : (m : M) → IsSound (state m)) where
   -- what is kept of a log and its medium, once these records have become durable
-  abbrev Grown : LogValue → M → Written → List (List Entry) → Type 0
+  abbrev pub Grown : LogValue → M → Written → List (List Entry) → Type 0
   Grown log m w more = (new : Written) × Logs log new × Kept new (state m) × (new.opening ≡ w.opening) × (new.records ≡ w.records ++ more)
 
-  none_landed : (log next : LogValue) → next.steps_left ≡ log.steps_left → landed_in log next ≡ []
+  pub none_landed : (log next : LogValue) → next.steps_left ≡ log.steps_left → landed_in log next ≡ []
   none_landed log next same = grind (arith, nat_tests, same)
 
   called : {w new : Written} {m n : M} (mid : Written) (call : Call) (bytes got : List ℕ) (progress : Progress) → Kept w (state m)
@@ -83,7 +82,7 @@ module _ {M : Type 0} (state : M → State) (sound : (m : M) → IsSound (state 
       let same = call_keeps call _ _ _ may in
       rw (lands.new_is, one, same.2, same.1) (same.0, refl)
 
-  goes_on : {log next : LogValue} {m n : M} {w : Written} → Logs log w → Kept w (state m) → GoesOn state log m next n
+  pub goes_on : {log next : LogValue} {m n : M} {w : Written} → Logs log w → Kept w (state m) → GoesOn state log m next n
       → Grown next n w (landed_in log next)
   goes_on {log} {next} {m} {n} {w} logs kept goes = elim goes [
     | inl still ↦ elim still.1 [
@@ -117,27 +116,38 @@ module _ {M : Type 0} (state : M → State) (sound : (m : M) → IsSound (state 
     ]
   ]
 
-  goes_through : {log next : LogValue} {m n : M} {w : Written} (through : List (LogValue × M)) → Logs log w → Kept w (state m)
-      → GoesThrough state log m through next n → Grown next n w (all_landed log through)
-  goes_through {w = w} [] logs kept goes = rw (goes.0, goes.1, append-nil) (w, logs, kept, refl, refl)
-  goes_through {log} {next} {m} {n} {w} (mid ∷ through) logs kept goes =
-      let a = goes_on logs kept goes.0 in
-      let b = goes_through {log = mid.0} {m = mid.1} through a.1 a.2 goes.1 in
-      (b.0, b.1, b.2, b.3 ∙ a.3, rw (← append_assoc, ← a.4) b.4)
+  -- each step of these keeps it
+  abbrev pub Keeps : (LogValue → M → LogValue → M → Type 0) → Type 0
+  Keeps On = (log next : LogValue) (m n : M) (w : Written) → Logs log w → Kept w (state m) → On log m next n
+      → Grown next n w (landed_in log next)
+
+  module _ (On : LogValue → M → LogValue → M → Type 0) (on : Keeps On) where
+    goes_through : {log next : LogValue} {m n : M} {w : Written} (through : List (LogValue × M)) → Logs log w → Kept w (state m)
+        → Through On log m through next n → Grown next n w (all_landed log through)
+    goes_through {w = w} [] logs kept goes = rw (goes.0, goes.1, append-nil) (w, logs, kept, refl, refl)
+    goes_through {log} {next} {m} {n} {w} (mid ∷ through) logs kept goes =
+        let a = on log mid.0 m mid.1 w logs kept goes.0 in
+        let b = goes_through {log = mid.0} {m = mid.1} through a.1 a.2 goes.1 in
+        (b.0, b.1, b.2, b.3 ∙ a.3, rw (← append_assoc, ← a.4) b.4)
+
+    pub every_order : (w : Written) (count : ℕ) (log : LogValue) (m n : M) (through : List (LogValue × M)) → Opens w (state m)
+        → Through On (keeping_from w.shape w.first count) m through log n
+        → IsSafeLog state w.opening (all_landed (keeping_from w.shape w.first count) through) log n
+    every_order w count log m n through is goes =
+        let keeps = (is.rests (state m).content (sound m).holds_content).keeps in
+        let logs : Logs (keeping_from w.shape w.first count) w =
+        subst (λ v. Logs (keeping_from w.shape w.first count) v) (sym is.is) (opens w count keeps.super.most_blocks keeps.head_is.least) in
+        let end = goes_through through logs (opened_kept (sound m) is) goes in
+        let none : w.records ≡ [] = rw is.is refl in
+        record {
+          w = end.0;
+          opening_is = end.3;
+          records_are = end.4 ∙ ap (λ (l : List (List Entry)). l ++ all_landed (keeping_from w.shape w.first count) through) none;
+          logs = end.1;
+          safe = kept_safe state sound end.2;
+          between = λ by made.
+              let s = retires end.1 by in (s.0, s.1, kept_safe state sound (call_kept end.2 _ s.0 _ s.1 made));
+        }
 
   pub every_log : EveryLogIsSafe state
-  every_log w count log m n through is goes =
-      let keeps = (is.rests (state m).content (sound m).holds_content).keeps in
-      let logs : Logs (keeping_from w.shape w.first count) w =
-      subst (λ v. Logs (keeping_from w.shape w.first count) v) (sym is.is) (opens w count keeps.super.most_blocks keeps.head_is.least) in
-      let end = goes_through through logs (opened_kept (sound m) is) goes in
-      let none : w.records ≡ [] = rw is.is refl in
-      record {
-        w = end.0;
-        opening_is = end.3;
-        records_are = end.4 ∙ ap (λ (l : List (List Entry)). l ++ all_landed (keeping_from w.shape w.first count) through) none;
-        logs = end.1;
-        safe = kept_safe state sound end.2;
-        between = λ by made.
-            let s = retires end.1 by in (s.0, s.1, kept_safe state sound (call_kept end.2 _ s.0 _ s.1 made));
-      }
+  every_log = every_order (GoesOn state) (λ log next m n w logs kept goes. goes_on logs kept goes)

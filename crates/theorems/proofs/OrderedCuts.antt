@@ -7,7 +7,7 @@ use Rattle.spec.specs.{Blocks.Array}
 use Rattle.journal.specs.{Places.{Shape, sectors_of}, Record.{Entry, with_records, home_of}, Sectors.{IsSuper, IsHead}, Formats.layout_of}
 use Rattle.journal.specs.Layout.{IsRecordOf, IsFree, LoggedIn, CarriesBelowIn, part_at}
 use Rattle.journal.specs.{Staged.{View, KeepsView, Guarded, HasSlots, MayLeave as LeavesOf}, Standing.IsOurs}
-use Rattle.theorems.specs.Ordering.{Extent, Written, at_first, layout, parts_of, early_of, stamp_of, array_of, IsFlushedHome, MayLeave}
+use Rattle.theorems.specs.Ordering.{Extent, Written, at_first, layout, parts_of, barrier_of, stamp_of, array_of, IsFlushedHome, MayLeave}
 use Rattle.journal.proofs.{Formats.laws_of, Wholeness.all_or_first, Engine.{guarded_leaves, rests_found}}
 use Rattle.theorems.proofs.{OrderedArrays.goes_on_home}
 
@@ -58,7 +58,7 @@ Between w s bytes = (e : Extent) × IsBelow w.flushed e × IsBelow e w.written �
 pub record IsBegun (w : Written) : Type 0 where
   pub room : stamp_of w < w.flushed.head + w.shape.slots
   pub fit : IsRecordOf (layout w) w.shape.blocks (stamp_of w) w.under_way
-  pub commit : (p : ℕ) → early_of w ≤ p → w.written.parts p ≡ true → (q : ℕ) → q < early_of w → w.flushed.parts q ≡ true
+  pub commit : (p : ℕ) → barrier_of w ≤ p → w.written.parts p ≡ true → (q : ℕ) → q < barrier_of w → w.flushed.parts q ≡ true
 
 -- what the rules keep of what was written
 pub record Ordered (w : Written) : Type 0 where
@@ -137,15 +137,15 @@ module _ (w : Written) (o : Ordered w) {image : Image} (f : (s : ℕ) → Betwee
       let fit : IsRecordOf (layout w) w.shape.blocks (view.head + length view.records) w.under_way = rw next_is begun.fit in
       let slots : HasSlots (layout w) view = grind (arith, o.some_slots, o.behind, begun.room, (f 1).1.head, next_is) in
       let cut = guarded_leaves (layout w) (laws_of w.shape.format) view slots image in
-      elim (all_or_first (λ p. w.flushed.parts p ≡ true) (λ p. w.flushed.parts p ≡ false) (early_of w)
+      elim (all_or_first (λ p. w.flushed.parts p ≡ true) (λ p. w.flushed.parts p ≡ false) (barrier_of w)
       (λ p below. cases_Bool (w.flushed.parts p))) [
-        | inl all ↦ cut (parts_of w) (early_of w) (λ _. omega arith) (guarded some (parts_of w) (early_of w) all (λ p below _. below))
+        | inl all ↦ cut (parts_of w) (barrier_of w) (λ _. omega arith) (guarded some (parts_of w) (barrier_of w) all (λ p below _. below))
         | inr one ↦
-            let early : (p : ℕ) → p < parts_of w → w.written.parts p ≡ true → p < early_of w = λ p below is.
-            ⊎_elim (λ low. low) (λ high. absurd (cc (begun.commit p high is one.0 one.1, one.3))) (cases_lt p (early_of w)) in
-            ⊎_elim inl (λ found. inr (omega arith, found.1)) (cut (early_of w) 0
-            (λ all. omega (arith, all, (laws_of w.shape.format).last_is_late (length w.under_way)))
-            (guarded some (early_of w) 0 (λ p below. absurd (omega arith)) early))
+            let early : (p : ℕ) → p < parts_of w → w.written.parts p ≡ true → p < barrier_of w = λ p below is.
+            ⊎_elim (λ low. low) (λ high. absurd (cc (begun.commit p high is one.0 one.1, one.3))) (cases_lt p (barrier_of w)) in
+            ⊎_elim inl (λ found. inr (omega arith, found.1)) (cut (barrier_of w) 0
+            (λ all. omega (arith, all, (laws_of w.shape.format).last_is_behind (length w.under_way)))
+            (guarded some (barrier_of w) 0 (λ p below. absurd (omega arith)) early))
       ]
 
   pub leaves : (size : ℕ) → sectors_of w.shape ≤ size → MayLeave size w image

@@ -1,9 +1,8 @@
 -- What follows from the rules of the unit where the medium refuses nothing and stamps are left.
 use Rattle.std.proofs.{Common.{◌≡◌, ◌≢◌, ℕ, false, List, None, arith}, lemmas.Bool.Decides.nat_tests}
-use Rattle.std.specs.{Prelude.Result}
-use Rattle.spec.specs.{Book.StampsOut, Sense.Sense, declared.command.Command.Command}
-use Rattle.spec.specs.Rules.{Intention, UnitState, CarriesOut, Ticks, IsOutcome, checked, intention, intention_by, moves_after, write_after}
-use Rattle.spec.specs.Rules.{write_in_progress, with_progress}
+use Rattle.std.specs.Prelude.{Result}
+use Rattle.spec.specs.{Book.StampsOut, Sense.Sense, declared.command.Command.Command, Rules.{Intention, UnitState, CarriesOut, Ticks}}
+use Rattle.spec.specs.Rules.{IsOutcome, checked, intention, intention_by, moves_after, write_after, write_in_progress, with_progress}
 use Rattle.spec.specs.declared.intent.Intent.TheVariants as intent
 
 -- the table alone decides what comes of a command that passed the checks, or did not

@@ -1,12 +1,11 @@
 -- What a host sees of steps in the background where the medium refuses nothing and stamps are left: nothing.
 use Rattle.std.proofs.Common.{◌≡◌, inl, inr, ℕ, Bool, true, false, List, [], sym, ◌∙◌, arith, ◌∷◌, refl, subst}
-use Rattle.std.proofs.{lemmas.Bool.Decides.nat_tests}
+use Rattle.std.proofs.lemmas.Bool.Decides.{nat_tests}
 use Rattle.spec.specs.{declared.wrapper.Cbw.Cbw, declared.way.Way.Way, declared.case.Case.Case, Cases.IsCase, CommandWrapper.SpellsCommand}
 use Rattle.spec.specs.{Book.StampsOut, Rules.{UnitState, CarriesOut, Ticks, write_in_progress, with_progress}, declared.event.Event.Event}
-use Rattle.spec.specs.{declared.event.Answer.Answer, Requests.{Request, setup_packet}}
-use Rattle.spec.specs.Exchange.{Line, Script, finished, taking, sending, Moment, at_once, moment_of}
-use Rattle.spec.specs.Conversation.{Conversation, IsCarriedOut, Begins, OpensExchange, Takes, OutStep, SetupStep}
-use Rattle.spec.specs.UnitConversation.{Intends, write_of_packet, UnitStep, UnitRun}
+use Rattle.spec.specs.{declared.event.Answer.Answer, Requests.{Request, setup_packet}, Exchange.{Line, Script, finished, taking, sending}}
+use Rattle.spec.specs.{Exchange.{Moment, at_once, moment_of}, Conversation.{Conversation, IsCarriedOut, Begins, OpensExchange, Takes}}
+use Rattle.spec.specs.{Conversation.{OutStep, SetupStep}, UnitConversation.{Intends, write_of_packet, UnitStep, UnitRun}}
 use Rattle.theorems.specs.Striking.{TicksAreStruck, HasStamps, without_ticks, answers_without_ticks, IsUntroubled}
 use Rattle.theorems.proofs.{Rules.{one_answer, ticks_nothing}, Wrappers.{one_wrapper, one_case, at_once-writes_none}}
 use Rattle.spec.specs.declared.event.Event.TheVariants as event

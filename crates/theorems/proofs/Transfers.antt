@@ -1,22 +1,21 @@
 -- What a host hears of an exchange does not depend on the size of a packet.
 use Rattle.std.proofs.Common.{◌≡◌, ◌<◌, ◌≤◌, ℕ, zero, suc, Bool, false, List, [], ◌∷◌, ◌++◌, length, take, drop, map, refl, ap, subst, ◌∙◌}
-use Rattle.std.proofs.Common.{arith, length-drop, ◌-◌, inl, inr, ⊎_elim, sym, append_assoc, length-take}
-use Rattle.std.proofs.{lemmas.List.{take-append-drop, take_all, drop_all}, lemmas.List.Elements.{All-head, All-tail}}
+use Rattle.std.proofs.{Common.{arith, length-drop, ◌-◌, inl, inr, ⊎_elim, sym, append_assoc, length-take}, lemmas.List.take-append-drop}
+use Rattle.std.proofs.{lemmas.List.{take_all, drop_all}, lemmas.List.Elements.{All-head, All-tail}}
 use Rattle.std.specs.Prelude.{Option, Result, Ok, Err, All, None}
 use Rattle.spec.specs.{declared.wrapper.Cbw.Cbw, declared.way.Way.Way, declared.case.Case.Case, declared.case.Case.TheVariants.{C5, C6}}
 use Rattle.spec.specs.{declared.case.Endpoint.Endpoint, declared.status.Status.TheVariants.{Passed, Failed, PhaseError}, Sense.Sense}
 use Rattle.spec.specs.{Rules.{UnitState, CarriesOut, Ticks, intention, write_in_progress, with_progress}, declared.event.Event.Event}
-use Rattle.spec.specs.{declared.event.Answer.Answer, declared.event.Answer.TheVariants.Ack, Packets.packets_of}
-use Rattle.spec.specs.Exchange.{Script, finished, taking, sending, Line, laid_out, sent_in, status_for, told, case_if_failed, at_rest}
-use Rattle.spec.specs.Exchange.{Moment, at_once, after_data, never, moment_of, outcome_for}
-use Rattle.spec.specs.Conversation.{Conversation, OutStep, IsCarriedOut, Begins, OpensExchange, Takes}
-use Rattle.spec.specs.{UnitConversation.{Intends, UnitStep, way_of, on_line}, Cases.{IsCase, size_of_way}, CommandWrapper.SpellsCommand}
-use Rattle.spec.specs.{Book.StampsOut}
+use Rattle.spec.specs.{declared.event.Answer.Answer, declared.event.Answer.TheVariants.Ack, Packets.packets_of, Exchange.{Script, finished}}
+use Rattle.spec.specs.Exchange.{taking, sending, Line, laid_out, sent_in, status_for, told, case_if_failed, at_rest, Moment, at_once}
+use Rattle.spec.specs.{Exchange.{after_data, never, moment_of, outcome_for}, Conversation.{Conversation, OutStep, IsCarriedOut, Begins}}
+use Rattle.spec.specs.{Conversation.{OpensExchange, Takes}, UnitConversation.{Intends, UnitStep, way_of, on_line}, Cases.IsCase}
+use Rattle.spec.specs.{Cases.size_of_way, CommandWrapper.SpellsCommand, Book.StampsOut}
 use Rattle.theorems.specs.Transfers.{packet_out, Asks, packets_in, status_in, data_in, heard_in, Transfer, events_of, Heard, IsTransferred}
 use Rattle.theorems.specs.{Transfers.SizesAreAlike, Striking.HasStamps}
-use Rattle.theorems.proofs.{Packets.{packets_of-more, packets_of-none, last_packet}, Rules.one_answer}
-use Rattle.theorems.proofs.StruckTicks.{one_request, Untroubled, opens_as, untroubled, First, first_of}
-use Rattle.theorems.proofs.Wrappers.{one_wrapper, one_case, at_once-writes_none}
+use Rattle.theorems.proofs.{Packets.{packets_of-more, packets_of-none, last_packet}, Rules.one_answer, StruckTicks.one_request}
+use Rattle.theorems.proofs.{StruckTicks.{Untroubled, opens_as, untroubled, First, first_of}, Wrappers.{one_wrapper, one_case}}
+use Rattle.theorems.proofs.Wrappers.{at_once-writes_none}
 
 -- ---- lists of packets
 

@@ -1,4 +1,5 @@
 pub mod Logging
+pub mod Making
 pub mod Ordering
 pub mod Striking
 pub mod Transfers

@@ -1,8 +1,7 @@
 -- The calls of a redo log that keeps its blocks: each one that the log tells may be next by the
 -- rules of write ordering.
-use Rattle.std.specs.Prelude.{◌≡◌, ℕ, ◌+◌, ◌-◌, ◌^◌, ◌≤◌, ◌<◌, List, true, length, get_or, map}
-use Rattle.std.specs.Prelude.{All, drop, slice_index, Some, [], ◌∷◌, ◌++◌, ◌⊎◌, Ok, ◌==◌}
-use Rattle.std.specs.Prelude.{if◌then◌else◌}
+use Rattle.std.specs.Prelude.{◌≡◌, ℕ, ◌+◌, ◌-◌, ◌^◌, ◌≤◌, ◌<◌, List, true, length, get_or, map, All}
+use Rattle.std.specs.Prelude.{drop, slice_index, Some, [], ◌∷◌, ◌++◌, ◌⊎◌, Ok, ◌==◌, if◌then◌else◌}
 use Rattle.medium.specs.{Medium.State, declared.medium_call.Call.Call, Performed.Performed}
 use Rattle.spec.specs.Blocks.{Array}
 use Rattle.journal.specs.{Formats.layout_of, Record.{Entry, numbers_of, entries_of}}
@@ -10,11 +9,10 @@ use Rattle.redo_log.specs.Value.{LogValue, HasRoom, IsBatch, IsAway, IsSentHome,
 use Rattle.redo_log.specs.Value.{IsStepped, IsCovered, CanPass, keeping_from, begun, settled}
 use Rattle.redo_log.specs.Value.{steps_of, retire_steps_of, of_oldest, behind_oldest}
 use Rattle.redo_log.specs.Held.{made_of, turned_of, needed_of, stamps_of, kept_copies, AreSized}
-use Rattle.redo_log.specs.Shown.{written_at, flushed_at}
-use Rattle.redo_log.specs.Halfway.{IsNextCall, IsFirst, IsSecond}
+use Rattle.redo_log.specs.{Shown.{written_at, flushed_at}, Told.{IsNextCall, IsFirst, IsSecond}}
 use Rattle.redo_log.specs.declared.progress.Progress.{Progress}
 use Rattle.redo_log.specs.declared.progress.Progress.TheVariants.{More, Durable}
-use Rattle.theorems.specs.Ordering.{Extent, Written, at_first, stamp_of, early_of, Begins, Lands}
+use Rattle.theorems.specs.Ordering.{Extent, Written, at_first, stamp_of, barrier_of, Begins, Lands}
 use Rattle.theorems.specs.Ordering.{MayBeNext, Opens, IsSafe}
 
 -- the durable records that the log has still
@@ -41,8 +39,8 @@ pub record HasRecords (log : LogValue) (w : Written) : Type 0 where
 pub record HasParts (log : LogValue) (w : Written) : Type 0 where
   pub some : 0 < log.steps_left → 0 < length w.under_way
   pub few : log.steps_left ≤ steps_of log.shape.format log.under_way
-  pub written : (p : ℕ) → p < written_at (early_of w) (made_of log) → w.written.parts p ≡ true
-  pub flushed : (p : ℕ) → p < flushed_at (early_of w) (made_of log) → w.flushed.parts p ≡ true
+  pub written : (p : ℕ) → p < written_at (barrier_of w) (made_of log) → w.written.parts p ≡ true
+  pub flushed : (p : ℕ) → p < flushed_at (barrier_of w) (made_of log) → w.flushed.parts p ≡ true
 
 -- the blocks of the log's oldest record are at home, as many as it made turns for
 abbrev pub AreHome : LogValue → Extent → Type 0
@@ -154,6 +152,12 @@ abbrev pub all_landed : {M : Type 0} → LogValue → List (LogValue × M) → L
 all_landed log [] = []
 all_landed log (mid ∷ rest) = landed_in log mid.0 ++ all_landed mid.0 rest
 
+-- not at all, or once after the other, to these
+abbrev pub Through : {M : Type 0} → (LogValue → M → LogValue → M → Type 0) → LogValue → M
+    → List (LogValue × M) → LogValue → M → Type 0
+Through On log m [] next n = (next ≡ log) × (n ≡ m)
+Through On log m (mid ∷ rest) next n = On log m mid.0 mid.1 × Through On mid.0 mid.1 rest next n
+
 module _ {M : Type 0} (state : M → State) where
   -- a call that the log tells is made
   pub record Calls (log : LogValue) (m : M) (next : LogValue) (n : M) : Type 0 where
@@ -182,11 +186,8 @@ module _ {M : Type 0} (state : M → State) where
   GoesOn log m next n = ((n ≡ m) × (TakesRecord log next ⊎ (IsCovered log × (next ≡ settled log))))
       ⊎ (Calls log m next n ⊎ Retires log m next n)
 
-  -- not at all, or once after the other, to these
   abbrev pub GoesThrough : LogValue → M → List (LogValue × M) → LogValue → M → Type 0
-  GoesThrough log m [] next n = (next ≡ log) × (n ≡ m)
-  GoesThrough log m (mid ∷ rest) next n =
-      GoesOn log m mid.0 mid.1 × GoesThrough mid.0 mid.1 rest next n
+  GoesThrough = Through GoesOn
 
   -- A log with these durable records since this array was at home, and its medium, are safe: now,
   -- and between the two calls that retire a record.

@@ -45,8 +45,8 @@ layout w = layout_of w.shape.format
 abbrev pub parts_of : Written → ℕ
 parts_of w = (layout w).parts (length w.under_way)
 
-abbrev pub early_of : Written → ℕ
-early_of w = (layout w).early (length w.under_way)
+abbrev pub barrier_of : Written → ℕ
+barrier_of w = (layout w).before_barrier (length w.under_way)
 
 -- the stamp of the record under way, or of the next one
 abbrev pub stamp_of : Written → ℕ
@@ -96,7 +96,7 @@ pub record WritesPart (w : Written) (place : ℕ) (bytes : List ℕ) (new : Writ
   pub some : 0 < length w.under_way
   pub part : ℕ
   pub inside : part < parts_of w
-  pub commit : early_of w ≤ part → (p : ℕ) → p < early_of w → w.flushed.parts p ≡ true
+  pub commit : barrier_of w ≤ part → (p : ℕ) → p < barrier_of w → w.flushed.parts p ≡ true
   pub place_is : place ≡ part_at (layout w) w.shape (stamp_of w) (length w.under_way) part
   pub bytes_are : bytes ≡ (layout w).part (stamp_of w) w.under_way part
   pub new_is : new ≡ record w { written = with_part part w.written }

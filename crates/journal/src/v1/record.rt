@@ -13,9 +13,9 @@ pub(crate) fn parts(count: u8) -> usize
     usize::from(count) + 2
 }
 
-/// How many of them are flushed before the last one is written.
-pub(crate) fn early(count: u8) -> usize
-    ensures { result ≡ format1.early count }
+/// How many of them stand before its barrier.
+pub(crate) fn before_barrier(count: u8) -> usize
+    ensures { result ≡ format1.before_barrier count }
 {
     usize::from(count) + 1
 }

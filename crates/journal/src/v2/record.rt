@@ -20,8 +20,8 @@ pub(crate) fn parts(count: u8) -> usize
     descriptors(count) + usize::from(count) + 1
 }
 
-/// How many of them are flushed before the last one is written.
-pub(crate) fn early(_count: u8) -> usize
+/// How many of them stand before its barrier: it has none.
+pub(crate) fn before_barrier(_count: u8) -> usize
     ensures { result ≡ 0 }
 {
     0

@@ -1,6 +1,5 @@
 use Rattle.std.proofs.{Common.arith, lemmas.Grind.common_steps}
-use Rattle.journal.specs.Sectors.{number_in}
-use Rattle.journal.proofs.SectorNumbers.{spelling_get}
+use Rattle.journal.{specs.Sectors.number_in, proofs.SectorNumbers.spelling_get}
 use Rattle.journal.proofs.fields.number_at.Goals as goal
 
 pub returns-clause-spelled : goal.returns-clause-spelled

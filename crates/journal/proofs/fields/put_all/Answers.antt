@@ -1,8 +1,7 @@
-use Rattle.std.proofs.Common.{◌++◌, [], ◌∷◌, ℕ, List, refl, take, get_or, arith, flat_map, length-append}
-use Rattle.std.proofs.{lemmas.List.{length-take, take_more, append_assoc}, lemmas.Grind.flat_map-append}
+use Rattle.std.proofs.{Common.{◌++◌, [], ◌∷◌, ℕ, List, refl, take, get_or, arith, flat_map, length-append}, lemmas.List.length-take}
+use Rattle.std.proofs.lemmas.{List.{take_more, append_assoc}, Grind.flat_map-append}
 use Rattle.byteorder.specs.Endian.{little_bytes}
-use Rattle.journal.specs.Sectors.{spelling}
-use Rattle.journal.proofs.SectorNumbers.{length_pieces}
+use Rattle.journal.{specs.Sectors.spelling, proofs.SectorNumbers.length_pieces}
 use Rattle.journal.proofs.fields.put_all.Goals as goal
 
 pub loop-k-preserved : goal.loop-k-preserved

@@ -23,8 +23,7 @@ returns-in-Some-clause-told g c =
       due = due;
       within = omega (arith, asked.1);
       looks = asked.1;
-      made = λ m n got view next fits held performed after.
-          took held performed due asked.1 asked.2 first.0 first.1 (after.reading asked.0);
+      made = λ m n got view next fits held performed after. took held performed due asked.1 asked.2 first.0 first.1 (after.reading asked.0);
       refused = λ m n got view next e fits held performed gone. rw gone (unread held performed);
       rest = less_read (copies_left reader step);
       pays = grind (arith, due, names);

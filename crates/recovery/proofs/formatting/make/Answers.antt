@@ -1,9 +1,8 @@
 use Rattle.std.proofs.Common.{◌+◌, ◌∙◌, arith, rules, ap, replicate, OnOk}
 use Rattle.journal.specs.Places.{new_shape, sectors_of, first_home}
-use Rattle.recovery.specs.Calls.{IsMade, FormatLeaves, WritesImage}
-use Rattle.recovery.proofs.JoinedCalls.{image_made}
-use Rattle.recovery.proofs.formatting.make.Goals as goal
+use Rattle.recovery.{specs.Calls.{IsMade, FormatLeaves, WritesImage}, proofs.JoinedCalls.image_made}
 use Rattle.recovery.proofs.formatting.make.Goals.{After-write_image}
+use Rattle.recovery.proofs.formatting.make.Goals as goal
 
 -- an image of the sizes that were wanted is made, with blocks of zeros
 made : (g : _) (c : After-write_image g) → let shape = new_shape c.args.format c.args.blocks c.args.slots in

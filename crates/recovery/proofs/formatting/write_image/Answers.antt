@@ -1,11 +1,9 @@
 use Rattle.std.proofs.{Common.{◌≡◌, ◌≤◌, ℕ, ◌⊎◌, ◌+◌, inl, inr, ⊎_elim, refl, ◌∙◌, arith, replicate}, lemmas.Result.on_ok_weaker}
-use Rattle.medium.specs.Medium.{Image, Holds, CutLeaves}
-use Rattle.medium.proofs.Moments.{updated, updated_here, updated_elsewhere}
+use Rattle.medium.{specs.Medium.{Image, Holds, CutLeaves}, proofs.Moments.{updated, updated_here, updated_elsewhere}}
 use Rattle.journal.specs.{Places.Shape, Formats.shape_of}
 use Rattle.recovery.specs.{Calls.{IsWritten, IsNoneOrWritten}, NewImage.{Under, IsPart}, declared.image_plan.ImagePlan.ImagePlan}
 use Rattle.recovery.proofs.ImageCalls.{image_driven}
 use Rattle.recovery.proofs.formatting.write_image.Goals as goal
-use Rattle.recovery.proofs.formatting.write_image.Goals.{After-drive}
 
 -- the new image is that of a format
 new_written : {shape : Shape} {stamp end : ℕ} {start under image : Image} → stamp ≡ 1 → Holds 0 (replicate 512 0) start under → 2 ≤ end
@@ -29,7 +27,7 @@ returns-clause-image g c =
     let d = image_driven (λ image. CutLeaves old.may_leave image ⊎ IsNoneOrWritten (shape_of c.args.sizes.now) c.args.end old.content image)
     (c.args.end + 5) (old.calls + 2) (record { first = 1; image = under; some = omega arith; most = omega arith })
     c.drive.ensures.driven c.drive.ensures.done (omega (arith, c.requires.inside, c.requires.fits)) tt (λ e. cc e) refl
-    (record { content = (refl, wiped); cuts = λ image cut. cut }) (omega arith) (omega arith) (omega arith)
+    ((refl, wiped), λ image cut. cut) (omega arith) (omega arith) (omega arith)
     (λ image either. ⊎_elim (λ may. ⊎_elim inl (λ w. inr (inl (w.2.here ∙ wiped.here))) may)
     (λ is. inr (none_or_written c.new.ensures wiped long is)) either) in
     record {

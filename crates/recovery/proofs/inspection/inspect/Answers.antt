@@ -1,7 +1,6 @@
 -- An inspection is a look whose reads are made.
 use Rattle.std.proofs.Common.{arith}
-use Rattle.recovery.specs.{Starting.look_at, HoldsStart.HoldsLook}
-use Rattle.recovery.proofs.Looks.{at_end}
+use Rattle.recovery.{specs.{Starting.look_at, HoldsStart.HoldsLook}, proofs.Looks.at_end}
 use Rattle.recovery.proofs.inspection.inspect.Goals as goal
 use Rattle.recovery.proofs.inspection.inspect.Goals.{After-drive}
 

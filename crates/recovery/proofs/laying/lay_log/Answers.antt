@@ -1,7 +1,6 @@
 use Rattle.std.proofs.Common.{◌+◌, arith, OnOk}
 use Rattle.journal.specs.{Places.first_home, Formats.shape_of}
-use Rattle.recovery.specs.Calls.{IsLaid, LayingLeaves}
-use Rattle.recovery.proofs.JoinedCalls.{image_made}
+use Rattle.recovery.{specs.Calls.{IsLaid, LayingLeaves}, proofs.JoinedCalls.image_made}
 use Rattle.recovery.proofs.laying.lay_log.Goals as goal
 use Rattle.recovery.proofs.laying.lay_log.Goals.{After-write_image}
 

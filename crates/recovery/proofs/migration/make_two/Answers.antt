@@ -2,8 +2,7 @@ use Rattle.std.proofs.Common.{◌≡◌, ◌≢◌, ◌⊎◌, inl, inr, ⊎_eli
 use Rattle.std.proofs.lemmas.Result.{on_ok_weaker}
 use Rattle.medium.specs.{Medium.{State, Image}, Moments.IsFlushed}
 use Rattle.spec.specs.Blocks.{Array}
-use Rattle.journal.specs.{Places.{Shape, first_home, migrated}, Formats.shape_of}
-use Rattle.journal.proofs.Formats.{laws_of}
+use Rattle.journal.{specs.{Places.{Shape, first_home, migrated}, Formats.shape_of}, proofs.Formats.laws_of}
 use Rattle.recovery.specs.{Calls.{AreMade, zeros_and_head, Writes, IsBetween, IsWritten, WithOrWithout}, Recovered.{StaysFresh, IsFresh}}
 use Rattle.recovery.specs.{Recovered.IsMadeTwo, NewImage.{Under, IsPart}, declared.image_plan.ImagePlan.ImagePlan}
 use Rattle.recovery.proofs.{ImageCalls.image_driven, JoinedCalls.{log_ends, zeros_fresh}}
@@ -26,9 +25,8 @@ module _ {plan : ImagePlan} {under : Under} {shape : Shape} {array : Array} {ima
       grind (arith, apart, fresh, part.each 1, carries, log_ends shape fresh.super.home_is, plan.head.least)
 
   -- and none in the new image
-  stays_fresh : {sizes : Shape} (m : State) → under.image ≡ m.content → IsFlushed m → sizes ≡ migrated shape
-      → WithOrWithout 0 (under.image 0) m.may_leave image
-      ⊎ (IsPart plan under image ⊎ IsWritten sizes plan.head.stamp (first_home shape) under.image image)
+  stays_fresh : {sizes : Shape} (m : State) → under.image ≡ m.content → IsFlushed m → sizes ≡ migrated shape → WithOrWithout 0
+      (under.image 0) m.may_leave image ⊎ (IsPart plan under image ⊎ IsWritten sizes plan.head.stamp (first_home shape) under.image image)
       → IsFresh shape array plan.head.stamp image ⊎ IsFresh (migrated shape) array plan.head.stamp image
   stays_fresh m same flushed sized may = ⊎_elim (λ was. inl (still_fresh (flushed_part m same flushed was)))
       (λ is. ⊎_elim (λ part. inl (still_fresh part)) (λ new. inr (zeros_fresh (migrated shape) array plan.head.stamp image
@@ -48,10 +46,7 @@ made g c =
     let d = image_driven (StaysFresh shape c.args.found.now.next old.content) (shape.home + 3) old.calls
     (record { first = 2; image = old.content; some = omega arith; most = omega arith })
     c.drive.ensures.driven c.drive.ensures.done (omega (arith, c.requires.fits)) tt (λ e. cc e) refl
-    (record {
-      content = grind (arith, long);
-      cuts = λ image cut. flushed_part old refl c.requires.flushed (inl cut);
-    }) (omega (arith, long)) (omega arith) (omega arith)
+    (grind (arith, long), λ image cut. flushed_part old refl c.requires.flushed (inl cut)) (omega (arith, long)) (omega arith) (omega arith)
     (λ image may array fresh. rw (← c.new.ensures)
     (stays_fresh refl refl (rw (← c.new.ensures) at fresh) old refl c.requires.flushed two may)) in (
       d.0,
@@ -60,8 +55,7 @@ made g c =
     )
 
 pub returns-in_err-drive-clause-writes : goal.returns-in_err-drive-clause-writes
-returns-in_err-drive-clause-writes g c =
-    search (rules, (made g (goal.at.returns-in_err-drive-clause-writes g c).After-drive).0)
+returns-in_err-drive-clause-writes g c = search (rules, (made g (goal.at.returns-in_err-drive-clause-writes g c).After-drive).0)
 
 pub returns-clause-writes : goal.returns-clause-writes
 returns-clause-writes g c = search (rules, (made g (goal.at.returns-clause-writes g c).After-drive).0)

@@ -1,11 +1,11 @@
 use Rattle.std.proofs.Common.{◌≡◌, inl, inr, ⊎_elim, ℕ, ◌+◌, ◌*◌, ◌<◌, ◌≤◌, length, refl, ◌∙◌, arith, rules, min, Result, true}
 use Rattle.std.proofs.lemmas.Result.{err_from_is_err_and}
-use Rattle.medium.specs.{Medium.{State, IsSound}, Moments.EachCut, Sent.SendsUpTo}
+use Rattle.medium.{specs.{Medium.{State, IsSound}, Moments.EachCut, Sent.SendsUpTo}, proofs.Moments.{weaker, only_image}}
+use Rattle.medium.proofs.{SectorsRead.no_looks, SparedSectors.spared_behind}
 use Rattle.spec.specs.Blocks.{Array}
-use Rattle.medium.proofs.{Moments.{weaker, only_image}, SectorsRead.no_looks, SparedSectors.spared_behind}
 use Rattle.journal.specs.{Places.{Shape, first_home, sectors_of, migrated}, declared.log_format.LogFormat.TheVariants.One, Record.home_of}
-use Rattle.journal.specs.{Formats.shape_of, Standing.IsOurs}
-use Rattle.journal.proofs.{SectorNumbers.IsSuper-one, StandingLaws.{StandsFor-one, StandsFor-shape}}
+use Rattle.journal.{specs.{Formats.shape_of, Standing.IsOurs}, proofs.{SectorNumbers.IsSuper-one, StandingLaws.StandsFor-one}}
+use Rattle.journal.proofs.StandingLaws.{StandsFor-shape}
 use Rattle.recovery.specs.{Causes.{HasFewSlots, start_fault_of, IsRefusedCall}, Recovered.{IsRecoveredFrom, IsFresh, LeavesAtLeast}}
 use Rattle.recovery.specs.Recovered.{CanMigrate, IsMadeTwo, IsMigratedFrom, IsMigrationRefusal, StaysFresh, MigrationLeaves}
 use Rattle.recovery.specs.{Recovered.{most_migration_sends, IsInOrder}, Calls.{Writes, copy_calls}, declared.recovered.Recovered.Recovered}
@@ -27,8 +27,7 @@ module _ {old mid : State} {found : _} (start : IsRecoveredFrom old mid found ×
       record { one = one; room = omega (arith, few) }
 
   -- the calls of a recovery of format 1
-  tried : mid.calls ≡ old.calls + 6 + copy_calls One start.0.stood.records
-      + 2 * min (length start.0.stood.records + 1) found.sizes.slots
+  tried : mid.calls ≡ old.calls + 6 + copy_calls One start.0.stood.records + 2 * min (length start.0.stood.records + 1) found.sizes.slots
   tried = let calls = rw one at start.0.calls in omega (arith, calls)
 
   -- home begins behind the log
@@ -36,8 +35,7 @@ module _ {old mid : State} {found : _} (start : IsRecoveredFrom old mid found ×
   home_is = let home = rw one at found.sizes.home_is in omega (arith, home)
 
   module _ {new : State} {made : Result Recovered _}
-      (making : Writes (StaysFresh (shape_of found.sizes) found.next mid.content) found.sizes.home
-      (found.sizes.home + 3) mid new made)
+      (making : Writes (StaysFresh (shape_of found.sizes) found.next mid.content) found.sizes.home (found.sizes.home + 3) mid new made)
     where
       -- the home sectors hold what recovery left there
       kept_home : AreSame (shape_of found.sizes) (home_of shape new.content) start.0.array
@@ -52,7 +50,7 @@ module _ {old mid : State} {found : _} (start : IsRecoveredFrom old mid found ×
           let most = rw one at (before.most shape has) in
           let sends : SendsUpTo (most_migration_sends One found.sizes.slots) old new =
           let most = rw one at (before.sends.most shape has) in omega (arith, most, making.sent, home_is) in
-          start_on {shape = shape} sound_old (search (rules, stood, start.0.stamp_left, start.1)) (recovery_leaves old mid before)
+          start_on {shape = shape} sound_old stood start.0.stamp_left start.1 (recovery_leaves old mid before)
           (omega (arith, tried))
           -- each image is ours for the contents
           (λ array next ours.
@@ -73,26 +71,17 @@ module _ {old mid : State} {found : _} (start : IsRecoveredFrom old mid found ×
             (λ b below. kept_home b below ∙ same b below)
 
         pub migrated_from : new.calls ≡ mid.calls + (found.sizes.home + 3)
-            → IsMigratedFrom old new answer
-            × ((other : Shape) (array : Array) (next : ℕ) → IsOurs old.size other old.content array next
+            → IsMigratedFrom old new answer × ((other : Shape) (array : Array) (next : ℕ) → IsOurs old.size other old.content array next
             → EachCut (IsFresh (shape_of answer.sizes) array next) new)
         migrated_from counted =
             let stood = start.0.stood in
-            let ends = log_ends shape stood.keeps.super.home_is in (
-              rw is.1 (record {
-                shape = shape;
-                could = can_migrate;
-                sizes_are = is.0;
-                array = start.0.array;
-                stood = stood;
-                stamp_left = start.0.stamp_left;
-                made = is.2;
-                home = kept_home;
-                behind = λ x past. making.spares.content x (omega (arith, past))
-                    ∙ start.0.elsewhere x (λ e. omega (arith, e, past, ends)) (inr past);
-                ours = fresh_ours stood.fits (here_fresh start.0.array (λ b below. refl));
-                calls = omega (arith, tried, counted, home_is);
-              }),
+            let ends = log_ends shape stood.keeps.super.home_is in
+            let behind = λ (x : ℕ) (past : sectors_of shape ≤ x). making.spares.content x (omega (arith, past))
+            ∙ start.0.elsewhere x (λ e. omega (arith, e, past, ends)) (inr past) in
+            let ours = fresh_ours stood.fits (here_fresh start.0.array (λ b below. refl)) in
+            let calls : new.calls ≡ old.calls + 6 + copy_calls One stood.records + 50 * found.sizes.slots + 5
+            + 2 * min (length stood.records + 1) found.sizes.slots = omega (arith, tried, counted, home_is) in (
+              rw is.1 (search (rules, can_migrate, is.0, stood, start.0.stamp_left, is.2, kept_home, behind, ours, calls)),
               λ other array next ours image cut.
                   let same = StandsFor-one _ _ shape other old.content start.0.array array found.next next stood ours.stands in
                   rw (only_image new.content new.may_leave is.2.flushed image cut, is.0, ← same.1) (here_fresh array same.2),

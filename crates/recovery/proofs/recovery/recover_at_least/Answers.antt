@@ -1,7 +1,6 @@
 -- A recovery is a start whose calls are made.
 use Rattle.std.proofs.Common.{arith}
-use Rattle.recovery.specs.HoldsStart.{HoldsStart}
-use Rattle.recovery.proofs.Looks.{stage_of, at_end}
+use Rattle.recovery.{specs.HoldsStart.HoldsStart, proofs.Looks.{stage_of, at_end}}
 use Rattle.recovery.proofs.recovery.recover_at_least.Goals as goal
 use Rattle.recovery.proofs.recovery.recover_at_least.Goals.{After-drive}
 

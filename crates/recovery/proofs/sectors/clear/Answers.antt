@@ -1,8 +1,6 @@
-use Rattle.std.proofs.{Common.refl, Common.ap, Common.arith, Common.rules, Common.ℕ, lemmas.Result.on_ok_weaker}
-use Rattle.medium.proofs.Tallies.{calls_most, calls_all, sends_most}
-use Rattle.medium.specs.Tally.{Tally}
-use Rattle.recovery.specs.Calls.{IsBetween}
-use Rattle.recovery.proofs.JoinedCalls.{refused_call, none_read}
+use Rattle.std.proofs.{Common.{refl, ap, arith, rules, ℕ}, lemmas.Result.on_ok_weaker}
+use Rattle.medium.{proofs.Tallies.{calls_most, calls_all, sends_most}, specs.Tally.Tally}
+use Rattle.recovery.{specs.Calls.IsBetween, proofs.JoinedCalls.{refused_call, none_read}}
 use Rattle.recovery.proofs.sectors.clear.Goals as goal
 
 pub returns : goal.returns

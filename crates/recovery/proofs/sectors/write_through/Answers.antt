@@ -1,15 +1,12 @@
 use Rattle.std.proofs.Common.{◌≢◌, ℕ, inl, ⊎_elim, ◌∙◌, rules}
-use Rattle.medium.specs.Moments.{LeavesOnly}
-use Rattle.medium.proofs.Moments.{one_call, goes_on, after_write, shrunk}
+use Rattle.medium.{specs.Moments.LeavesOnly, proofs.Moments.{one_call, goes_on, after_write, shrunk}}
 use Rattle.recovery.specs.Calls.{WithOrWithout}
 use Rattle.recovery.proofs.sectors.write_through.Goals as goal
 use Rattle.recovery.proofs.sectors.write_through.Goals.{After-write}
 
 -- the write
-written : (g : _) (c : After-write g)
-    → LeavesOnly (WithOrWithout c.args.place c.args.sector.now (g.M.Medium.state c.args.m.now).may_leave)
-    (g.M.Medium.state c.args.m.now)
-    (g.M.Medium.state c.write.new.self)
+written : (g : _) (c : After-write g) → LeavesOnly (WithOrWithout c.args.place c.args.sector.now (g.M.Medium.state c.args.m.now).may_leave)
+    (g.M.Medium.state c.args.m.now) (g.M.Medium.state c.write.new.self)
 written g c =
     let sound = g.met.M.Medium.sound c.args.m.now in
     one_call _ _ _ sound c.write.ensures.passes (λ image cut. inl cut)

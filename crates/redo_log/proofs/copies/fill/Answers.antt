@@ -1,5 +1,4 @@
-use Rattle.std.proofs.Common.{◌∙◌, ap, refl, take, drop, length}
-use Rattle.std.proofs.lemmas.List.{with_items_is, take_at}
+use Rattle.std.proofs.{Common.{◌∙◌, ap, refl, take, drop, length}, lemmas.List.{with_items_is, take_at}}
 use Rattle.redo_log.proofs.copies.fill.Goals as goal
 
 pub returns-clause-copied : goal.returns-clause-copied

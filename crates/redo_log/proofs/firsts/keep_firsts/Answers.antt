@@ -1,5 +1,4 @@
-use Rattle.std.proofs.Common.{◌≡◌, ◌+◌, ◌/◌, length, arith}
-use Rattle.std.proofs.lemmas.Grind.{common_steps}
+use Rattle.std.proofs.{Common.{◌≡◌, ◌+◌, ◌/◌, length, arith}, lemmas.Grind.common_steps}
 use Rattle.journal.specs.{Format2.firsts_of, Record.entries_of}
 use Rattle.journal.proofs.BatchEntries.{all_firsts_of}
 use Rattle.redo_log.proofs.RecordSteps.{put_last}

@@ -1,7 +1,6 @@
-use Rattle.std.proofs.{Common.length, Common.arith, lemmas.List.take_all, lemmas.List.Kept.AllPairs-filter}
+use Rattle.std.proofs.{Common.{length, arith}, lemmas.List.take_all, lemmas.List.Kept.AllPairs-filter}
 use Rattle.redo_log.specs.Index.{is_outside}
-use Rattle.redo_log.proofs.SortedIndex.{Above, look_filter}
-use Rattle.redo_log.proofs.LeavingIndex.{front_outside, back_outside, places_rise, kept_others}
+use Rattle.redo_log.proofs.{SortedIndex.{Above, look_filter}, LeavingIndex.{front_outside, back_outside, places_rise, kept_others}}
 use Rattle.redo_log.proofs.index.part.Goals as goal
 
 pub keep_others-requires : goal.keep_others-requires

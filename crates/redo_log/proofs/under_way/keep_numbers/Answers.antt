@@ -1,5 +1,4 @@
-use Rattle.std.proofs.Common.{◌≡◌, [], length, arith, refl}
-use Rattle.std.proofs.lemmas.Grind.{common_steps}
+use Rattle.std.proofs.{Common.{◌≡◌, [], length, arith, refl}, lemmas.Grind.common_steps}
 use Rattle.redo_log.proofs.RecordSteps.{put_last}
 use Rattle.redo_log.proofs.under_way.keep_numbers.Goals as goal
 

@@ -24,8 +24,8 @@ returns-clause-ok g c =
     let size = c.recover.ensures.leaves.moments.size_stays in
     let fits : sectors_of (shape_of sizes) ≤ after.size = omega (arith, found.stood.fits, size) in
     let made : MakesParts c.args.keeping before after sizes (started c.args.keeping (shape_of sizes) recovered.next) = record {
-      started = starts c.args.keeping before after recovered found (g.met.M.Medium.sound c.args.medium.now)
-          (g.met.M.Medium.sound c.recover.new.m) size c.in_ok-recovered.ensures.fresh;
+      started = starts c.args.keeping before after recovered found (g.met.M.Medium.sound c.args.medium.now) size
+          c.in_ok-recovered.ensures.fresh;
       kept = grind (arith, fits);
     } in
     IfOk-weaker c.new.result _ _

@@ -1,5 +1,5 @@
 use Rattle.std.proofs.Common.{arith}
-use Rattle.blocks.{proofs.{BookTurns.is_batch, LogTurns.{begins_record, begins_nothing}}}
+use Rattle.blocks.proofs.{BookTurns.is_batch, TurnsJoined.{begins_record, begins_nothing}}
 use Rattle.blocks.proofs.store.Store.begin.Goals as goal
 
 pub begin-requires-clause-batch : goal.begin-requires-clause-batch

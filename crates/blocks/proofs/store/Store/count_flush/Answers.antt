@@ -1,5 +1,5 @@
 use Rattle.std.proofs.{Common.arith, lemmas.Bool.Decides.nat_tests}
-use Rattle.blocks.{specs.StoreValue.Cached, proofs.LogTurns.counts_turn}
+use Rattle.blocks.{specs.StoreValue.Cached, proofs.TurnsJoined.counts_turn}
 use Rattle.blocks.proofs.store.Store.count_flush.Goals as goal
 
 pub returns : goal.returns

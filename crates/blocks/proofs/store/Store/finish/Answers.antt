@@ -3,8 +3,8 @@ use Rattle.std.{proofs.Common.{arith, true, false}, specs.Prelude.OnOk}
 use Rattle.medium.specs.{Medium.State, Sent.sent, declared.fault.MediumFault.TheVariants.Flush}
 use Rattle.redo_log.specs.Value.{begun, most_steps}
 use Rattle.blocks.specs.{OneBatch.SendsOneBatch, Retiring.finished, Steady.{IsFilling, IsSteady}, StoreValue.{is_dead, firsts_in}}
-use Rattle.blocks.{specs.Sent.batch_sends, proofs.{Steady.{fills, keeps_on}, store.Store.finish.Given.Over, OneBatchSent.room_sent}}
-use Rattle.blocks.proofs.{Room.{made_finished, finishes_under_way, begun_costs}, TurnsJoined.{kept_paid, paid_then, paid_more, rested_paid}}
+use Rattle.blocks.{specs.Sent.batch_sends, proofs.Steady.{fills, keeps_on, made_finished, finishes_under_way, begun_costs}}
+use Rattle.blocks.proofs.{OneBatchSent.room_sent, TurnsJoined.{kept_paid, paid_then, paid_more, rested_paid}}
 use Rattle.blocks.proofs.store.Store.finish.Goals.{After-make_ready}
 use Rattle.blocks.proofs.store.Store.finish.Goals as goal
 
@@ -29,7 +29,7 @@ returns-then-has_free_batch g c =
     grind (arith, live, idle, empty, passes)
 
 -- room was made, for which nothing is sent where there is some
-made_room : (g : Over) (c : After-make_ready g) → {after : State}
+made_room : (g : _) (c : After-make_ready g) → {after : State}
     → sent after ≤ sent (g.M.Medium.state c.make_ready.new.self.medium) + most_steps c.args.self.now.cached.log.shape.format
     → SendsOneBatch c.args.self.now.goes_ahead (g.M.Medium.state c.args.self.now.medium) after c.args.self.now.cached.log
 made_room g c few =

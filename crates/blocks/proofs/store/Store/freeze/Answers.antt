@@ -1,5 +1,5 @@
 use Rattle.std.proofs.Common.{arith}
-use Rattle.blocks.{specs.StoreValue.Cached, proofs.LogTurns.freezes_active}
+use Rattle.blocks.{specs.StoreValue.Cached, proofs.TurnsJoined.freezes_active}
 use Rattle.blocks.proofs.store.Store.freeze.Goals as goal
 
 pub returns : goal.returns

@@ -2,16 +2,16 @@ use Rattle.std.proofs.{Common.{◌≡◌, ◌+◌, ◌∙◌, ap, arith, inl}, l
 use Rattle.journal.specs.Places.{Shape, limit_of}
 use Rattle.medium.specs.{Sent.sent, declared.fault.MediumFault.TheVariants.Flush}
 use Rattle.blocks.specs.{Ahead.{passed, passed_calls}, Passing.PassesPaid, Prepared.NeedsNoneAhead, Retiring.HasSlots}
-use Rattle.blocks.proofs.{Room.none_ahead, store.Store.go_ahead.Given.Over, TurnsJoined.{kept_paid, paid_more, paid_then, rested_paid}}
+use Rattle.blocks.proofs.{Steady.none_ahead, TurnsJoined.{kept_paid, paid_more, paid_then, rested_paid}}
 use Rattle.blocks.proofs.store.Store.go_ahead.Goals.{Else-needs_none_ahead, After-pass_head, In_ok-pass_head}
 use Rattle.blocks.proofs.store.Store.go_ahead.Goals as goal
 
 -- something is to be done ahead
-few : (g : Over) (c : Else-needs_none_ahead g) → NeedsNoneAhead c.args.self.now.cached.log → ⊥
+few : (g : _) (c : Else-needs_none_ahead g) → NeedsNoneAhead c.args.self.now.cached.log → ⊥
 few g c none = grind (arith, c.needs_none_ahead.ensures, c.if-needs_none_ahead.false)
 
 -- the flush is counted, and the head goes past
-passes : (g : Over) (c : After-pass_head g) → PassesPaid g.M.Medium.state g.M.Medium.follows 1 c.args.self.now c.pass_head.new.self
+passes : (g : _) (c : After-pass_head g) → PassesPaid g.M.Medium.state g.M.Medium.follows 1 c.args.self.now c.pass_head.new.self
 passes g c =
     let counts = c.count_flush.ensures in
     paid_then {first = 0} g.met.M.Medium.follows_through
@@ -19,7 +19,7 @@ passes g c =
     c.pass_head.ensures.passes (omega (arith, ap (λ m. sent (g.M.Medium.state m)) counts.keeps.medium, c.pass_head.ensures.passes.sent))
 
 -- what the head that went past makes of the log, by how many calls
-gone_past : (g : Over) (c : In_ok-pass_head g) → (HasSlots 3 c.args.self.now.cached.log → ⊥)
+gone_past : (g : _) (c : In_ok-pass_head g) → (HasSlots 3 c.args.self.now.cached.log → ⊥)
     → (c.pass_head.new.self.cached.log ≡ passed c.args.self.now.cached.log)
     × ((g.M.Medium.state c.pass_head.new.self.medium).calls
     ≡ (g.M.Medium.state c.args.self.now.medium).calls + passed_calls c.args.self.now.cached.log)

@@ -1,11 +1,11 @@
 use Rattle.std.proofs.Common.{arith, rules}
 use Rattle.medium.specs.Sent.{sent}
 use Rattle.redo_log.specs.Value.{IsAway}
-use Rattle.blocks.proofs.{TurnsJoined.{paid_then, paid_more, rested_paid}, store.Store.go_home.Given.Over, Room.{begins_home, goes_on_home}}
-use Rattle.blocks.proofs.{Room.{all_home, all_costs, all_sends, few_home, home_stays_head}, store.Store.go_home.Goals.After-bring_home}
+use Rattle.blocks.proofs.Steady.{begins_home, goes_on_home, all_home, all_costs, all_sends, few_home, home_stays_head}
+use Rattle.blocks.proofs.{TurnsJoined.{paid_then, paid_more, rested_paid}, store.Store.go_home.Goals.After-bring_home}
 use Rattle.blocks.proofs.store.Store.go_home.Goals as goal
 
-away : (g : Over) (c : After-bring_home g) → IsAway c.loop-self.self.cached.log
+away : (g : _) (c : After-bring_home g) → IsAway c.loop-self.self.cached.log
 away g c = rw (← c.self-in-loop-self.view_is) (c.is_away.ensures.0 c.loop-self-test.true)
 
 pub loop-self-init : goal.loop-self-init

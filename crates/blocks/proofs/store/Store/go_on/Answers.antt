@@ -1,4 +1,4 @@
-use Rattle.std.proofs.{Common.{◌<◌, ◌∙◌, sym, arith, rules, Bool, true, false}, lemmas.Bool.false≢true}
+use Rattle.std.proofs.{Common.{◌<◌, arith, Bool, true, false}}
 use Rattle.blocks.{specs.{StoreValue.Cached, Background.MayBegin}, proofs.TurnsJoined.kept_on}
 use Rattle.blocks.proofs.store.Store.go_on.Goals as goal
 
@@ -10,17 +10,7 @@ none_begins true s some may = omega (arith, some, may.0.0.no_steps)
 pub returns-then-is_writing : goal.returns-then-is_writing
 returns-then-is_writing g c =
     let begun = c.is_writing.ensures.begun c.requires.live c.if-is_writing.true in
-    record {
-      passes = grind (arith, c.step.ensures.passes);
-      order = record {
-        dead = λ dead. absurd (false≢true (sym c.requires.live ∙ dead));
-        goes_on = λ live some. c.step.ensures.steps.record_step;
-        begins = λ live may. absurd (none_begins c.args.self.now.goes_ahead c.args.self.now.cached begun.0 may);
-        retires = λ live idle not. absurd (omega (arith, idle, begun));
-      };
-      steps = grind (arith, c.requires, c.step.ensures.steps.falls);
-      active = search rules;
-    }
+    grind (arith, begun, none_begins, c.requires.live, c.step.ensures)
 
 pub returns-then-may_begin : goal.returns-then-may_begin
 returns-then-may_begin g c =

@@ -1,6 +1,6 @@
 use Rattle.std.{proofs.Common.{◌≡◌, ◌<◌, ◌-◌, true, false, arith, length}, specs.Prelude.All}
 use Rattle.redo_log.specs.Value.{HasRoom}
-use Rattle.blocks.proofs.Room.{free_is, full_is}
+use Rattle.blocks.proofs.Steady.{free_is, full_is}
 use Rattle.blocks.proofs.store.Store.make_ready.Goals as goal
 
 pub returns-then-has_room : goal.returns-then-has_room

@@ -1,18 +1,18 @@
 use Rattle.std.proofs.{Common.{false, ◌≤◌, ◌<◌, ℕ, length, ◌∙◌, ap, sym, arith, rules}, lemmas.Bool.false≢true}
 use Rattle.medium.specs.Sent.{sent, SendsUpTo}
 use Rattle.redo_log.specs.Value.{HasRoom, sends_of_oldest, most_retire_sends}
-use Rattle.blocks.{specs.{StoreValue.steps_left, Passing.PassesPaid, Retiring.RetiresForRoom}, proofs.Room.{IsFull, retires_none}}
-use Rattle.blocks.proofs.{Room.{retires_more, retires_refused, retires_room}, TurnsJoined.{paid_then, on_paid, paid_more, rested_paid}}
-use Rattle.blocks.proofs.store.Store.make_room.{Given.Over, Goals.After-retire}
+use Rattle.blocks.{specs.{StoreValue.steps_left, Passing.PassesPaid, Retiring.RetiresForRoom}, proofs.Steady.{IsFull, retires_none}}
+use Rattle.blocks.proofs.{Steady.{retires_more, retires_refused, retires_room}, TurnsJoined.{paid_then, on_paid, paid_more, rested_paid}}
+use Rattle.blocks.proofs.store.Store.make_room.Goals.{After-retire}
 use Rattle.blocks.proofs.store.Store.make_room.Goals as goal
 
 -- a record waits, and one of its steps is made
-must_step : (g : Over) (c : After-retire g) → (0 < length c.loop-self.self.cached.log.waiting) × (0 < steps_left c.loop-self.self.cached)
+must_step : (g : _) (c : After-retire g) → (0 < length c.loop-self.self.cached.log.waiting) × (0 < steps_left c.loop-self.self.cached)
 must_step g c =
     let idle = rw (← c.self-in-loop-self.view_is) at c.loop-self.invariant.idle in
     rw (← c.self-in-loop-self.view_is) (grind (arith, idle, c.loop-self-test.true, c.has_room.ensures.full, c.has_room.ensures.always))
 
-step_passes : (g : Over) (c : After-retire g) → {sends : ℕ}
+step_passes : (g : _) (c : After-retire g) → {sends : ℕ}
     → SendsUpTo sends (g.M.Medium.state c.args.self.now.medium) (g.M.Medium.state c.retire.new.self.medium)
     → PassesPaid g.M.Medium.state g.M.Medium.follows sends c.args.self.now c.retire.new.self
 step_passes g c few =
@@ -20,7 +20,7 @@ step_passes g c few =
     paid_then g.met.M.Medium.follows_through c.loop-self.invariant.passes c.loop-self.invariant.live
     (on_paid left.1 (c.retire.ensures.falls left.0) c.retire.ensures.passes.calls c.retire.ensures.passes) few
 
-is_full : (g : Over) (c : After-retire g) → IsFull c.args.self.now.cached.log c.loop-self.self.cached.log
+is_full : (g : _) (c : After-retire g) → IsFull c.args.self.now.cached.log c.loop-self.self.cached.log
 is_full g c =
     let live = rw (← c.self-in-loop-self.view_is) at c.loop-self.invariant.live in
     let idle = rw (← c.self-in-loop-self.view_is) at c.loop-self.invariant.idle in
@@ -33,7 +33,7 @@ is_full g c =
     }
 
 -- the log had no room
-was_full : (g : Over) (c : After-retire g) → HasRoom c.args.self.now.cached.log → ⊥
+was_full : (g : _) (c : After-retire g) → HasRoom c.args.self.now.cached.log → ⊥
 was_full g c room = let same = ap (λ v. v.cached.log) (c.loop-self.invariant.stays room) in (is_full g c).full (rw same room)
 
 pub loop-self-init : goal.loop-self-init

@@ -1,6 +1,6 @@
 use Rattle.std.proofs.Common.{◌≡◌, false}
 use Rattle.medium.specs.Sent.{sent}
-use Rattle.blocks.{specs.{Passing.PassesPaid, StoreValue.{is_dead, steps_left}}, proofs.Room.Retires}
+use Rattle.blocks.{specs.{Passing.PassesPaid, StoreValue.{is_dead, steps_left}}, proofs.Steady.Retires}
 use Rattle.redo_log.specs.Value.{HasRoom}
 use Rattle.blocks.proofs.store.Store.make_room.Given as goal
 

@@ -1,4 +1,4 @@
-use Rattle.std.proofs.{Common.{◌≡◌, ◌<◌, ◌⊎◌, ◌∙◌, sym, arith, length, true, false}, lemmas.Bool.{false≢true, Decides.nat_tests}}
+use Rattle.std.proofs.{Common.{◌≡◌, ◌<◌, ◌⊎◌, ◌∙◌, sym, arith, length, true}, lemmas.Bool.{false≢true, Decides.nat_tests}}
 use Rattle.redo_log.specs.Value.{CanPass, IsAway}
 use Rattle.blocks.proofs.{EmptyBatches.go_falls, TurnsJoined.kept_then}
 use Rattle.blocks.proofs.store.Store.make_way.Goals as goal

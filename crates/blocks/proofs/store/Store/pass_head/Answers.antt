@@ -1,5 +1,5 @@
 use Rattle.std.proofs.{Common.{arith, refl}, lemmas.Bool.Decides.nat_tests}
-use Rattle.blocks.{specs.StoreValue.Cached, proofs.LogTurns.{past_fewer, passes_head, past_stays, paid_turn, turn_kept}}
+use Rattle.blocks.{specs.StoreValue.Cached, proofs.TurnsJoined.{past_fewer, passes_head, past_stays, paid_turn, turn_kept}}
 use Rattle.blocks.proofs.store.Store.pass_head.Goals as goal
 
 pub invariant_of-self : goal.invariant_of-self

@@ -1,10 +1,10 @@
 use Rattle.std.proofs.Common.{◌/◌, length, ap, arith}
 use Rattle.journal.specs.Places.{Shape}
-use Rattle.blocks.{specs.Reads.AreReadable, proofs.{store.Store.read.{Given.Over, Goals.Else-is_dead}, ReadCalls.keeps_none}}
+use Rattle.blocks.{specs.Reads.AreReadable, proofs.{ReadCalls.keeps_none, store.Store.read.Goals.Else-is_dead}}
 use Rattle.blocks.proofs.store.Store.read.Goals as goal
 
 -- the blocks can be read
-readable : (g : Over) (c : Else-is_dead g)
+readable : (g : _) (c : Else-is_dead g)
     → AreReadable c.args.self.now.cached c.args.address (length c.args.to.now / 512) (length c.args.to.now)
 readable g c =
     let same = ap (λ v. v.cached.log.shape.blocks) c.self.view_is in

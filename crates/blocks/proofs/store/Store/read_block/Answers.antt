@@ -1,5 +1,5 @@
 use Rattle.std.proofs.Common.{refl, arith, rules}
-use Rattle.blocks.proofs.ReadCalls.{copy_keeps, keeps_none, newest_is, reads_newest, reads_copied, logged_newest}
+use Rattle.blocks.proofs.ReadCalls.{copy_keeps, keeps_none, newest_is, reads_newest, reads_one, copied, logged_newest}
 use Rattle.blocks.proofs.store.Store.read_block.Goals as goal
 
 -- a batch has it
@@ -22,8 +22,9 @@ returns g c =
     let none = rw (← c.self.view_is) at (c.in_default.ensures.none refl) in
     let copy = c.read_copy.ensures in
     record {
-      reads = rw (← c.self.view_is, c.told.ensures) (reads_copied c.read_copy.result copy.passes (omega (arith, readable.inside)) none
-          (search (rules, logged_newest)) (copy_keeps (g.met.M.Medium.sound c.self.inside.medium) copy.keeps)
+      reads = rw (← c.self.view_is, c.told.ensures) (reads_one c.read_copy.result
+          (copied g.M.Medium.state c.self.inside.log c.args.block copy.passes (search (rules, logged_newest)))
+          (omega (arith, readable.inside)) none (copy_keeps (g.met.M.Medium.sound c.self.inside.medium) copy.keeps)
           (λ book fits. copy.ok fits.view c.args.block fits.holds (search rules)));
       next = c.in_default.ensures.next;
     }

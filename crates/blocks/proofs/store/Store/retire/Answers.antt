@@ -1,6 +1,6 @@
 use Rattle.std.proofs.Common.{arith, refl, rules}
 use Rattle.redo_log.proofs.RecordSteps.{few_next}
-use Rattle.blocks.proofs.LogTurns.{is_retiring, retire_stays, passes_turn, turn_kept}
+use Rattle.blocks.proofs.TurnsJoined.{is_retiring, retire_stays, passes_turn, turn_kept}
 use Rattle.blocks.proofs.store.Store.retire.Goals as goal
 
 pub invariant_of-self : goal.invariant_of-self

@@ -1,17 +1,19 @@
-use Rattle.std.proofs.Common.{◌≡◌, ◌&&◌, arith, refl, Bool}
+use Rattle.std.proofs.Common.{◌≡◌, ◌&&◌, arith, refl, Bool, true}
 use Rattle.medium.specs.Medium.{State}
 use Rattle.journal.specs.declared.super_sector.Super.{Super}
-use Rattle.blocks.specs.{Ahead.may_go_by, StoreValue.Cached, Started.{ring_by, MakesParts}, declared.start.Keeping.Keeping}
-use Rattle.blocks.proofs.{Headroom.starts_with_room, Steady.{starts_filling, starts_reaching}}
+use Rattle.blocks.specs.{Ahead.may_go_by, StoreValue.{Cached, slots_of}, Started.{ring_by, keeps_by, MakesParts}}
+use Rattle.blocks.{specs.declared.start.Keeping.Keeping, proofs.{Headroom.starts_with_room, Steady.{starts_filling, starts_reaching}}}
 use Rattle.blocks.proofs.store.Store.started.Goals as goal
 
--- it goes ahead by the ring of its log
+-- what is known of its log, by whose ring it goes ahead
 policy : (keeping : Keeping) (ahead told : Bool) (before after : State) (sizes : Super) (s : Cached)
-    → MakesParts keeping before after sizes s
-    → told ≡ (ahead && may_go_by sizes.format (ring_by keeping sizes.slots))
-    → told ≡ (ahead && may_go_by s.log.shape.format s.log.ring)
+    → MakesParts keeping before after sizes s → told ≡ (ahead && may_go_by sizes.format (ring_by keeping sizes.slots))
+    → (s.log.keeps ≡ keeps_by keeping) × (s.log.ring ≡ ring_by keeping (slots_of s))
+    × (told ≡ (ahead && may_go_by s.log.shape.format s.log.ring)) × (told ≡ true → may_go_by s.log.shape.format s.log.ring ≡ true)
 policy keeping ahead told before after sizes s made is =
-    let ring : s.log.ring ≡ ring_by keeping s.log.shape.slots = rw made.started.log refl in rw (ring, made.kept.shape) is
+    let ring : s.log.ring ≡ ring_by keeping s.log.shape.slots = rw made.started.log refl in
+    let by : told ≡ (ahead && may_go_by s.log.shape.format s.log.ring) = rw (ring, made.kept.shape) is in
+    (rw made.started.log refl, ring, by, λ on. grind (arith, by, on))
 
 pub invariant_of-result : goal.invariant_of-result
 invariant_of-result g c = grind (arith, c.in-Ok.ensures.ok, c.goes_ahead_by-goes_ahead.ensures)
@@ -19,7 +21,14 @@ invariant_of-result g c = grind (arith, c.in-Ok.ensures.ok, c.goes_ahead_by-goes
 pub returns-in-Ok-clause-ok : goal.returns-in-Ok-clause-ok
 returns-in-Ok-clause-ok g c =
     let made = c.in-Ok.ensures.ok in
-    let told = policy _ _ _ _ _ _ _ made c.goes_ahead_by-goes_ahead.ensures in
-    let fill = starts_filling made.started in
-    let reach = starts_reaching made.started in
-    grind (arith, made.started, told, c.in-Ok.ensures.leaves, fill, reach, starts_with_room made.started)
+    let log = policy _ _ _ _ _ _ _ made c.goes_ahead_by-goes_ahead.ensures in
+    record {
+      started = made.started;
+      keeps = log.0;
+      ring = log.1;
+      policy = log.2;
+      filling = λ on. starts_filling made.started (log.3 on);
+      reaches = λ on. starts_reaching made.started (log.3 on);
+      headroom = λ on. starts_with_room made.started (log.3 on);
+      leaves = c.in-Ok.ensures.leaves;
+    }

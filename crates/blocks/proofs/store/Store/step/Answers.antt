@@ -1,6 +1,6 @@
 use Rattle.std.{proofs.Common.{ap, refl, []}, specs.Prelude.{Ok, Err}}
 use Rattle.redo_log.specs.declared.progress.Progress.TheVariants.{More, Durable}
-use Rattle.blocks.proofs.LogTurns.{passes_step}
+use Rattle.blocks.proofs.TurnsJoined.{passes_step}
 use Rattle.blocks.proofs.store.Store.step.Goals as goal
 
 pub returns-in-Ok-More-clause-passes : goal.returns-in-Ok-More-clause-passes

@@ -1,6 +1,6 @@
 use Rattle.std.proofs.Common.{refl}
 use Rattle.redo_log.proofs.StoreFacts.{died_holds}
-use Rattle.blocks.proofs.{BookTurns.moves, LogTurns.died_kept}
+use Rattle.blocks.proofs.{BookTurns.moves, TurnsJoined.died_kept}
 use Rattle.blocks.proofs.store.Store.stop.Goals as goal
 
 pub invariant_of-self : goal.invariant_of-self

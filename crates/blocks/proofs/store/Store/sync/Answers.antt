@@ -3,8 +3,7 @@ use Rattle.medium.specs.{Sent.sent, declared.fault.MediumFault.TheVariants.Flush
 use Rattle.journal.specs.Places.{Shape}
 use Rattle.blocks.specs.{Flushing.both_flushes, Retiring.{finished, both_calls}, Sent.{most_sent, batch_sends}, StoreValue.firsts_in}
 use Rattle.blocks.proofs.{EmptyBatches.none_of, BookTurns.settles, FlushesOnce.both_durable, Headroom.{both_each, headroom_finished}}
-use Rattle.blocks.proofs.{Steady.steady_sync, store.Store.sync.Given.Over, TurnsJoined.{kept_paid, paid_then, paid_more}, Room.costs_behind}
-use Rattle.blocks.proofs.Room.{roomy_both, once}
+use Rattle.blocks.proofs.{Steady.{steady_sync, costs_behind, roomy_both, once}, TurnsJoined.{kept_paid, paid_then, paid_more}}
 use Rattle.blocks.proofs.store.Store.sync.Goals as goal
 
 pub returns-in_err-finish-clause-passes : goal.returns-in_err-finish-clause-passes
@@ -32,7 +31,7 @@ returns-clause-ok g c book fits =
     on_ok_weaker c.finish-2.result (λ done. settles done.1 active (last.passes.turn.fits book half)) last.batch.done
 
 -- each batch has become a record
-both_finished : (g : Over) (c : goal.After-finish-2 g) → OnOk c.finish-2.result (c.finish-2.new.self.cached.log
+both_finished : (g : _) (c : goal.After-finish-2 g) → OnOk c.finish-2.result (c.finish-2.new.self.cached.log
     ≡ finished c.args.self.now.goes_ahead c.args.self.now.cached.active
     (finished c.args.self.now.goes_ahead c.args.self.now.cached.frozen c.args.self.now.cached.log))
 both_finished g c =

@@ -6,8 +6,7 @@ use Rattle.blocks.proofs.store.Store.work_ahead.Goals as goal
 pub returns-then-not-self : goal.returns-then-not-self
 returns-then-not-self g c =
     let old = c.args.self.now in
-    let passes = rested_on {Follows = g.M.Medium.follows} {most = 2} {sends = 2} {old = old} g.met.M.Medium.follows_itself
-    g.met.M.Medium.sound in
+    let passes = rested_on {Follows = g.M.Medium.follows} {most = 2} {sends = 2} old g.met.M.Medium.follows_itself g.met.M.Medium.sound in
     grind (arith, unchanged (g.M.Medium.state old.medium), c.then-not-self.branch, c.self.view_is, passes)
 
 pub returns : goal.returns

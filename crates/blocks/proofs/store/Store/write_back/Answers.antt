@@ -1,19 +1,18 @@
 use Rattle.std.proofs.{Common.{◌≡◌, ◌<◌, ◌∙◌, sym, arith, false}, lemmas.Bool.false≢true}
 use Rattle.medium.proofs.Moments.{unchanged}
 use Rattle.blocks.{specs.{StoreValue.{is_dead, steps_left, unwritten}, Work.MayWrite, Written.IsWritten}, proofs.TurnsJoined.kept_on}
-use Rattle.blocks.proofs.{TurnsJoined.rested_on, store.Store.write_back.{Given.Over, Goals.Else-is_written}, FlushesOnce.to_write}
+use Rattle.blocks.proofs.{TurnsJoined.rested_on, FlushesOnce.to_write, store.Store.write_back.Goals.Else-is_written}
 use Rattle.blocks.proofs.store.Store.write_back.Goals as goal
 
 pub returns-then-is_written : goal.returns-then-is_written
 returns-then-is_written g c =
     let written = c.is_written.ensures.0 c.if-is_written.true in
     let old = c.args.self.now in
-    let passes = rested_on {Follows = g.M.Medium.follows} {most = 2} {sends = 2} {old = old} g.met.M.Medium.follows_itself
-    g.met.M.Medium.sound in
+    let passes = rested_on {Follows = g.M.Medium.follows} {most = 2} {sends = 2} old g.met.M.Medium.follows_itself g.met.M.Medium.sound in
     grind (arith, unchanged (g.M.Medium.state c.args.self.now.medium), written, passes)
 
 -- a record is left to write, of a live store
-left : (g : Over) (c : Else-is_written g) → (¬ IsWritten c.args.self.now.cached) × (is_dead c.args.self.now.cached ≡ false)
+left : (g : _) (c : Else-is_written g) → (¬ IsWritten c.args.self.now.cached) × (is_dead c.args.self.now.cached ≡ false)
     × (0 < steps_left c.args.self.now.cached) × (0 < unwritten c.args.self.now.cached)
 left g c =
     let s = c.args.self.now.cached in

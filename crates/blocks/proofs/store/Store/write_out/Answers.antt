@@ -1,11 +1,11 @@
 use Rattle.std.{proofs.Common.{ℕ, ◌∙◌, arith, ap, rules}, specs.Prelude.Ok}
-use Rattle.medium.specs.Sent.{sent, SendsUpTo}
-use Rattle.blocks.{specs.Passing.PassesPaid, proofs.{Room.writes_on, TurnsJoined.{paid_then, on_paid}}}
-use Rattle.blocks.proofs.{TurnsJoined.rested_paid, store.Store.write_out.{Given.Over, Goals.After-step}}
+use Rattle.medium.specs.Sent.{SendsUpTo}
+use Rattle.blocks.{specs.Passing.PassesPaid, proofs.{Steady.writes_on, TurnsJoined.{paid_then, on_paid, rested_paid}}}
+use Rattle.blocks.proofs.store.Store.write_out.Goals.{After-step}
 use Rattle.blocks.proofs.store.Store.write_out.Goals as goal
 
 -- a step is made
-step_passes : (g : Over) (c : After-step g) → {sends : ℕ}
+step_passes : (g : _) (c : After-step g) → {sends : ℕ}
     → SendsUpTo sends (g.M.Medium.state c.args.self.now.medium) (g.M.Medium.state c.step.new.self.medium)
     → PassesPaid g.M.Medium.state g.M.Medium.follows sends c.args.self.now c.step.new.self
 step_passes g c few =

@@ -1,7 +1,8 @@
 use Rattle.std.proofs.{Common.{refl, ◌≡◌, ◌+◌, ◌<◌, ◌≤◌, length, ⊎_elim, arith}, lemmas.List.length-append}
 use Rattle.journal.specs.{Format2.descriptors_of, Naming.IsBehindTwo, Formats.shape_of}
-use Rattle.journal.proofs.{SectorsRead.{unnamed, named_on, named_good, named_bad}, reader.RecordReader.take_names.Goals.After-append}
+use Rattle.journal.proofs.SectorsRead.{unnamed, named_on, named_good, named_bad}
 use Rattle.journal.proofs.reader.RecordReader.take_names.Goals as goal
+use Rattle.journal.proofs.reader.RecordReader.take_names.Goals.{After-append}
 
 pub returns-in_default : goal.returns-in_default
 returns-in_default c =

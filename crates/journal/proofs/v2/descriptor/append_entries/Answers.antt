@@ -1,7 +1,6 @@
 use Rattle.std.proofs.Common.{◌++◌, ℕ, List, get_or, take, arith, length-append, zip, flat_map, take_all}
 use Rattle.byteorder.specs.Endian.{little_bytes}
-use Rattle.journal.specs.Format2.{entry_bytes}
-use Rattle.journal.proofs.SlotTwo.{length_so_far, length_zipped, entries_more}
+use Rattle.journal.{specs.Format2.entry_bytes, proofs.SlotTwo.{length_so_far, length_zipped, entries_more}}
 use Rattle.journal.proofs.v2.descriptor.append_entries.Goals as goal
 
 pub loop-e-preserved : goal.loop-e-preserved

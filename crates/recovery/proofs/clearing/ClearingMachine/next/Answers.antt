@@ -1,8 +1,7 @@
 use Rattle.std.proofs.Common.{◌≡◌, ◌+◌, ◌-◌, arith, refl, ◌<◌, ℕ, List, inr, Ok, Result, replicate}
-use Rattle.medium.proofs.{Driving.left_all, Moments.gains_within}
-use Rattle.medium.specs.declared.medium_call.Call.TheVariants.{Write}
-use Rattle.medium.specs.{Medium.State, Performed.Performed, declared.fault.MediumFault.MediumFault}
-use Rattle.recovery.specs.{Calls.cleared_at, Calls.IsBetween, NewImage.ClearView, NewImage.HoldsCleared}
+use Rattle.medium.{proofs.{Driving.left_all, Moments.gains_within}, specs.{declared.medium_call.Call.TheVariants.Write, Medium.State}}
+use Rattle.medium.specs.{declared.fault.MediumFault.MediumFault, Performed.Performed}
+use Rattle.recovery.specs.{Calls.{cleared_at, IsBetween}, NewImage.{ClearView, HoldsCleared}}
 use Rattle.recovery.proofs.clearing.ClearingMachine.next.Goals as goal
 
 module _ {M : Type 0} {state : M → State} {at end : ℕ} {view : ClearView M} {m n : M} {got : List ℕ} (below : at < end)

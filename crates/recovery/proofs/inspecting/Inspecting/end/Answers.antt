@@ -1,17 +1,16 @@
-use Rattle.std.proofs.Common.{◌≡◌, ◌∙◌, ℕ, ◌+◌, ◌<◌, List, [], length, sym, ap, arith, map}
-use Rattle.std.proofs.lemmas.List.{ext_get_or, get_or-map, length-map}
+use Rattle.std.proofs.{Common.{◌≡◌, ◌∙◌, ℕ, ◌+◌, ◌<◌, List, [], length, sym, ap, arith, map}, lemmas.List.{ext_get_or, get_or-map}}
+use Rattle.std.proofs.lemmas.List.{length-map}
 use Rattle.medium.specs.Medium.{State}
-use Rattle.journal.specs.{Record.Entry, Sectors.IsHead, Standing.HasShape, Formats.shape_of, Formats.layout_of}
-use Rattle.journal.proofs.{Formats.laws_of, Wholeness.IsWhole-one, StandingLaws.count_stands}
-use Rattle.recovery.specs.{Causes.AreCounts, Causes.IsInspected, HoldsStart.HoldsLook, declared.inspection.Inspection.Inspection}
-use Rattle.recovery.proofs.{Looks.counted_at_end, Looks.look_cause, Looks.no_tries_left, WholeRecovery.served_look}
+use Rattle.journal.{specs.{Record.Entry, Sectors.IsHead, Standing.HasShape, Formats.{shape_of, layout_of}}, proofs.Formats.laws_of}
+use Rattle.journal.proofs.{Wholeness.IsWhole-one, StandingLaws.count_stands}
+use Rattle.recovery.specs.{Causes.{AreCounts, IsInspected}, HoldsStart.HoldsLook, declared.inspection.Inspection.Inspection}
+use Rattle.recovery.proofs.{Looks.{counted_at_end, look_cause, no_tries_left}, WholeRecovery.served_look}
 use Rattle.recovery.specs.Stages as stage
 use Rattle.recovery.proofs.inspecting.Inspecting.end.Goals as goal
 
 -- what was read is what the image stands for
-inspected : (old : State) (answer : Inspection) → HasShape old.size (shape_of answer.sizes) old.content
-    → IsHead answer.head (old.content 1) → AreCounts (shape_of answer.sizes) old.content answer.head answer.waiting.items
-    → IsInspected old answer
+inspected : (old : State) (answer : Inspection) → HasShape old.size (shape_of answer.sizes) old.content → IsHead answer.head (old.content 1)
+    → AreCounts (shape_of answer.sizes) old.content answer.head answer.waiting.items → IsInspected old answer
 inspected old answer has head_is are =
     let shape = shape_of answer.sizes in
     let head = answer.head in

@@ -1,6 +1,5 @@
 use Rattle.std.proofs.Common.{refl}
-use Rattle.recovery.specs.Starting.{no_step}
-use Rattle.recovery.proofs.Looks.{can_look}
+use Rattle.recovery.{specs.Starting.no_step, proofs.Looks.can_look}
 use Rattle.recovery.proofs.inspecting.InspectingMachine.made.Goals as goal
 
 pub invariant_of-self : goal.invariant_of-self

@@ -13,11 +13,9 @@ returns-in-ReadSuper g c =
       due = rw is tt;
       within = some;
       looks = some;
-      made = λ m n got view next fits held performed after.
-          super_looked sound fits some (rw is at held) performed (rw is at after.1);
+      made = λ m n got view next fits held performed after. super_looked sound fits some (rw is at held) performed (rw is at after.1);
       refused = λ m n got view next e fits held performed gone.
-          let h = rw is at held in
-          rw gone.1 (look_refused sound h performed refl (super_read sound h performed));
+          rw gone.1 (look_refused sound (rw is at held) performed refl (super_read sound (rw is at held) performed));
       rest = all_calls 1 Two 64;
       pays = rw is refl;
       rests = λ got next after. grind (arith, rw is at after.1);
@@ -35,8 +33,7 @@ returns-in-ReadHead g c =
       looks = some;
       made = λ m n got view next fits held performed after. head_looked sound (rw is at held) performed (rw is at after.1);
       refused = λ m n got view next e fits held performed gone.
-          let h = rw is at held in
-          rw gone.1 (look_refused sound h performed refl (head_read sound h performed));
+          rw gone.1 (look_refused sound (rw is at held) performed refl (head_read sound (rw is at held) performed));
       rest = all_calls 0 sizes.format sizes.slots;
       pays = rw is (grind arith);
       rests = λ got next after. grind (arith, rw is at after.1);
@@ -58,8 +55,7 @@ returns-in-Survey g c =
           let step = rw is at after.1 in
           rw step.2 (survey_looked sound (rw is at held) tells performed step.1);
       refused = λ m n got view next e fits held performed gone.
-          let h = rw is at held in
-          rw gone.1 (look_refused sound h performed named.0 (survey_read sound h tells performed));
+          rw gone.1 (look_refused sound (rw is at held) performed named.0 (survey_read sound (rw is at held) tells performed));
       rest = tells.rest;
       pays = rw is tells.pays;
       rests = λ got next after. let step = rw is at after.1 in rw step.2 (tells.rests got step.0 step.1);

@@ -1,6 +1,6 @@
 use Rattle.std.proofs.Common.{◌≡◌, true, false, ◌≤◌, ◌+◌, ◌-◌, inl, inr, refl, suc, arith}
-use Rattle.recovery.specs.declared.image_stage.ImageStage.TheVariants as stage
 use Rattle.recovery.proofs.ImageCalls.{tells_write, tells_flush}
+use Rattle.recovery.specs.declared.image_stage.ImageStage.TheVariants as stage
 use Rattle.recovery.proofs.new_image.NewImageMachine.next.Goals as goal
 
 pub returns-in-Wipe : goal.returns-in-Wipe
@@ -10,7 +10,7 @@ returns-in-Wipe g c =
     (omega (arith, s.plan.sizes.home_is.0, s.plan.long)) (λ e. cc e) (grind arith) refl (λ view now has. (
       λ image holds. grind (arith, has.1.here, has.1.elsewhere, holds.elsewhere),
       λ image cut. inl cut,
-      λ before image cut holds. inr (before, cut, rw has.1.here holds),
+      λ before image holds cut. inr (before, cut, rw has.1.here holds),
     ))
 
 pub returns-in-FlushWipe : goal.returns-in-FlushWipe
@@ -32,7 +32,7 @@ returns-in-Zeros g c =
     (λ t is. is.0 below) (omega arith) at below (λ e. cc e) (grind arith) (rw more refl) (λ view now has. (
       λ image holds. grind (arith, below, has.zeros, has.elsewhere, holds.elsewhere, holds.here, has.some),
       λ image is. is,
-      λ before image is holds. grind (arith, is.each, holds, has.some, below),
+      λ before image holds is. grind (arith, is.each, holds, has.some, below),
     ))
 
 pub returns-in-Zeros-2 : goal.returns-in-Zeros-2
@@ -55,7 +55,7 @@ returns-in-Zeros-3 g c =
     (omega (arith, s.plan.sizes.home_is.0, s.plan.long)) (λ e. cc e) (rw none refl) (rw none refl) (λ view now has. (
       λ image holds. grind (arith, full, c.encode.ensures, view.under.most, view.under.some, has.zeros, has.elsewhere, holds.elsewhere),
       λ image is. is,
-      λ before image is holds. grind (arith, is.each, holds, c.encode.ensures),
+      λ before image holds is. grind (arith, is.each, holds, c.encode.ensures),
     ))
 
 pub returns-in-FlushHead : goal.returns-in-FlushHead
@@ -72,7 +72,7 @@ returns-in-Super g c =
     (λ e. cc e) refl refl (λ view now has. (
       λ image holds. grind (arith, long, super, has.zeros, has.elsewhere, holds.elsewhere),
       λ image is. inl is.1,
-      λ before image is holds. inr (grind (arith, long, super, is.0.zeros, is.0.elsewhere, holds.elsewhere)),
+      λ before image holds is. inr (grind (arith, long, super, is.0.zeros, is.0.elsewhere, holds.elsewhere)),
     ))
 
 pub returns-in-FlushSuper : goal.returns-in-FlushSuper

@@ -13,5 +13,4 @@ pub returns-then-self-eq0-2 : goal.returns-then-self-eq0-2
 returns-then-self-eq0-2 g c = (refl, refl, rw c.in-Copy.is (_, c.copy_made.ensures.0, inr (c.if-self-eq0-2.true, refl)))
 
 pub returns-else-self-eq0-2 : goal.returns-else-self-eq0-2
-returns-else-self-eq0-2 g c =
-    (refl, refl, rw c.in-Copy.is (_, c.copy_made.ensures.0, inl (omega (arith, c.if-self-eq0-2.false), refl)))
+returns-else-self-eq0-2 g c = (refl, refl, rw c.in-Copy.is (_, c.copy_made.ensures.0, inl (omega (arith, c.if-self-eq0-2.false), refl)))

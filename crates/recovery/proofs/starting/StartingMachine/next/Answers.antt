@@ -1,11 +1,10 @@
 use Rattle.std.proofs.Common.{◌<◌, ◌≤◌, ◌∙◌, ap, refl, arith}
 use Rattle.medium.specs.Tally.{Tally, none}
 use Rattle.journal.specs.{declared.log_format.LogFormat.TheVariants.Two, Places.sectors_of, Formats.shape_of}
-use Rattle.recovery.specs.Starting.{head_calls, all_calls, home_calls, both}
-use Rattle.recovery.proofs.Looks.{super_read, super_looked, head_read, head_looked, survey_read, survey_looked, flushed_first, first_made}
-use Rattle.recovery.proofs.Looks.{looked_start, reads_leave, told_by, both_left, no_tries_left, none_left, left_through, survey_goes_left}
-use Rattle.recovery.proofs.StartCopy.{survey_on, copy_made, copy_refused, copies_flushed, head_written, head_flushed, head_flush_made}
-use Rattle.recovery.proofs.FreshLooks.{told}
+use Rattle.recovery.{specs.Starting.{head_calls, all_calls, home_calls, both}, proofs.Looks.{super_read, super_looked, head_read}}
+use Rattle.recovery.proofs.Looks.{head_looked, survey_read, survey_looked, flushed_first, first_made, looked_start, reads_leave, told_by}
+use Rattle.recovery.proofs.{Looks.{both_left, no_tries_left, none_left, left_through, survey_goes_left}, StartCopy.{survey_on, copy_made}}
+use Rattle.recovery.proofs.{StartCopy.{copy_refused, copies_flushed, head_written, head_flushed, head_flush_made}, FreshLooks.told}
 use Rattle.recovery.proofs.starting.StartingMachine.next.Goals as goal
 
 pub returns-in-FlushFirst : goal.returns-in-FlushFirst

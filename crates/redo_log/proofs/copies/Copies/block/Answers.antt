@@ -1,6 +1,5 @@
-use Rattle.std.proofs.Common.{◌≡◌, ◌<◌, ◌≤◌, ◌+◌, ◌*◌, ◌-◌, ◌∙◌, ap, sym, [], get_or, length, take, drop, arith}
-use Rattle.std.proofs.{lemmas.Bool.cases_lt, lemmas.List.length-map, lemmas.List.take-take, lemmas.List.get_or_past, lemmas.List.get_or-map}
-use Rattle.std.proofs.lemmas.List.{drop-take, length-take}
+use Rattle.std.proofs.{Common.{◌≡◌, ◌<◌, ◌≤◌, ◌+◌, ◌*◌, ◌-◌, ◌∙◌, ap, sym, [], get_or, length, take, drop, arith}, lemmas.Bool.cases_lt}
+use Rattle.std.proofs.lemmas.List.{length-map, take-take, get_or_past, get_or-map, drop-take, length-take}
 use Rattle.redo_log.specs.Copies.{bytes_in, record_in}
 use Rattle.redo_log.proofs.copies.Copies.block.Goals as goal
 

@@ -1,5 +1,4 @@
-use Rattle.std.proofs.Common.{◌≤◌, length, length-drop, length-append, [], ◌∷◌, arith}
-use Rattle.std.proofs.lemmas.List.Elements.{All-drop, All-push}
+use Rattle.std.proofs.{Common.{◌≤◌, length, length-drop, length-append, [], ◌∷◌, arith}, lemmas.List.Elements.{All-drop, All-push}}
 use Rattle.redo_log.specs.declared.copies.Memory.{Memory}
 use Rattle.redo_log.proofs.copies.Copies.forget.Goals as goal
 

@@ -1,8 +1,7 @@
 use Rattle.std.proofs.Common.{◌∙◌, ◌≡◌, ◌<◌, [], arith, sym, inr, true, false, Some}
 use Rattle.medium.specs.declared.medium_call.Call.TheVariants.{Read, Write}
 use Rattle.redo_log.specs.{Steps.IsOn, Value.of_oldest}
-use Rattle.redo_log.proofs.{RecordSteps.log_is, RecordSteps.within_more}
-use Rattle.redo_log.proofs.TurnCalls.{tells_first, tells_second, two_bring, refused_brings, one_brings}
+use Rattle.redo_log.proofs.{RecordSteps.{log_is, within_more}, TurnCalls.{tells_first, tells_second, two_bring, refused_brings, one_brings}}
 use Rattle.redo_log.proofs.log.Log.bring_home.Goals as goal
 
 pub returns-then-are_kept : goal.returns-then-are_kept

@@ -1,8 +1,6 @@
-use Rattle.std.proofs.Common.{◌≡◌, ◌+◌, ◌-◌, ◌*◌, ◌∙◌, length, take, drop, refl, arith}
-use Rattle.std.proofs.lemmas.List.{take-take}
+use Rattle.std.proofs.{Common.{◌≡◌, ◌+◌, ◌-◌, ◌*◌, ◌∙◌, length, take, drop, refl, arith}, lemmas.List.take-take}
 use Rattle.redo_log.specs.Halfway.{IsNextData}
-use Rattle.redo_log.proofs.{RecordSteps.log_is, DataPlaces.data_bytes, DataPlaces.data_called}
-use Rattle.redo_log.proofs.log.Log.make_step.Given.{Over}
+use Rattle.redo_log.proofs.{RecordSteps.log_is, DataPlaces.{data_bytes, data_called}, log.Log.make_step.Given.Over}
 use Rattle.redo_log.proofs.log.Log.make_step.Goals.{After-is_stamped}
 use Rattle.redo_log.proofs.log.Log.make_step.Goals as goal
 
@@ -23,11 +21,10 @@ returns-then-is_stamped g c =
     let block = block_is g (goal.at.returns-then-is_stamped g c).After-is_stamped in
     let stamped = rw format at c.is_stamped.ensures in
     let part = data_bytes log.shape.format (log.head + length log.waiting) c.args.numbers.now c.args.bytes.now c.in-Some.i next.inside
-    block in
-    let sector = rw c.stamp.ensures at c.data_sector.ensures in (
-      c.write.ensures.follows,
-      data_called is c.requires next (sector ∙ part.0 (stamped.0 c.if-is_stamped.true))
-          (g.met.M.Medium.sound c.args.m.now) (g.met.M.Medium.sound c.write.new.m) c.write.ensures.performed,
+    block in (
+      c.write_stamped.ensures.follows,
+      data_called is c.requires next (rw c.stamp.ensures (part.0 (stamped.0 c.if-is_stamped.true)))
+          (g.met.M.Medium.sound c.args.m.now) (g.met.M.Medium.sound c.write_stamped.new.m) c.write_stamped.ensures.performed,
     )
 
 pub returns : goal.returns
@@ -40,7 +37,7 @@ returns g c =
     let stamped = rw format at c.is_stamped.ensures in
     let part = data_bytes log.shape.format (log.head + length log.waiting) c.args.numbers.now c.args.bytes.now c.in-Some.i next.inside
     block in (
-      c.write-2.ensures.follows,
+      c.write.ensures.follows,
       data_called is c.requires next (part.1 (λ none. absurd (cc (c.if-is_stamped.false, stamped.1 none))))
-          (g.met.M.Medium.sound c.args.m.now) (g.met.M.Medium.sound c.write-2.new.m) c.write-2.ensures.performed,
+          (g.met.M.Medium.sound c.args.m.now) (g.met.M.Medium.sound c.write.new.m) c.write.ensures.performed,
     )

@@ -1,7 +1,6 @@
 use Rattle.std.proofs.Common.{arith}
-use Rattle.redo_log.specs.{Steps.IsOn}
-use Rattle.redo_log.proofs.{RecordSteps.within_more}
-use Rattle.redo_log.proofs.TurnCalls.{two_bring, refused_brings, one_brings}
+use Rattle.redo_log.specs.Steps.{IsOn}
+use Rattle.redo_log.proofs.{RecordSteps.within_more, TurnCalls.{two_bring, refused_brings, one_brings}}
 use Rattle.redo_log.proofs.log.Log.make_turn.Goals as goal
 
 pub make-requires : goal.make-requires

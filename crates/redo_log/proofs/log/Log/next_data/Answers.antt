@@ -1,9 +1,7 @@
-use Rattle.std.proofs.Common.{◌≡◌, ◌-◌, ◌≤◌, refl, arith}
-use Rattle.std.proofs.lemmas.Bool.Decides.{nat_tests}
+use Rattle.std.proofs.{Common.{◌≡◌, ◌-◌, ◌≤◌, refl, arith}, lemmas.Bool.Decides.nat_tests}
 use Rattle.journal.specs.Places.{limit_of}
 use Rattle.redo_log.specs.{Held.made_of, Shown.shown}
-use Rattle.redo_log.proofs.DataPlaces.{descriptors, next_data_is}
-use Rattle.redo_log.proofs.RecordSteps.{log_is}
+use Rattle.redo_log.proofs.{DataPlaces.{descriptors, next_data_is}, RecordSteps.log_is}
 use Rattle.redo_log.proofs.log.Log.next_data.Goals as goal
 
 pub returns : goal.returns

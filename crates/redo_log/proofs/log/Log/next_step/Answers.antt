@@ -1,9 +1,8 @@
-use Rattle.std.proofs.Common.{◌≡◌, ◌+◌, length, arith}
-use Rattle.std.proofs.lemmas.Bool.Decides.{nat_tests}
-use Rattle.journal.specs.{Formats.layout_of, Places.first_home, Places.sectors_of, Record.entries_of}
-use Rattle.redo_log.specs.{Halfway.IsNextCall, Held.made_of, Shown.shown, Shown.lists_of}
+use Rattle.std.proofs.{Common.{◌≡◌, ◌+◌, length, arith}, lemmas.Bool.Decides.nat_tests}
+use Rattle.journal.specs.{Formats.layout_of, Places.{first_home, sectors_of}, Record.entries_of}
+use Rattle.redo_log.specs.{Told.IsNextCall, Held.made_of, Shown.{shown, lists_of}}
+use Rattle.redo_log.proofs.{StoreFacts.step_called, RecordSteps.{within_more, log_is, many_lists}}
 use Rattle.medium.specs.Performed.{IsWithin}
-use Rattle.redo_log.proofs.{StoreFacts.step_called, RecordSteps.within_more, RecordSteps.log_is, RecordSteps.many_lists}
 use Rattle.redo_log.proofs.log.Log.next_step.Goals as goal
 
 pub returns : goal.returns
