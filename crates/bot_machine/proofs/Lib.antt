@@ -2,6 +2,7 @@ pub mod Packets
 pub mod UnitLaws
 pub mod Wrappers
 pub mod OutPackets
+pub mod PacketRuns
 pub mod BookLaws
 pub mod Runs
 pub mod Moved

@@ -1,5 +1,5 @@
 -- What a packet to Bulk-Out does, by whether it is halted and by what is left of the exchange.
-use Rattle.std.proofs.Common.{◌≡◌, ap, ℕ, List, [], ◌∷◌, refl, subst, sym, ◌⊎◌, ◌<◌, true, false, inl, slice_range, ◌∙◌, arith, rules}
+use Rattle.std.proofs.Common.{◌≡◌, ap, ℕ, List, [], ◌∷◌, refl, subst, sym, ◌⊎◌, true, false, inl, slice_range, ◌∙◌, arith, rules}
 use Rattle.bot_machine.specs.{declared.bulk_state.Taking.Taking, declared.bulk_state.Phase.Phase}
 use Rattle.bot_machine.specs.declared.bulk_state.Phase.TheVariants.{Command, DataOut, DataIn, Status}
 use Rattle.bot_machine.specs.Disk.{status_of_answer, Tells, DiskValue, over, TicksIn, Proceeds, IsStepBy, IsStep, Elapses, TakesFew}
@@ -127,7 +127,7 @@ carried before after old new from to left packet block bytes proceeds one spared
 }
 
 -- an event that has the unit do nothing
-nothing_done : {M : Type 0} (m : State) (disk : DiskValue M) (line : Line) (happens : Event) (told : Answer) → IsSound m
+pub nothing_done : {M : Type 0} (m : State) (disk : DiskValue M) (line : Line) (happens : Event) (told : Answer) → IsSound m
     → ((book : Book) → UnitStep (has_refused m m) (over disk book) happens told (on_line line (state_of disk.unit book)))
     → ((book : Book) → None ≡ write_of_event (over disk book) happens)
     → ((book : Book) (block taken : List ℕ) → EventCarriesOut (over disk book) happens block taken → ⊥)

@@ -1,5 +1,5 @@
 -- A packet that spells a command block wrapper: the one exchange that it begins, and what that reads.
-use Rattle.std.proofs.Common.{◌≡◌, ◌≢◌, ℕ, List, arith, ◌⊎◌, ◌<◌, ⊎_elim, inl, inr, Option, Some, None, MatchOption, false, sym, ap, ◌∙◌}
+use Rattle.std.proofs.Common.{◌≡◌, ◌≢◌, ℕ, List, arith, ◌⊎◌, ⊎_elim, inl, inr, Option, Some, None, MatchOption, false, sym, ap, ◌∙◌}
 use Rattle.std.proofs.Common.{subst, Bool, [], refl}
 use Rattle.spec.specs.{declared.wrapper.Cbw.Cbw, declared.way.Way.Way, declared.way.Way.TheVariants.In, declared.case.Case.Case}
 use Rattle.spec.specs.{declared.case.Outcome.Outcome, CommandWrapper.{SpellsCommand, SpellsNone}, Cases.IsCase}

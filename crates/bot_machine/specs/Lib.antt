@@ -19,6 +19,7 @@ pub mod Fitting
 pub mod DiskValue
 pub mod Reading
 pub mod Disk
+pub mod PacketRuns
 pub mod Faulting
 pub mod Opening
 pub mod Refinement

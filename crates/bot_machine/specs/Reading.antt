@@ -1,5 +1,5 @@
 -- Which home sectors an event reads, and which sectors its reads name.
-use Rattle.std.specs.Prelude.{◌≡◌, ◌⊎◌, ◌<◌, ℕ, List, Option, Some, None, IfSome, false}
+use Rattle.std.specs.Prelude.{◌≡◌, ◌⊎◌, ℕ, List, Option, Some, None, IfSome, false}
 use Rattle.medium.specs.Medium.{State, LooksOnly}
 use Rattle.spec.specs.{declared.wrapper.Cbw.Cbw, declared.case.Case.Case}
 use Rattle.spec.specs.{declared.case.Case.TheVariants.{C5, C6}, Cases.IsCase}

@@ -139,8 +139,8 @@ pub(crate) fn take_data<M: Medium>(
     end_data(unit, bulk, transfer, packet);
 }
 
-// Takes a packet of the greatest size, behind which more data is due.
-fn take_more(pending: &mut Taking, taken: &mut [u8], packet: &[u8], most: u32)
+/// Takes a packet of the greatest size, behind which more data is due, or so many at once.
+pub(crate) fn take_more(pending: &mut Taking, taken: &mut [u8], packet: &[u8], most: u32)
     requires { HasMoreDue pending.old taken.old packet.now most }
     ensures exchange { pending.new.exchange ≡ pending.old.exchange }
     ensures due { pending.new.due ≡ pending.old.due - most }

@@ -12,6 +12,7 @@ mod exchange;
 mod fault;
 mod laws;
 mod lives;
+mod packet_runs;
 mod promising;
 mod reading;
 mod request;
