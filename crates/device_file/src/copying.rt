@@ -88,7 +88,7 @@ fn copy_runs<S: DeviceFile, D: DeviceFile, M: Meter>(
             Ok(()) => done += part.count,
             Err(fault) => return Err(fault),
         }
-        meter.tell(done, range.count);
+        meter.progress(done, range.count);
     }
     Ok(())
 }

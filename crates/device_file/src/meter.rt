@@ -3,5 +3,5 @@
 /// What hears how far a copy has come. Nothing of the copy depends on it.
 pub trait Meter {
     /// `done` of `all` sectors were read and handed on, since the copy began.
-    fn tell(&mut self, done: u64, all: u64);
+    fn progress(&mut self, done: u64, all: u64);
 }

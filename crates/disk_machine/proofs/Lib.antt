@@ -5,3 +5,4 @@ pub mod Events
 pub mod Playing
 pub mod Living
 pub mod PacketLaws
+pub mod PacketRuns

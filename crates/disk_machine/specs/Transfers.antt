@@ -1,6 +1,6 @@
 -- Whole transfers of a host: the packets of an endpoint, one after the other.
-use Rattle.std.specs.Prelude.{◌≡◌, ◌≢◌, ◌⊎◌, ℕ, zero, suc, ◌+◌, ◌*◌, ◌<◌, ◌≤◌, ◌==◌, ◌++◌, List}
-use Rattle.std.specs.Prelude.{length, take, drop, if◌then◌else◌}
+use Rattle.std.specs.Prelude.{◌≡◌, ◌≢◌, ◌⊎◌, ℕ, zero, suc, ◌+◌, ◌*◌, ◌/◌, ◌<◌, ◌≤◌, ◌==◌, ◌++◌}
+use Rattle.std.specs.Prelude.{List, length, take, drop, if◌then◌else◌}
 use Rattle.disk_machine.specs.{Codes.BAD_LENGTH, Plays.{Disk, SendsPacket}, Machine.Machine}
 use Rattle.disk_machine.specs.{Packets.{TakesOut, SendsIn}}
 
@@ -20,6 +20,11 @@ TakesFirst most bytes zero old new = new ≡ old
 TakesFirst most bytes (suc number) old new = (mid : Machine)
     × TakesFirst most bytes number old mid × HasPacket most bytes number
     × TakesOut mid (packet_at most bytes number) new 0
+
+-- some of them, at once
+abbrev pub TakesAmid : Machine → List ℕ → Machine → ℕ → Type 0
+TakesAmid old bytes new count = TakesFirst old.disk.line.packet_size bytes count old new
+    × (new.disk.line.packet_size ≡ old.disk.line.packet_size)
 
 -- All packets were taken; or the next one is not, and its answer is told: NAK or STALL.
 abbrev pub EndsTaking : ℕ → List ℕ → ℕ → Machine → Machine → ℕ → ℕ → Type 0
@@ -57,6 +62,13 @@ SendsFirst most zero old room new filled = (new ≡ old) × (filled ≡ room)
 SendsFirst most (suc number) old room new filled = (mid : Machine) × (before : List ℕ)
     × SendsFirst most number old room mid before
     × SendsAt most (number * most) mid before new filled most 0
+
+-- some of them at once, for which the room has place
+abbrev pub SendsAmid : Machine → List ℕ → Machine → List ℕ → ℕ → Type 0
+SendsAmid old room new filled count =
+    SendsFirst old.disk.line.packet_size count old room new filled
+    × (new.disk.line.packet_size ≡ old.disk.line.packet_size)
+    × (count ≤ length room / old.disk.line.packet_size)
 
 -- The last token gave a shorter packet, or none: then its answer is told where no packet came.
 abbrev pub IsLast : ℕ → ℕ → ℕ → ℕ → ℕ → ℕ → Type 0

@@ -2,14 +2,14 @@
 ghost use Rattle.std.specs.Prelude.{◌≡◌, ◌⊎◌, ◌↔◌, List, [], ℕ, length, IsTrue};
 ghost use Rattle.store_calls.specs.Outbox.{IsNoRoom};
 ghost use Rattle.disk_machine.specs.Plays.{medium_of};
-ghost use Rattle.disk_machine.specs.Asking.{AsksFor, IsOvertaken};
+ghost use Rattle.disk_machine.specs.Asking.{AsksFor, HandsOut, IsOvertaken};
 ghost use Rattle.disk_machine.specs.Moves.{StaysSafe};
 ghost use Rattle.window.specs.declared.asked.Asked.TheVariants as asked;
 
 use crate::lack::Lack;
 use crate::machine::DiskMachine;
-use crate::run::gather;
-use window::{Asked, DeviceAsk, DeviceCall};
+use crate::run::let_go;
+use window::{Asked, DeviceAsk};
 
 impl DiskMachine {
     /// What the device is to do next: nothing as long as it has not told the last call done. The
@@ -54,22 +54,26 @@ impl DiskMachine {
         ensures { self.old.asked ≡ asked.Nothing → ¬ IsNoRoom (length buffer.old)
             → ¬ IsOvertaken self.old → AsksFor self.old buffer.old result self.new buffer.new }
     {
-        match self.disk.medium().first() {
-            Some(DeviceCall::Write(write)) => {
-                let count = gather(&mut self.disk, write.sector, buffer);
-                self.asked = Asked::Calls(count);
-                DeviceAsk::Write {
-                    first: write.sector,
-                    count,
-                }
+        let ask = self.disk.medium().ask(buffer);
+        match ask {
+            DeviceAsk::Write { first: _, count } => {
+                self.hand_out(count);
+                ask
             }
-            Some(DeviceCall::Flush) => {
-                self.disk.pop();
-                self.asked = Asked::Calls(1);
-                DeviceAsk::Flush
+            DeviceAsk::Flush => {
+                self.hand_out(1);
+                ask
             }
-            None => self.ask_to_read(),
+            DeviceAsk::Nothing | DeviceAsk::Read(_) => self.ask_to_read(),
         }
+    }
+
+    // The device is asked for so many calls, which leave the outbox.
+    fn hand_out(&mut self, count: usize)
+        ensures { self.old.asked ≡ asked.Nothing → HandsOut self.old count self.new }
+    {
+        let_go(&mut self.disk, count);
+        self.asked = Asked::Calls(count);
     }
 
     // The sectors that are to be read, where they come before the calls that wait, or none waits.

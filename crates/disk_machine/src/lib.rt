@@ -38,6 +38,5 @@ pub use machine::DiskMachine;
 pub use play::{answer_request, make_step, play_packet, send_packet, show_sectors};
 pub use refused::refuse;
 pub use room::room_for;
-pub use run::gather;
 pub use waiting::Waiting;
 pub use wanted::unseen;

@@ -72,7 +72,7 @@ impl DiskMachine {
     }
 
     // Whether no packet is taken now.
-    fn holds_back(&self) -> bool
+    pub(crate) fn holds_back(&self) -> bool
         ensures { IsTrue result ↔ HoldsBack self.now }
     {
         self.is_starting() || self.is_reading()

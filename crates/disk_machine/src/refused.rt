@@ -1,6 +1,7 @@
 //! The device refused a call that was handed out.
 ghost use Rattle.disk_machine.specs.Refused.{IsRefused, IsDrained};
 
+use crate::run::let_go;
 use bot_machine::Disk;
 use window::WindowMedium;
 
@@ -17,7 +18,5 @@ fn drain(disk: &mut Disk<WindowMedium>)
     ensures { IsDrained disk.old disk.new }
 {
     let waiting = disk.medium().waiting();
-    for _gone in 0..waiting {
-        disk.pop();
-    }
+    let_go(disk, waiting);
 }

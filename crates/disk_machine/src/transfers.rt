@@ -1,10 +1,12 @@
 //! Whole transfers: the packets of an endpoint, one after the other.
 ghost use Rattle.std.specs.Prelude.{◌≡◌, ◌⊎◌, ◌↔◌, ℕ, ◌*◌, ◌<◌, ◌≤◌, length};
 ghost use Rattle.disk_machine.specs.Transfers.{TakesTransfer, SendsToken, SendsTransfer};
-ghost use Rattle.disk_machine.specs.Transfers.{SendsInto};
+ghost use Rattle.disk_machine.specs.Transfers.{SendsInto, TakesAmid, SendsAmid};
 
 use crate::codes::{ACK, BAD_LENGTH, NAK};
+use crate::lack::Lack;
 use crate::machine::DiskMachine;
+use crate::play::foresee;
 use crate::tokens::give_packet;
 use crate::waiting::Waiting;
 
@@ -17,7 +19,7 @@ impl DiskMachine {
         ensures { TakesTransfer self.old bytes.now self.new taken.new result }
     {
         let most = self.disk.packet_size() as usize;
-        for number in 0..count_of(bytes.len(), most) {
+        for number in self.take_run(bytes)..count_of(bytes.len(), most) {
             let at = number * most;
             let size = most.min(bytes.len() - at);
             let code = self.take_packet(&bytes[at..at + size]);
@@ -50,7 +52,7 @@ impl DiskMachine {
     {
         let most = self.disk.packet_size() as usize;
         let places = room.len() / most;
-        for count in 0..places {
+        for count in self.give_run(room)..places {
             let at = count * most;
             let mut size = 0;
             let told = self.token(&mut room[at..], &mut size);
@@ -65,6 +67,36 @@ impl DiskMachine {
         }
         *given = places * most;
         ACK
+    }
+
+    // The first packets, as far as they lie in the midst of data: all by one copy. No event of such
+    // a packet is put off, lacks sectors, or asks the device for anything.
+    fn take_run(&mut self, bytes: &[u8]) -> usize
+        ensures { TakesAmid self.old bytes.now self.new result }
+    {
+        if self.holds_back() {
+            return 0;
+        }
+        self.rest();
+        foresee(&self.disk);
+        let count = self.disk.bulk_out_run(bytes);
+        if count > 0 {
+            self.lack = Lack::Nothing;
+        }
+        count
+    }
+
+    // The first packets of data that is sent, but the last: all by one copy.
+    fn give_run(&mut self, room: &mut [u8]) -> usize
+        ensures { SendsAmid self.old room.old self.new room.new result }
+    {
+        match self.waiting {
+            Waiting::Nothing => {
+                foresee(&self.disk);
+                self.disk.bulk_in_run(room)
+            }
+            Waiting::Promise | Waiting::Start => 0,
+        }
     }
 
     // A token to Bulk-In, whose packet goes to the front of a room in which the greatest has place.

@@ -6,7 +6,7 @@ use Rattle.window.specs.{MirrorLaws.given-append, Story.given, declared.call.Dev
 use Rattle.window.specs.Window.{Window, state_of, mirror_of, reads, gives}
 use Rattle.window.proofs.{OutboxCalls.{given_none, given_some}, Shown.front}
 use Rattle.image_calls.specs.{Runs.{HoldsOf, HoldsRead, LetsGo}, Running.HandedOut, declared.run.Run.Run}
-use Rattle.store_calls.specs.{Outbox.writes_of}
+use Rattle.window.specs.{Runs.writes_of}
 use Rattle.store_calls.proofs.{OutboxTaken.same_writes}
 use Rattle.image_calls.proofs.Carrying.{none_came, asked_more, gave_more}
 use Rattle.window.specs.declared.call.DeviceCall.TheVariants as device

@@ -12,7 +12,7 @@ use Rattle.image_calls.specs.{Carried.{IsCarriedOn, Hears, IsAsked}, Runs.{Holds
 use Rattle.image_calls.specs.Running.{IsRunning, IsAtRest, Hands, GathersOn, HasGiven, HandedOut, HasGathered, RunAsks, Settles, AsksNext}
 use Rattle.image_calls.specs.{Running.IsRunOn, Stepping.{Answers, Puts, TellsNone, IsAnswered, WritesTo}, declared.asked.Asked.Asked}
 use Rattle.image_calls.specs.{declared.carried.Carried.Carried, declared.run.Run.Run, declared.running.Running.Running}
-use Rattle.store_calls.specs.{Outbox.writes_of}
+use Rattle.window.specs.{Runs.writes_of}
 use Rattle.image_calls.proofs.Carrying.{asked_more, gave_more, whole_write}
 use Rattle.image_calls.proofs.Handing.{handed_none, handed_read, handed_more, handed_on, handed_through, writes_more, held_read}
 use Rattle.image_calls.proofs.{Handing.{held_written, held_flushed, held_anew}, Performing.{read_performed, write_performed}}

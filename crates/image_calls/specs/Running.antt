@@ -6,7 +6,7 @@ use Rattle.window.specs.{OutboxMedium.ComesAfter, Story.{given, are_whole}}
 use Rattle.window.specs.{declared.call.DeviceCall.DeviceCall, Window.{Window, state_of, mirror_of}}
 use Rattle.window.specs.{declared.ask.DeviceAsk.DeviceAsk, declared.ask.DeviceRead.DeviceRead}
 use Rattle.window.specs.{declared.done_fault.DoneFault.DoneFault}
-use Rattle.store_calls.specs.{Outbox.writes_of}
+use Rattle.window.specs.{Runs.writes_of}
 use Rattle.image_calls.specs.Carried.{IsCarried, AsksFor, Hears, EndsRead, ended_by}
 use Rattle.image_calls.specs.{Runs.{HoldsOf, HoldsRead}, Stepping.{TellsNone, IsAnswered, WritesTo}}
 use Rattle.image_calls.specs.{declared.asked.Asked.Asked, declared.carried.Carried.Carried}

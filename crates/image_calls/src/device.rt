@@ -1,6 +1,6 @@
 //! What the device is asked for.
 ghost use Rattle.std.specs.Prelude.{◌≡◌, length};
-ghost use Rattle.store_calls.specs.Outbox.{IsNoRoom, IsLongestRun};
+ghost use Rattle.store_calls.specs.Outbox.{IsNoRoom, without};
 ghost use Rattle.image_calls.specs.Machines.{Asks, AsksBy, AsksForNext, GoesOn};
 ghost use Rattle.image_calls.specs.declared.image_asked.ImageAsked.TheVariants as asked;
 
@@ -8,7 +8,7 @@ use crate::going::go_on;
 use crate::image_asked::{ImageAsked, ImageCall};
 use crate::machine::ImageMachine;
 use medium::Outlet;
-use window::{DeviceAsk, DeviceCall, SECTOR, WindowMedium, device_laws};
+use window::{DeviceAsk, WindowMedium, device_laws};
 
 impl ImageMachine {
     /// What the device is to do next: nothing as long as it has not told the last call done, when
@@ -44,36 +44,28 @@ impl ImageMachine {
         ensures { self.old.asked ≡ asked.Nothing → ¬ IsNoRoom (length buffer.old)
             → AsksForNext self.old.work buffer.old result self.new buffer.new }
     {
-        match self.work.medium.first() {
-            Some(DeviceCall::Write(write)) => {
-                let count = gather(&mut self.work.medium, write.sector, buffer);
+        let ask = self.work.medium.ask(buffer);
+        match ask {
+            DeviceAsk::Write { first: _, count } => {
+                let_go(&mut self.work.medium, count);
                 self.asked = ImageAsked::Calls(ImageCall::Write, count);
-                DeviceAsk::Write {
-                    first: write.sector,
-                    count,
-                }
+                ask
             }
-            Some(DeviceCall::Flush) => {
+            DeviceAsk::Flush => {
                 self.work.medium.pop();
                 self.asked = ImageAsked::Calls(ImageCall::Flush, 1);
-                DeviceAsk::Flush
+                ask
             }
-            None => DeviceAsk::Nothing,
+            DeviceAsk::Nothing | DeviceAsk::Read(_) => DeviceAsk::Nothing,
         }
     }
 }
 
-// Lets go of writes to the sectors from this one on, as long as they wait first and have room, and
-// copies their bytes. How many they were.
-fn gather(medium: &mut WindowMedium, first: u64, to: &mut [u8]) -> usize
-    ensures { IsLongestRun medium.old medium.new first result to.old to.new }
+// Lets go of so many calls that wait first.
+fn let_go(medium: &mut WindowMedium, count: usize)
+    ensures { medium.new ≡ without count medium.old }
 {
-    let most = to.len() / SECTOR;
-    for at in 0..most {
-        if !medium.copy_first(first, at as u64, to) {
-            return at;
-        }
+    for _gone in 0..count {
         medium.pop();
     }
-    most
 }

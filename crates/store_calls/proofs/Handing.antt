@@ -7,7 +7,8 @@ use Rattle.window.specs.{OutboxMedium.first_of, declared.call.DeviceCall.DeviceC
 use Rattle.window.specs.{Window.{Window, take_first}, declared.ask.DeviceAsk.DeviceAsk, declared.ask.DeviceRead.DeviceRead}
 use Rattle.window.specs.{declared.asked.Asked.Asked}
 use Rattle.blocks.specs.StoreValue.{Cached, layout_of}
-use Rattle.store_calls.specs.{Asking.{AsksFor, HandsOut}, Outbox.{without, writes_of, IsRun}, Serving.StaysSafe}
+use Rattle.window.specs.Runs.{writes_of}
+use Rattle.store_calls.specs.{Asking.{AsksFor, HandsOut}, Outbox.{without, IsRun}, Serving.StaysSafe}
 use Rattle.store_calls.specs.StoreMachine.{Machine, under_way, is_behind}
 use Rattle.store_calls.proofs.Standing.{IsSentStill, Stands, same_sent, stays_safe, store_stays, nothing_changes}
 use Rattle.window.specs.declared.ask.DeviceAsk.TheVariants as ask

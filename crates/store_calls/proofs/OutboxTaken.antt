@@ -1,18 +1,13 @@
 -- Calls that leave an outbox, one by one.
-use Rattle.std.proofs.Common.{◌≡◌, ℕ, zero, suc, ◌+◌, ◌<◌, List, [], ◌∷◌, ◌++◌, Some, length, drop, refl, sym, ◌∙◌, ap, subst, arith}
-use Rattle.std.proofs.{Common.{append_assoc, add-one}, lemmas.List.drop_all}
-use Rattle.medium.specs.{Medium.Holds, Writes.sector_of}
-use Rattle.window.specs.{OutboxMedium.first_of, declared.call.DeviceCall.DeviceCall, declared.call.DeviceCall.TheVariants.Write}
+use Rattle.std.proofs.Common.{◌≡◌, ℕ, zero, suc, ◌+◌, ◌<◌, List, [], ◌∷◌, ◌++◌, length, drop, refl, sym, ◌∙◌, ap, arith}
+use Rattle.std.proofs.{Common.{add-one, add-zero, inl, inr}, lemmas.List.{drop_all, take-append-drop}, lemmas.Bool.cases_lt}
+use Rattle.medium.specs.{Writes.sector_of}
+use Rattle.window.specs.{declared.call.DeviceCall.DeviceCall, declared.call.DeviceCall.TheVariants.Write}
 use Rattle.window.specs.Window.{Window, take_first, without_first}
-use Rattle.store_calls.specs.Outbox.{without, IsEmptied, IsRun, writes_of}
+use Rattle.window.specs.Runs.{CopiesRun, writes_of}
+use Rattle.store_calls.specs.Outbox.{without, IsEmptied, IsLongestRun, IsNoRoom}
 
 -- ---- a run
-
--- what is taken out stood before the rest
-taken_out : (calls : List DeviceCall) (w : Window) (call : DeviceCall) → first_of calls ≡ Some call
-    → calls ≡ call ∷ (take_first calls w).outbox
-taken_out [] w call is = cc
-taken_out (first ∷ rest) w call is = let same : first ≡ call = cc in ap (λ (x : DeviceCall). x ∷ rest) same
 
 -- sectors that hold the same give the same writes
 pub same_writes : (count sector : ℕ) (was filled : List ℕ) → ((i : ℕ) → i < count → sector_of filled i ≡ sector_of was i)
@@ -21,29 +16,6 @@ same_writes zero sector was filled same = refl
 same_writes (suc count) sector was filled same =
     (λ i. same_writes count sector was filled (λ k lt. same k (omega (arith, lt))) i
     ++ Write (record { sector = sector + count; block = sym (same count (omega arith)) i }) ∷ [])
-
-module _ (old mid new : Window) (sector count : ℕ) (room was filled block : List ℕ) (run : IsRun old mid sector count room was)
-    (waits : first_of mid.outbox ≡ Some (Write (record { sector = sector + count; block = block })))
-    (stored : Holds count block (sector_of was) (sector_of filled)) (goes : new ≡ without_first mid) where
-  written : old.outbox ≡ writes_of (suc count) sector filled ++ new.outbox
-  written =
-      let call : DeviceCall = Write (record { sector = sector + count; block = block }) in
-      run.writes
-      ∙ ap (λ (l : List DeviceCall). l ++ mid.outbox)
-      (same_writes count sector was filled (λ i lt. stored.elsewhere i (omega (arith, lt))))
-      ∙ ap (λ (l : List DeviceCall). writes_of count sector filled ++ l)
-      (taken_out mid.outbox mid call waits ∙ ap (λ (w : Window). call ∷ w.outbox) (sym goes))
-      ∙ sym (append_assoc (writes_of count sector filled) (call ∷ []) new.outbox)
-      ∙ ap (λ (b : List ℕ). (writes_of count sector filled ++ Write (record { sector = sector + count; block = b }) ∷ []) ++ new.outbox)
-      (sym stored.here)
-
-  -- one write more
-  pub more : IsRun old new sector (count + 1) room filled
-  more = subst (λ (n : ℕ). IsRun old new sector n room filled) (sym (add-one count)) (record {
-    writes = written;
-    medium = goes ∙ ap (λ (w : Window). take_first w.outbox w) run.medium;
-    behind = λ i le. stored.elsewhere i (omega (arith, le)) ∙ run.behind i (omega (arith, le));
-  })
 
 -- ---- all of them
 
@@ -76,3 +48,30 @@ emptied count old new all gone =
       empty = ap (λ (w : Window). w.outbox) medium ∙ waits_behind (length old.outbox) old
           ∙ drop_all (length old.outbox) old.outbox (omega arith);
     }
+
+-- ---- the longest run
+
+pub longest : (old new : Window) (first count : ℕ) (room filled : List ℕ) → CopiesRun old.outbox first count room filled
+    → new ≡ without count old → IsLongestRun old new first count room filled
+longest old new first count room filled copies gone =
+    let waits : new.outbox ≡ drop count old.outbox = ap (λ (w : Window). w.outbox) gone ∙ waits_behind count old in record {
+      run = record {
+        writes = rw (waits, ← copies.writes) (sym (take-append-drop count old.outbox));
+        medium = gone;
+        behind = copies.behind;
+      };
+      most = copies.most;
+      ends = rw waits copies.ends;
+    }
+
+-- it has a write at least, where there is room
+pub some_run : (waits : List DeviceCall) (first count : ℕ) (room filled : List ℕ) → CopiesRun waits first count room filled
+    → ¬ IsNoRoom (length room) → 0 < count
+some_run waits first zero room filled copies fits = elim copies.ends [
+  | inl full ↦ elim (cases_lt 0 (length room)) [
+    | inl some ↦ absurd (fits (inr (λ whole. omega (arith, full, some, whole))))
+    | inr none ↦ absurd (fits (inl (omega arith)))
+  ]
+  | inr ends ↦ absurd (ends (rw add-zero copies.begins))
+]
+some_run waits first (suc count) room filled copies fits = omega arith

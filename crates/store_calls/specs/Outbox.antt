@@ -1,10 +1,9 @@
 -- What leaves an outbox, and how many writes to neighbouring sectors leave it together.
-use Rattle.std.specs.Prelude.{◌≡◌, ◌≢◌, ◌⊎◌, ℕ, zero, suc, ◌+◌, ◌/◌, ◌%◌, ◌≤◌, List, [], ◌∷◌, ◌++◌}
+use Rattle.std.specs.Prelude.{◌≡◌, ◌≢◌, ◌⊎◌, ℕ, zero, suc, ◌+◌, ◌/◌, ◌%◌, ◌≤◌, List, [], ◌++◌}
 use Rattle.std.specs.{Prelude.length}
 use Rattle.medium.specs.{Writes.sector_of}
-use Rattle.window.specs.{declared.call.DeviceCall.DeviceCall}
-use Rattle.window.specs.{declared.call.DeviceCall.TheVariants.Write, OutboxMedium.first_of}
-use Rattle.window.specs.{Runs.IsTo, Window.{Window, without_first}}
+use Rattle.window.specs.{OutboxMedium.first_of}
+use Rattle.window.specs.{Runs.{IsTo, writes_of}, Window.{Window, without_first}}
 
 -- this many calls leave the outbox, one by one
 abbrev pub without : ℕ → Window → Window
@@ -17,12 +16,6 @@ pub record IsEmptied (old new : Window) : Type 0 where
   pub empty : new.outbox ≡ []
 
 -- ---- a run
-
--- writes of this many blocks of these bytes, in order, to the sectors from this one on
-abbrev pub writes_of : ℕ → ℕ → List ℕ → List DeviceCall
-writes_of zero sector bytes = []
-writes_of (suc count) sector bytes = writes_of count sector bytes
-    ++ Write (record { sector = sector + count; block = sector_of bytes count }) ∷ []
 
 -- Of the calls count leave the outbox, one by one: writes to neighbouring sectors from this one on.
 -- Their bytes lie one behind the other, and the others in the room stay.

@@ -1,11 +1,12 @@
 //! What the device of a store is asked for.
 ghost use Rattle.std.specs.Prelude.{◌≡◌, None};
-ghost use Rattle.store_calls.specs.Asking.{AsksIdle, TellsNext, HasRoomFor, to_read};
+ghost use Rattle.store_calls.specs.Asking.{AsksIdle, TellsNext, HandsOut, HasRoomFor, to_read};
+ghost use Rattle.window.specs.declared.asked.Asked.TheVariants as asked;
 
 use crate::lack::Lack;
 use crate::machine::StoreMachine;
-use crate::run::gather;
-use window::{Asked, DeviceAsk, DeviceCall};
+use crate::run::let_go;
+use window::{Asked, DeviceAsk};
 
 impl StoreMachine {
     /// What the device is to do next: nothing as long as it has not told the last call done. The
@@ -40,21 +41,25 @@ impl StoreMachine {
         ensures { to_read self.old.lack ≡ None
             → AsksIdle self.old buffer.old result self.new buffer.new }
     {
-        match self.store.medium().first() {
-            Some(DeviceCall::Write(write)) => {
-                let count = gather(&mut self.store, write.sector, buffer);
-                self.asked = Asked::Calls(count);
-                DeviceAsk::Write {
-                    first: write.sector,
-                    count,
-                }
+        let ask = self.store.medium().ask(buffer);
+        match ask {
+            DeviceAsk::Write { first: _, count } => {
+                self.hand_out(count);
+                ask
             }
-            Some(DeviceCall::Flush) => {
-                self.store.pop();
-                self.asked = Asked::Calls(1);
-                DeviceAsk::Flush
+            DeviceAsk::Flush => {
+                self.hand_out(1);
+                ask
             }
-            None => DeviceAsk::Nothing,
+            DeviceAsk::Nothing | DeviceAsk::Read(_) => ask,
         }
+    }
+
+    // The device is asked for so many calls, which leave the outbox.
+    fn hand_out(&mut self, count: usize)
+        ensures { self.old.asked ≡ asked.Nothing → HandsOut self.old count self.new }
+    {
+        let_go(&mut self.store, count);
+        self.asked = Asked::Calls(count);
     }
 }

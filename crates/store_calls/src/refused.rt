@@ -1,6 +1,7 @@
 //! The device refused a call that was handed out.
 ghost use Rattle.store_calls.specs.Refused.{IsRefused, IsDrained};
 
+use crate::run::let_go;
 use blocks::Store;
 use window::WindowMedium;
 
@@ -17,7 +18,5 @@ fn drain(store: &mut Store<WindowMedium>)
     ensures { IsDrained store.old store.new }
 {
     let waiting = store.medium().waiting();
-    for _gone in 0..waiting {
-        store.pop();
-    }
+    let_go(store, waiting);
 }

@@ -1,23 +1,18 @@
-//! Writes to neighbouring sectors leave the outbox together.
+//! Calls leave the outbox together.
+ghost use Rattle.std.specs.Prelude.{◌≡◌};
 ghost use Rattle.blocks.specs.Passing.{IsUntouched};
 ghost use Rattle.window.specs.Window.{state_of};
-ghost use Rattle.store_calls.specs.Outbox.{IsLongestRun};
+ghost use Rattle.store_calls.specs.Outbox.{without};
 
 use blocks::Store;
-use window::{SECTOR, WindowMedium};
+use window::WindowMedium;
 
-// Lets go of writes to the sectors from this one on, as long as they wait first and have room, and
-// copies their bytes. How many they were.
-pub(crate) fn gather(store: &mut Store<WindowMedium>, first: u64, to: &mut [u8]) -> usize
-    ensures run { IsLongestRun store.old.medium store.new.medium first result to.old to.new }
+// Lets go of so many calls that wait first.
+pub(crate) fn let_go(store: &mut Store<WindowMedium>, count: usize)
+    ensures gone { store.new.medium ≡ without count store.old.medium }
     ensures untouched { IsUntouched state_of store.old store.new }
 {
-    let most = to.len() / SECTOR;
-    for at in 0..most {
-        if !store.medium().copy_first(first, at as u64, to) {
-            return at;
-        }
+    for _gone in 0..count {
         store.pop();
     }
-    most
 }

@@ -1,5 +1,5 @@
 -- What happened to a medium that reads on demand, as its story has it.
-use Rattle.window.specs.Seen.{Seen, begun, read, missed, gave, refused, took, shown}
+use Rattle.window.specs.Seen.{Seen, begun, read, missed, gave, refused, took_first, shown}
 use Rattle.window.specs.declared.story.Event.{Event}
 use Rattle.window.specs.declared.story.Event.TheVariants.{Began, Read, Missed, Gave, Refused}
 use Rattle.window.specs.declared.story.Event.TheVariants.{Took, Shown}
@@ -12,6 +12,6 @@ told_by (Read story sector) = read story.now.seen sector
 told_by (Missed story sector) = missed story.now.seen sector
 told_by (Gave story call) = gave story.now.seen call.now
 told_by (Refused story call) = refused story.now.seen call.now
-told_by (Took story call) = took story.now.seen call.now
+told_by (Took story outbox) = took_first story.now.seen outbox.now.items
 told_by (Shown story pane) =
     shown story.now.seen pane.now.from pane.now.held pane.now.sectors.bytes.items

@@ -53,6 +53,11 @@ refused t call = record t { told = story.refused t.told call }
 abbrev pub took : Seen → DeviceCall → Seen
 took t call = record t { told = story.took t.told call }
 
+-- the first of these calls was taken, where there is one
+abbrev pub took_first : Seen → List DeviceCall → Seen
+took_first t [] = t
+took_first t (call ∷ calls) = took t call
+
 -- whether each of a number of sectors from the first on is in the image as it is shown
 abbrev pub agrees : Image → ℕ → ℕ → List ℕ → Bool
 agrees image first zero bytes = true

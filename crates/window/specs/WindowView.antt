@@ -9,7 +9,7 @@ abbrev pub view_of : Inside → Window
 view_of m = record {
   seen = m.story.seen;
   outbox = m.outbox.items;
-  room = m.room;
+  room = m.outbox.room;
   near = length m.near.bytes.items / 512;
   from = m.pane.from;
   held = m.pane.held;
@@ -27,4 +27,3 @@ pub record Invariant (m : Inside) : Type 0 where
       (m.pane.from + i)
   pub size_is : length m.story.seen.told.opening ≡ 512 * m.size
   pub inside : m.pane.from + m.pane.held ≤ m.size
-  pub reserved : m.room ≤ m.outbox.room

@@ -4,16 +4,17 @@ ghost use Rattle.std.specs.Prelude.{true, false, IfOk, IsErrOf, IsTrue};
 ghost use Rattle.medium.specs.Moments.{IsFlushed};
 ghost use Rattle.medium.specs.Writes.{sector_of};
 ghost use Rattle.window.specs.OutboxMedium.{first_of};
-ghost use Rattle.window.specs.Runs.{CopiesFirst};
+ghost use Rattle.window.specs.Runs.{AsksFirst};
 ghost use Rattle.window.specs.Window.{Window, state_of, fresh, without_first, ComesAfter};
 ghost use Rattle.window.specs.Window.{CoversDevice, IsServed, HasPlace, IsShown, is_in_sight};
 
+use crate::ask::DeviceAsk;
 use crate::call::{DeviceCall, SectorWrite};
 use crate::holds::DeviceHolds;
 use crate::memory::{keep, load};
-use crate::outbox::{Kind, Outbox, Place};
+use crate::outbox::{Kind, Outbox};
 use crate::pane::Pane;
-use crate::sectors::{SECTOR, Sectors, put as put_sector};
+use crate::sectors::{SECTOR, Sectors};
 use crate::story::{Event, Opening, Story};
 use medium::{Inlet, Medium, MediumFault, Outlet};
 use std::alloc::Global;
@@ -42,7 +43,6 @@ pub struct WindowMedium {
     size: u64,
     pane: Pane,
     outbox: Outbox,
-    room: usize,
     story: Story,
 }
 
@@ -101,7 +101,6 @@ impl WindowMedium {
                 held: 0,
             },
             outbox,
-            room,
             story,
         })
     }
@@ -166,8 +165,8 @@ impl WindowMedium {
         ensures first { result ≡ first_of self.old.outbox }
         ensures rest { self.new ≡ without_first self.old }
     {
-        let call = self.outbox.pop_front()?;
-        self.story = Story::of(&Event::Took(&self.story, &call));
+        let call = self.first()?;
+        self.pop();
         Some(call)
     }
 
@@ -175,29 +174,20 @@ impl WindowMedium {
     pub fn first(&self) -> Option<DeviceCall>
         ensures { result ≡ first_of self.now.outbox }
     {
-        match self.outbox.front() {
+        match self.outbox.get(0) {
             Some(place) => Some(place.call()),
             None => None,
         }
     }
 
-    /// Copies what the call writes that waits first to its place in the room, where that is a write
-    /// to the sector `behind` sectors behind this one. Whether it is.
-    pub fn copy_first(&self, first: u64, behind: u64, to: &mut [u8]) -> bool
-        requires { 512 * (behind + 1) ≤ length to.old }
-        ensures { CopiesFirst self.now (first + behind) behind result to.old to.new }
+    /// What a device is to do for what waits first: nothing where no call waits, a flush, or the
+    /// longest run of writes to neighbouring sectors for which the buffer has room. Their bytes go
+    /// to its front, by one copy, or by two where the memory of the outbox ends within them. All
+    /// waits still.
+    pub fn ask(&self, to: &mut [u8]) -> DeviceAsk
+        ensures { AsksFirst self.now.outbox to.old result to.new }
     {
-        let Some(place) = self.outbox.front() else {
-            return false;
-        };
-        let Kind::Write(sector) = place.kind else {
-            return false;
-        };
-        if sector < first || sector - first != behind {
-            return false;
-        }
-        put_sector(to, behind, &place.block);
-        true
+        self.outbox.ask(to)
     }
 
     /// How many calls wait in the outbox.
@@ -278,7 +268,7 @@ impl Medium for WindowMedium {
         ensures passes { Passes Write result (state_of self.old) (state_of self.new) }
         ensures follows { ComesAfter self.old self.new }
     {
-        if self.outbox.len() >= self.room {
+        if self.outbox.len() >= self.outbox.room() {
             let call = DeviceCall::Write(SectorWrite {
                 sector,
                 block: *from,
@@ -292,10 +282,7 @@ impl Medium for WindowMedium {
             block: *from,
         });
         self.story = Story::of(&Event::Gave(&self.story, &call));
-        self.outbox.push(Place {
-            block: *from,
-            kind: Kind::Write(sector),
-        });
+        self.outbox.push(Kind::Write(sector), from);
         Ok(())
     }
 
@@ -309,16 +296,12 @@ impl Medium for WindowMedium {
         ensures passes { Passes Flush result (state_of self.old) (state_of self.new) }
         ensures follows { ComesAfter self.old self.new }
     {
-        if self.outbox.len() >= self.room {
+        if self.outbox.len() >= self.outbox.room() {
             self.story = Story::of(&Event::Refused(&self.story, &DeviceCall::Flush));
             return Err(MediumFault::Flush);
         }
         self.story = Story::of(&Event::Gave(&self.story, &DeviceCall::Flush));
-        let flush = Place {
-            block: [0; 512],
-            kind: Kind::Flush,
-        };
-        self.outbox.push(flush);
+        self.outbox.push(Kind::Flush, &[0; 512]);
         Ok(())
     }
 }
@@ -331,7 +314,8 @@ impl Outlet for WindowMedium {
     ghost given = { λ old new. new ≡ without_first old };
 
     fn pop(&mut self) {
-        let _call = self.take();
+        self.story = Story::of(&Event::Took(&self.story, &self.outbox));
+        self.outbox.pop_front();
     }
 }
 

@@ -1,26 +1,12 @@
-use Rattle.std.proofs.Common.{arith, ap, refl, length}
+use Rattle.std.proofs.Common.{◌∙◌, ap, length}
 use Rattle.window.specs.Window.{Window}
-use Rattle.store_calls.proofs.OutboxTaken as taking
+use Rattle.store_calls.proofs.OutboxTaken.{emptied}
 use Rattle.disk_machine.specs.Plays.{medium_of}
-use Rattle.disk_machine.proofs.Handing.{none_yet, one_more}
 use Rattle.disk_machine.proofs.refused.drain.Goals as goal
 
-pub loop-gone-init : goal.loop-gone-init
-loop-gone-init c = (refl, none_yet c.args.disk.now)
-
-pub loop-gone-preserved : goal.loop-gone-preserved
-loop-gone-preserved c = (
-  taking.one_more c.loop-gone._gone (medium_of c.args.disk.now) (medium_of c.loop-gone.disk) (medium_of c.pop.new.self)
-      c.loop-gone.invariant.0 c.pop.ensures.armed,
-  one_more c.args.disk.now c.loop-gone.disk c.pop.new.self c.loop-gone.invariant.1
-      (record { others = c.pop.ensures.others; fits = c.pop.ensures.fits }),
-)
-
 pub returns : goal.returns
-returns c =
-    let waits = ap (λ (w : Window). length w.outbox) c.medium.ensures.is in record {
-      emptied = taking.emptied c.loop-gone._gone (medium_of c.args.disk.now) (medium_of c.loop-gone.disk)
-          (omega (arith, c.loop-gone-test.false, c.loop-gone.auto._gone-end, c.waiting-waiting.ensures.is, waits))
-          c.loop-gone.invariant.0;
-      rest = c.loop-gone.invariant.1;
-    }
+returns c = record {
+  emptied = emptied c.waiting-waiting.result (medium_of c.args.disk.now) (medium_of c.let_go.new.disk)
+      (c.waiting-waiting.ensures.is ∙ ap (λ (w : Window). length w.outbox) c.medium.ensures.is) c.let_go.ensures.gone;
+  rest = c.let_go.ensures.rest;
+}

@@ -1,24 +1,11 @@
-use Rattle.std.proofs.Common.{arith, ap, refl, length}
+use Rattle.std.proofs.Common.{◌∙◌, ap, length}
 use Rattle.window.specs.{Window.Window}
-use Rattle.store_calls.proofs.Untouched.{none_yet, one_more}
-use Rattle.store_calls.proofs.OutboxTaken as taking
+use Rattle.store_calls.proofs.{OutboxTaken.emptied}
 use Rattle.store_calls.proofs.refused.drain.Goals as goal
 
-pub loop-gone-init : goal.loop-gone-init
-loop-gone-init c = (refl, none_yet c.args.store.now)
-
-pub loop-gone-preserved : goal.loop-gone-preserved
-loop-gone-preserved c = (
-  taking.one_more c.loop-gone._gone c.args.store.now.medium c.loop-gone.store.medium c.pop.new.self.medium c.loop-gone.invariant.0
-      c.pop.ensures.given,
-  one_more c.args.store.now c.loop-gone.store c.pop.new.self c.loop-gone.invariant.1 c.pop.ensures.untouched,
-)
-
 pub returns : goal.returns
-returns c =
-    let waits = ap (λ (w : Window). length w.outbox) c.medium.ensures.is in record {
-      emptied = taking.emptied c.loop-gone._gone c.args.store.now.medium c.loop-gone.store.medium
-          (omega (arith, c.loop-gone-test.false, c.loop-gone.auto._gone-end, c.waiting-waiting.ensures.is, waits))
-          c.loop-gone.invariant.0;
-      untouched = c.loop-gone.invariant.1;
-    }
+returns c = record {
+  emptied = emptied c.waiting-waiting.result c.args.store.now.medium c.let_go.new.store.medium
+      (c.waiting-waiting.ensures.is ∙ ap (λ (w : Window). length w.outbox) c.medium.ensures.is) c.let_go.ensures.gone;
+  untouched = c.let_go.ensures.untouched;
+}

@@ -1,23 +1,27 @@
-use Rattle.std.proofs.Common.{inr, refl, sym, ◌∙◌, ap, Some}
-use Rattle.window.specs.{OutboxMedium.first_of, declared.call.DeviceCall.DeviceCall, Window.Window}
-use Rattle.store_calls.proofs.Handing.{none_first}
+use Rattle.std.proofs.Common.{◌≡◌, ◌⊎◌, ℕ, List, [], inl, inr}
+use Rattle.window.specs.{Runs.AsksFirst, declared.ask.DeviceAsk.DeviceAsk, declared.ask.DeviceRead.DeviceRead}
+use Rattle.window.specs.{declared.call.DeviceCall.DeviceCall}
+use Rattle.window.specs.declared.ask.DeviceAsk.TheVariants as ask
+use Rattle.store_calls.proofs.OutboxTaken.{longest, some_run}
 use Rattle.disk_machine.proofs.machine.DiskMachine.ask_in_order.Goals as goal
 
-pub returns-in-Some-Flush : goal.returns-in-Some-Flush
-returns-in-Some-Flush c = λ free room none. (
-  record {
-    free = free;
-    gone = c.pop.ensures.armed;
-    rest = record { others = c.pop.ensures.others; fits = c.pop.ensures.fits };
-    others = refl;
-  },
-  ap (λ (w : Window). first_of w.outbox) (sym c.medium.ensures.is) ∙ sym c.first.ensures ∙ c.in-Some-Flush.is
-      ∙ ap (λ (call : DeviceCall). Some call) c.in-Some-Flush.field-0-is,
-  refl,
-  none,
-)
+pub returns-in-Write : goal.returns-in-Write
+returns-in-Write c = λ free room none.
+    let copies = rw c.medium.ensures.is at c.in-Write.ensures in
+    let hands = c.hand_out.ensures free in
+    (hands, some_run _ _ _ _ _ copies room, longest _ _ _ _ _ _ copies hands.gone, none)
 
-pub returns-in-None : goal.returns-in-None
-returns-in-None c = λ free room over.
-    let none = ap (λ (w : Window). first_of w.outbox) (sym c.medium.ensures.is) ∙ sym c.first.ensures ∙ c.in-None.is in
-    c.ask_to_read.ensures free (inr (none_first _ none)) c.args.buffer.now
+-- none waits
+none_waits : (waits : List DeviceCall) (room filled : List ℕ) (what : DeviceAsk)
+    → (what ≡ ask.Nothing) ⊎ ((read : DeviceRead) × (what ≡ ask.Read read))
+    → AsksFirst waits room what filled → (waits ≡ []) × (filled ≡ room)
+none_waits waits room filled ask.Nothing is asks = asks
+none_waits waits room filled (ask.Write first count) is asks = absurd (elim is [ inl e ↦ cc | inr e ↦ cc ])
+none_waits waits room filled ask.Flush is asks = absurd (elim is [ inl e ↦ cc | inr e ↦ cc ])
+none_waits waits room filled (ask.Read read) is asks = absurd asks
+
+pub returns-in-Nothing : goal.returns-in-Nothing
+returns-in-Nothing c = λ free room over.
+    let asks = rw c.medium.ensures.is at c.ask-ask.ensures in
+    let none = none_waits _ c.args.buffer.now c.ask-ask.new.to c.ask-ask.result c.in-Nothing.is asks in
+    rw none.1 (c.ask_to_read.ensures free (inr none.0) c.args.buffer.now)

@@ -1,14 +1,15 @@
-use Rattle.std.proofs.Common.{◌≡◌, ◌+◌, ◌<◌, ◌++◌, [], ◌∷◌, ℕ, List, length, take, map, slice_index_or, refl, rules}
-use Rattle.std.proofs.lemmas.List.{take_more, take-map, map-append}
-use Rattle.window.specs.QueueView.{call_of}
-use Rattle.window.specs.declared.outbox.Place.{Place}
+use Rattle.std.proofs.Common.{◌+◌, ◌-◌, ◌*◌, arith, refl}
+use Rattle.window.proofs.InRing.{length_calls, one_call}
 use Rattle.window.proofs.outbox.Outbox.get.Goals as goal
 
-one_more : (places : List Place) (at : ℕ) (place : Place) → at < length places → place ≡ slice_index_or places at place
-    → take (at + 1) (map call_of places) ≡ take at (map call_of places) ++ call_of place ∷ []
-one_more places at place lt is =
-    rw (take-map call_of (at + 1) places, take-map call_of at places, take_more places at place lt, map-append, ← is) refl
+pub returns-then-at-self-clause-none : goal.returns-then-at-self-clause-none
+returns-then-at-self-clause-none c = λ none. rw (← c.self.view_is, length_calls) c.if-at-self.true
 
 pub returns-clause-some : goal.returns-clause-some
 returns-clause-some c =
-    search (rules, one_more, c.get.ensures.variant, c.get.ensures.lookup, c.self.inside.places.ok.0)
+    let at = c.place_of-place.result * 512 in
+    let place = rw c.len.ensures at c.place_of-place.ensures in
+    let block = rw c.deref.ensures.value at c.in-Ok.ensures.1.same in
+    let one = one_call c.self.inside c.args.at c.place_of-place.result at (at + 512 - at) c.index.result.now c.in-Ok.block.now
+    c.if-at-self.false place c.index.ensures (omega arith) (omega arith) block in
+    rw (← c.self.view_is, one) refl

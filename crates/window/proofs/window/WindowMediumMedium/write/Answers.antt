@@ -12,8 +12,8 @@ use Rattle.window.proofs.window.WindowMediumMedium.write.Goals as goal
 pub invariant_of-self : goal.invariant_of-self
 invariant_of-self c = search (rules, given_none)
 
-pub returns-then-len-self : goal.returns-then-len-self
-returns-then-len-self c =
+pub returns-then-len-room : goal.returns-then-len-room
+returns-then-len-room c =
     let call = Write (record { sector = c.args.sector; block = c.args.from.now }) in
     let e = seen_on (λ t. refused t call) _ c.args.self.now _ c.of-self-inside.ensures c.self.view_is in
     let leaves = refused_leaves c.args.self.now _ call e (rw (← c.self.view_is) (omega arith)) in
@@ -39,7 +39,8 @@ pub returns : goal.returns
 returns c =
     let call = Write (record { sector = c.args.sector; block = c.args.from.now }) in
     let stays = c.keep.ensures.pane in
-    let e = given_on call _ c.args.self.now _ c.of-self-inside-2.ensures (ap (λ (q : Queue). q.items) c.push.ensures) refl
+    let room = ap (λ (q : Queue). q.room) c.push.ensures in
+    let e = given_on call _ c.args.self.now _ c.of-self-inside-2.ensures (ap (λ (q : Queue). q.items) c.push.ensures) room
     (ap (λ k. k / 512) c.keep.ensures.length) stays.from stays.held (ap (λ k. k / 512) stays.room) c.self.view_is in
     let leaves = given_leaves c.args.self.now _ call e (rw (← c.self.view_is) c.self.invariant.well_formed.mirror.whole_writes)
     (rw c.told-from refl) in
