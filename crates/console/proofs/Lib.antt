@@ -1,2 +1,3 @@
 pub mod Numerals
 pub mod Statuses
+pub mod Options

@@ -7,7 +7,7 @@ use recovery::StartFault;
 use std::io::ErrorKind;
 
 /// The exit status where a file refuses a call, or has no whole sectors.
-pub fn file_status(fault: FileFault) -> u8
+pub(crate) fn file_status(fault: FileFault) -> u8
     ensures { result ≡ status_of_fault fault }
 {
     match (fault.call, fault.cause) {
@@ -17,7 +17,7 @@ pub fn file_status(fault: FileFault) -> u8
 }
 
 /// The exit status where a start is refused, as that of the same text where a file refuses.
-pub fn start_status(fault: StartFault) -> u8
+pub(crate) fn start_status(fault: StartFault) -> u8
     ensures { result ≡ status_of_start fault }
 {
     match fault {
@@ -30,7 +30,7 @@ pub fn start_status(fault: StartFault) -> u8
 }
 
 /// The cause of a file's refusal in words.
-pub fn file_text(fault: FileFault) -> &'static str {
+pub(crate) fn file_text(fault: FileFault) -> &'static str {
     match (fault.call, fault.cause) {
         (FileCall::Open, ErrorKind::NotFound) => "no such file",
         (FileCall::Open, ErrorKind::AlreadyExists) => "it is there; --replace replaces it",
@@ -43,6 +43,14 @@ pub fn file_text(fault: FileFault) -> &'static str {
         (FileCall::Read, ErrorKind::UnexpectedEof) => "it is too short",
         (_, ErrorKind::StorageFull) => "no space is left",
         (call, _) => call_text(call),
+    }
+}
+
+/// The cause of a refusal of a plain file that is read in words.
+pub(crate) fn plain_text(fault: FileFault) -> &'static str {
+    match (fault.call, fault.cause) {
+        (FileCall::Length, ErrorKind::InvalidData) => "its length is no multiple of 512 bytes",
+        _ => file_text(fault),
     }
 }
 
@@ -60,7 +68,7 @@ fn call_text(call: FileCall) -> &'static str {
 
 /// The fault of an image in words, where a start is refused. A window over its first sectors
 /// refuses no call.
-pub fn start_text(fault: StartFault) -> &'static str {
+pub(crate) fn start_text(fault: StartFault) -> &'static str {
     match fault {
         StartFault::BadSuper => "not an image",
         StartFault::BadVersion => "an image of a later version",
@@ -72,5 +80,14 @@ pub fn start_text(fault: StartFault) -> &'static str {
         StartFault::Read => "it was not read",
         StartFault::Write => "it was not written",
         StartFault::Flush => "it was not synchronised",
+    }
+}
+
+/// The same of an image that was read whole, but for its number.
+pub(crate) fn image_text(fault: StartFault) -> &'static str {
+    match fault {
+        StartFault::NoMemory => "no memory",
+        StartFault::Read | StartFault::Write | StartFault::Flush => "file failed",
+        _ => "image refused",
     }
 }

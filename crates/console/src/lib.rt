@@ -9,14 +9,15 @@ mod migration;
 mod number;
 mod output;
 mod program;
+mod refusal;
 mod streams;
 mod words;
 
-pub use fault::{file_status, file_text, start_status, start_text};
 pub use left::{LockedFile, foresee};
 pub use migration::migration_line;
 pub use number::read_number;
 pub use output::write_out;
 pub use program::{Program, take_program};
+pub use refusal::Refusal;
 pub use streams::{StreamGuard, guard_streams};
 pub use words::{ArgumentFault, arguments, is_file_word, words_of};

@@ -1,15 +1,12 @@
 -- An export, call by call.
 use Rattle.std.proofs.Common.{ℕ, List, [], ◌∷◌, ◌++◌, false, true, sym, ◌∙◌, ap, arith, append_assoc}
-use Rattle.window.specs.declared.call.DeviceCall.{DeviceCall}
-use Rattle.window.specs.declared.call.DeviceCall.TheVariants.{Flush}
+use Rattle.window.specs.{declared.call.DeviceCall.DeviceCall, declared.call.DeviceCall.TheVariants.Flush}
 use Rattle.journal.specs.declared.super_sector.Super.{Super}
 use Rattle.device_file.specs.Asked.{AsksInOrder, Told, asked_for, refused}
-use Rattle.device_file.specs.Copied.{some_writes, moved_calls, IsCopied, IsCopiedInPart, NamesCall}
-use Rattle.device_file.specs.declared.copying.CopyFault.{CopyFault}
-use Rattle.device_file.specs.declared.copying.CopyFault.TheVariants as fault
-use Rattle.device_file.specs.declared.fault.FileFault.{FileFault}
-use Rattle.device_file.proofs.Puts.{answered_twice, in_order_all}
+use Rattle.device_file.specs.{Copied.{some_writes, moved_calls, IsCopied, IsCopiedInPart, NamesCall}, declared.copying.CopyFault.CopyFault}
+use Rattle.device_file.{specs.declared.fault.FileFault.FileFault, proofs.Puts.{answered_twice, in_order_all}}
 use Rattle.images.specs.Exporting.{going_home, HasBlocks, HasSomeBlocks, NamesRead}
+use Rattle.device_file.specs.declared.copying.CopyFault.TheVariants as fault
 
 named_read : (why : CopyFault) → NamesCall why → NamesRead why
 named_read (fault.From why) named = named

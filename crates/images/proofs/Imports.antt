@@ -1,14 +1,9 @@
 -- An import, step by step.
-use Rattle.std.proofs.Common.{◌≡◌, ℕ, List, inr, Result, Ok, Err, OnOk, IfErr}
-use Rattle.std.specs.Prelude.{is_ok}
+use Rattle.std.{proofs.Common.{◌≡◌, ℕ, List, inr, Result, Ok, Err, OnOk, IfErr}, specs.Prelude.is_ok}
 use Rattle.journal.specs.Places.{Shape, first_home}
-use Rattle.device_file.specs.Asked.{Told}
-use Rattle.device_file.specs.Copied.{IsCopied}
-use Rattle.device_file.specs.declared.copying.CopyFault.{CopyFault}
+use Rattle.device_file.specs.{Asked.Told, Copied.IsCopied, declared.copying.CopyFault.CopyFault, declared.fault.FileFault.FileFault}
+use Rattle.images.specs.{Importing.{IsImported, IsNotImported}, NewImage.IsAskedToBe}
 use Rattle.device_file.specs.declared.copying.CopyFault.TheVariants as fault
-use Rattle.device_file.specs.declared.fault.FileFault.{FileFault}
-use Rattle.images.specs.Importing.{IsImported, IsNotImported}
-use Rattle.images.specs.NewImage.{IsAskedToBe}
 
 module _ (holds : ℕ → List ℕ → Type 0) (refuses : ℕ → ℕ → Type 0) (shape : Shape) (old between new : Told) where
   -- all blocks were copied, and then an image was made of the file

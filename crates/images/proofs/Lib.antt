@@ -3,9 +3,7 @@ pub mod NewImages
 pub mod ExportLaw
 pub mod InOrder
 pub mod Lines
-pub mod Options
 pub mod Exports
 pub mod Imports
 pub mod Misses
-pub mod Statuses
 pub mod Bytes

@@ -1,7 +1,6 @@
 -- The lines of records.
 use Rattle.std.proofs.Common.{◌≡◌, ℕ, ◌+◌, List, [], ◌∷◌, ◌++◌, length, take, get_or, ◌<◌, sym, ◌∙◌, ap, append_assoc, append-nil, arith}
-use Rattle.std.proofs.lemmas.List.{take_more, length-take-le}
-use Rattle.std.specs.Prelude.{codes, decimal}
+use Rattle.std.{proofs.lemmas.List.{take_more, length-take-le}, specs.Prelude.{codes, decimal}}
 use Rattle.images.specs.Showing.{number_line, record_lines}
 
 abbrev line : ℕ → ℕ → List ℕ

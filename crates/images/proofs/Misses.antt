@@ -1,28 +1,15 @@
 -- No recovery and no migration in a window over the first sectors of an image misses.
-use Rattle.std.proofs.Common.{◌≡◌, ◌<◌, ◌≤◌, ◌+◌, ◌*◌, ℕ, List, length, min, arith, refl, sym, ap, subst}
-use Rattle.std.specs.Prelude.{Option}
-use Rattle.medium.specs.Medium.{State}
-use Rattle.medium.specs.Sent.{SendsUpTo}
-use Rattle.medium.specs.Writes.{sector_of}
-use Rattle.medium.specs.declared.fault.MediumFault.{MediumFault}
-use Rattle.medium.specs.declared.fault.MediumFault.TheVariants as kind
-use Rattle.journal.specs.Standing.{HasShape}
-use Rattle.journal.specs.Places.{Shape}
-use Rattle.journal.specs.Sectors.{IsSuper}
-use Rattle.journal.specs.Formats.{shape_of}
-use Rattle.journal.specs.declared.super_sector.Super.{Super}
+use Rattle.std.{proofs.Common.{◌≡◌, ◌<◌, ◌≤◌, ◌+◌, ◌*◌, ℕ, List, length, min, arith, refl, sym, ap, subst}, specs.Prelude.Option}
+use Rattle.medium.specs.{Medium.State, Sent.SendsUpTo, Writes.sector_of, declared.fault.MediumFault.MediumFault}
+use Rattle.journal.specs.{Standing.HasShape, Places.Shape, Sectors.IsSuper, Formats.shape_of, declared.super_sector.Super.Super}
 use Rattle.journal.proofs.SectorNumbers.{IsSuper-one}
-use Rattle.recovery.specs.Causes.{IsDeviceFault, IsCause, IsRefusalBy, MakesReadsAlone, WritesNothing, start_fault_of}
-use Rattle.recovery.specs.Causes.{IsLookCause}
-use Rattle.recovery.specs.Calls.{HoldsLog, LooksAtLog}
-use Rattle.recovery.specs.declared.start_fault.StartFault.{StartFault}
-use Rattle.window.specs.Window.{Window, state_of, fresh, ComesAfter, IsServed}
-use Rattle.window.specs.Looks.{near_in_sight, none_refused}
+use Rattle.recovery.specs.Causes.{IsDeviceFault, IsCause, IsRefusalBy, MakesReadsAlone, WritesNothing, start_fault_of, IsLookCause}
+use Rattle.recovery.specs.{Calls.{HoldsLog, LooksAtLog}, declared.start_fault.StartFault.StartFault}
+use Rattle.window.specs.{Window.{Window, state_of, fresh, ComesAfter, IsServed}, Looks.{near_in_sight, none_refused}}
 use Rattle.window.proofs.Kept.{opened_length, opened_front}
-use Rattle.device_file.proofs.Fresh.{served_after}
-use Rattle.device_file.specs.First.{near_of}
-use Rattle.device_file.specs.declared.opening.FirstSectors.{FirstSectors}
+use Rattle.device_file.{proofs.Fresh.served_after, specs.{First.near_of, declared.opening.FirstSectors.FirstSectors}}
 use Rattle.images.specs.Opened.{HaveImage, IsWindowOver}
+use Rattle.medium.specs.declared.fault.MediumFault.TheVariants as kind
 
 module _ (sectors : ℕ) (bytes holds : List ℕ) (room : ℕ) (sizes : Super) (some : 0 < sectors)
     (count : length bytes ≡ 512 * min sizes.home sectors) (spells : IsSuper (shape_of sizes) (sector_of bytes 0))

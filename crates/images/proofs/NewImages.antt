@@ -3,17 +3,11 @@ use Rattle.std.proofs.Common.{◌+◌, ◌≡◌, ◌⊎◌, ℕ, ◌<◌, ◌�
 use Rattle.std.specs.Prelude.{replicate, take, All}
 use Rattle.medium.specs.Medium.{Image, CutLeaves}
 use Rattle.spec.specs.Blocks.{Array}
-use Rattle.window.specs.Device.{Device, put, after}
-use Rattle.window.specs.declared.call.DeviceCall.{DeviceCall}
-use Rattle.window.proofs.OutboxCalls.{after-append}
-use Rattle.journal.specs.Places.{Shape, first_home, sectors_of}
-use Rattle.journal.specs.Sectors.{IsSuper, IsHead}
-use Rattle.journal.specs.Standing.{IsOurs}
-use Rattle.recovery.specs.Calls.{IsNoneOrNew}
-use Rattle.recovery.proofs.JoinedCalls.{zeros_ours}
+use Rattle.window.{specs.{Device.{Device, put, after}, declared.call.DeviceCall.DeviceCall}, proofs.OutboxCalls.after-append}
+use Rattle.journal.specs.{Places.{Shape, first_home, sectors_of}, Sectors.{IsSuper, IsHead}, Standing.IsOurs}
+use Rattle.recovery.{specs.Calls.IsNoneOrNew, proofs.JoinedCalls.zeros_ours}
 use Rattle.device_file.specs.Copied.{some_writes}
-use Rattle.images.specs.CopyLaws.{IsImageOf, MakeImageOf, array_of}
-use Rattle.images.specs.NewImage.{emptied, making, MakeNewImage}
+use Rattle.images.specs.{CopyLaws.{IsImageOf, MakeImageOf, array_of}, NewImage.{emptied, making, MakeNewImage}}
 use Rattle.images.proofs.Written.{put_elsewhere, writes_before, writes_there}
 
 abbrev zeros : List ℕ

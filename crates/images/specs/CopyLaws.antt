@@ -2,19 +2,14 @@
 use Rattle.std.specs.Prelude.{◌≡◌, ◌≤◌, ◌<◌, ℕ, List, ◌++◌, length, take, get_or, replicate, All}
 use Rattle.medium.specs.Medium.{Image, CutLeaves, Only}
 use Rattle.spec.specs.Blocks.{Array}
-use Rattle.window.specs.Device.{Device, after}
-use Rattle.window.specs.declared.call.DeviceCall.{DeviceCall}
-use Rattle.journal.specs.declared.super_sector.Super.{Super}
-use Rattle.journal.specs.Places.{Shape, first_home, sectors_of}
-use Rattle.journal.specs.Sectors.{IsSuper, IsHead}
-use Rattle.journal.specs.Standing.{IsOurs}
+use Rattle.window.specs.{Device.{Device, after}, declared.call.DeviceCall.DeviceCall}
 use Rattle.window.specs.Window.{Window, state_of}
+use Rattle.journal.specs.{declared.super_sector.Super.Super, Places.{Shape, first_home, sectors_of}}
+use Rattle.journal.specs.{Sectors.{IsSuper, IsHead}, Standing.IsOurs}
 use Rattle.recovery.specs.Calls.{IsNoneOrNew}
-use Rattle.device_file.specs.Copied.{some_writes}
-use Rattle.device_file.specs.Reads.{AreReadFrom}
+use Rattle.device_file.specs.{Copied.some_writes, Reads.AreReadFrom}
 use Rattle.device_file.specs.declared.opening.FirstSectors.{FirstSectors}
-use Rattle.images.specs.Exporting.{IsRecoveredIn, exporting}
-use Rattle.images.specs.NewImage.{emptied, making}
+use Rattle.images.specs.{Exporting.{IsRecoveredIn, exporting}, NewImage.{emptied, making}}
 
 -- the first sectors hold the blocks of this array, and a cut leaves what it holds
 pub record HoldsBlocks (blocks : ℕ) (array : Array) (device : Device) : Type 0 where

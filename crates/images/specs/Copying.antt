@@ -1,10 +1,8 @@
 -- Sectors that are copied on the way to an image, or out of one.
 use Rattle.std.specs.Prelude.{◌≡◌, ℕ, List, Result, OnOk, IfErr}
-use Rattle.device_file.specs.Asked.{Told}
-use Rattle.device_file.specs.Copied.{IsCopied, IsCopiedInPart}
-use Rattle.device_file.specs.InRuns.{IsAskedInRuns}
-use Rattle.window.specs.declared.call.DeviceCall.{DeviceCall}
+use Rattle.device_file.specs.{Asked.Told, Copied.{IsCopied, IsCopiedInPart}, InRuns.IsAskedInRuns}
 use Rattle.device_file.specs.declared.copying.CopyFault.{CopyFault}
+use Rattle.window.specs.declared.call.DeviceCall.{DeviceCall}
 
 -- All count sectors were copied, or a file refused a call. The file written is as large as before,
 -- and was asked in runs.

@@ -1,20 +1,15 @@
 -- What the command `export` leaves of the plain file, and of the output.
 use Rattle.std.specs.Prelude.{◌≡◌, ◌⊎◌, ℕ, List, codes, Option, Some, None}
 use Rattle.std.specs.Io.KnownBytes.{Appends, Keeps}
-use Rattle.window.specs.declared.call.DeviceCall.{DeviceCall}
+use Rattle.window.specs.{declared.call.DeviceCall.DeviceCall, Window.Window}
 use Rattle.journal.specs.declared.super_sector.Super.{Super}
-use Rattle.window.specs.Window.{Window}
-use Rattle.device_file.specs.Asked.{Told}
-use Rattle.device_file.specs.FileValue.{FileValue}
-use Rattle.device_file.specs.declared.copying.CopyFault.{CopyFault}
-use Rattle.device_file.specs.declared.copying.CopyFault.TheVariants as fault
+use Rattle.device_file.specs.{Asked.Told, FileValue.FileValue, declared.copying.CopyFault.CopyFault}
 use Rattle.device_file.specs.declared.opening.FirstSectors.{FirstSectors}
-use Rattle.console.specs.Streams.{AppendsSome}
+use Rattle.console.specs.{Streams.AppendsSome, declared.refusal.Refusal.Refusal}
 use Rattle.images.specs.Exporting.{HasBlocks, HasSomeBlocks, IsNotRecoveredIn, IsRecoveredIn}
-use Rattle.images.specs.Opened.{IsTargetUnmade, WithFirst, HasNoFirst}
-use Rattle.images.specs.Texts.{blocks_text}
-use Rattle.images.specs.declared.refusal.Refusal.{Refusal}
-use Rattle.images.specs.declared.refusal.Refusal.TheVariants as refused
+use Rattle.images.specs.{Opened.{IsTargetUnmade, WithFirst, HasNoFirst}, Texts.blocks_text}
+use Rattle.device_file.specs.declared.copying.CopyFault.TheVariants as fault
+use Rattle.console.specs.declared.refusal.Refusal.TheVariants as refused
 
 -- what is told of `blocks` blocks
 abbrev pub exported_text : ℕ → List ℕ

@@ -2,25 +2,21 @@
 use Rattle.std.specs.Prelude.{◌≡◌, ◌⊎◌, ◌≤◌, ℕ, List, [], ◌∷◌, ◌++◌, length, Option, Some, None}
 use Rattle.window.specs.declared.call.DeviceCall.{DeviceCall}
 use Rattle.window.specs.declared.call.DeviceCall.TheVariants.{Flush}
-use Rattle.journal.specs.declared.super_sector.Super.{Super}
 use Rattle.window.specs.Window.{Window, state_of, ComesAfter}
-use Rattle.recovery.specs.Causes.{IsDeviceFault}
-use Rattle.recovery.specs.Calls.{most_start_sends}
+use Rattle.journal.specs.declared.super_sector.Super.{Super}
+use Rattle.recovery.specs.{Causes.IsDeviceFault, Calls.most_start_sends}
 use Rattle.recovery.specs.Recovered.{IsRecoveredFrom, IsRecoveryRefusal}
 use Rattle.recovery.specs.declared.recovered.Recovered.{Recovered}
 use Rattle.recovery.specs.declared.start_fault.StartFault.{StartFault}
-use Rattle.device_file.specs.Asked.{Told, asked_for}
-use Rattle.device_file.specs.Reads.{AreReadFrom}
-use Rattle.device_file.specs.Copied.{some_writes, moved_calls, asked_until}
-use Rattle.device_file.specs.Copied.{MissesNext}
-use Rattle.device_file.specs.InRuns.{IsAskedInRuns}
-use Rattle.device_file.specs.declared.copying.CopyFault.{CopyFault}
-use Rattle.device_file.specs.declared.copying.CopyFault.TheVariants as stopped
-use Rattle.device_file.specs.declared.fault.FileCall.TheVariants as call
+use Rattle.device_file.specs.{Asked.{Told, asked_for}, Reads.AreReadFrom}
+use Rattle.device_file.specs.Copied.{some_writes, moved_calls, asked_until, MissesNext}
+use Rattle.device_file.specs.{InRuns.IsAskedInRuns, declared.copying.CopyFault.CopyFault}
 use Rattle.device_file.specs.declared.opening.FirstSectors.{FirstSectors}
 use Rattle.images.specs.Opened.{IsWindowOver, HaveImage}
-use Rattle.images.specs.declared.refusal.Refusal.{Refusal}
-use Rattle.images.specs.declared.refusal.Refusal.TheVariants as refused
+use Rattle.console.specs.declared.refusal.Refusal.{Refusal}
+use Rattle.device_file.specs.declared.copying.CopyFault.TheVariants as stopped
+use Rattle.device_file.specs.declared.fault.FileCall.TheVariants as call
+use Rattle.console.specs.declared.refusal.Refusal.TheVariants as refused
 
 -- as many writes and flushes as a recovery makes at most; one flush comes before a super is sought
 abbrev pub recovery_room : Option Super → ℕ

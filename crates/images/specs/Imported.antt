@@ -1,19 +1,13 @@
 -- What the command `import` leaves of the image's file, and of the output.
 use Rattle.std.specs.Prelude.{◌≡◌, ◌⊎◌, ℕ, List, codes, Option, Some, None}
 use Rattle.std.specs.Io.KnownBytes.{Appends, Keeps}
-use Rattle.journal.specs.declared.log_format.LogFormat.{LogFormat}
-use Rattle.journal.specs.Places.{new_shape, sectors_of}
-use Rattle.device_file.specs.Asked.{Told}
-use Rattle.device_file.specs.FileValue.{FileValue}
-use Rattle.device_file.specs.declared.copying.CopyFault.{CopyFault}
+use Rattle.journal.specs.{declared.log_format.LogFormat.LogFormat, Places.{new_shape, sectors_of}}
+use Rattle.device_file.specs.{Asked.Told, FileValue.FileValue, declared.copying.CopyFault.CopyFault}
+use Rattle.console.specs.{Streams.AppendsSome, declared.refusal.Refusal.Refusal}
+use Rattle.images.specs.{Importing.{IsImported, IsNotImported}, Limits.AreLimits}
+use Rattle.images.specs.{Opened.IsTargetUnmade, Texts.blocks_text}
 use Rattle.device_file.specs.declared.copying.CopyFault.TheVariants as fault
-use Rattle.console.specs.Streams.{AppendsSome}
-use Rattle.images.specs.Importing.{IsImported, IsNotImported}
-use Rattle.images.specs.Limits.{AreLimits}
-use Rattle.images.specs.Opened.{IsTargetUnmade}
-use Rattle.images.specs.Texts.{blocks_text}
-use Rattle.images.specs.declared.refusal.Refusal.{Refusal}
-use Rattle.images.specs.declared.refusal.Refusal.TheVariants as refused
+use Rattle.console.specs.declared.refusal.Refusal.TheVariants as refused
 
 -- what is told of `blocks` blocks
 abbrev pub imported_text : ℕ → List ℕ

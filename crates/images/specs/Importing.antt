@@ -2,13 +2,11 @@
 use Rattle.std.specs.Prelude.{◌≡◌, ◌⊎◌, ℕ, Bool, List, Result, IfErr, is_ok, true, false}
 use Rattle.window.specs.declared.call.DeviceCall.{DeviceCall}
 use Rattle.journal.specs.Places.{Shape, first_home}
-use Rattle.device_file.specs.Asked.{Told}
-use Rattle.device_file.specs.Copied.{IsCopied, IsCopiedInPart}
-use Rattle.device_file.specs.InRuns.{IsAskedInRuns}
+use Rattle.device_file.specs.{Asked.Told, Copied.{IsCopied, IsCopiedInPart}, InRuns.IsAskedInRuns}
 use Rattle.device_file.specs.declared.copying.CopyFault.{CopyFault}
-use Rattle.device_file.specs.declared.copying.CopyFault.TheVariants as fault
 use Rattle.device_file.specs.declared.fault.FileFault.{FileFault}
 use Rattle.images.specs.NewImage.{IsAskedToBe}
+use Rattle.device_file.specs.declared.copying.CopyFault.TheVariants as fault
 
 -- A file that was just made or emptied was asked to write the blocks at home, as a read of the
 -- plain file gave them, but those of zeros. Only then was it asked to become a new image, and that

@@ -9,7 +9,6 @@ pub mod Importing
 pub mod CopyLaws
 pub mod Exported
 pub mod Imported
-pub mod Status
 pub mod Task
 pub mod Program
 pub mod Copying

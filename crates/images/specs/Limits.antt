@@ -2,8 +2,8 @@
 use Rattle.std.specs.Prelude.{◌≡◌, ◌⊎◌, ◌≤◌, ◌+◌, ◌*◌, ◌/◌, ◌^◌, ℕ, IsTrue, IfSome, option_map}
 use Rattle.std.specs.Int.{is_power_of_two, next_multiple_of}
 use Rattle.journal.specs.Places.{IsFirstHome, Shape, shape_with, slot_sectors_of}
-use Rattle.images.specs.declared.refusal.Refusal.{Refusal}
-use Rattle.images.specs.declared.refusal.Refusal.TheVariants as refused
+use Rattle.console.specs.declared.refusal.Refusal.{Refusal}
+use Rattle.console.specs.declared.refusal.Refusal.TheVariants as refused
 use Rattle.images.specs.declared.task.NewSizes.{NewSizes}
 
 pub record AreLimits (blocks slots : ℕ) : Type 0 where

@@ -12,8 +12,8 @@ use Rattle.device_file.specs.Outbox.{IsCarriedOut}
 use Rattle.device_file.specs.declared.fault.FileFault.{FileFault}
 use Rattle.device_file.specs.declared.opening.FirstSectors.{FirstSectors}
 use Rattle.images.specs.Opened.{IsWindowOver, HaveImage, WithFirst, HasNoFirst}
-use Rattle.images.specs.declared.refusal.Refusal.{Refusal}
-use Rattle.images.specs.declared.refusal.Refusal.TheVariants as refused
+use Rattle.console.specs.declared.refusal.Refusal.{Refusal}
+use Rattle.console.specs.declared.refusal.Refusal.TheVariants as refused
 
 -- as many writes and flushes as a migration makes at most; one flush comes before a super is sought
 abbrev pub migration_room : Option Super → ℕ

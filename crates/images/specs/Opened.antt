@@ -1,25 +1,19 @@
 -- Files that were opened or made, and a window over that of an image.
 use Rattle.std.specs.Prelude.{◌≡◌, ◌⊎◌, ◌*◌, ◌+◌, ◌≤◌, ℕ, List, length, min, Option, Some}
-use Rattle.medium.specs.Writes.{sector_of}
-use Rattle.journal.specs.Sectors.{IsSuper}
-use Rattle.journal.specs.Formats.{shape_of}
-use Rattle.journal.specs.declared.super_sector.Super.{Super}
+use Rattle.medium.specs.{Writes.sector_of, declared.file_call.Access.Access}
+use Rattle.journal.specs.{Sectors.IsSuper, Formats.shape_of, declared.super_sector.Super.Super}
 use Rattle.window.specs.Window.{Window}
-use Rattle.window.specs.Window as window
-use Rattle.medium.specs.declared.file_call.Access.{Access}
-use Rattle.device_file.specs.Asked.{Told, begun}
-use Rattle.device_file.specs.FileValue.{FileValue, made_for}
-use Rattle.device_file.specs.FileValue as file
-use Rattle.device_file.specs.First.{IsUnopened, SpellsSuper, near_of}
-use Rattle.device_file.specs.Reads.{AreRead}
+use Rattle.device_file.specs.{Asked.{Told, begun}, FileValue.{FileValue, made_for}}
+use Rattle.device_file.specs.{First.{IsUnopened, SpellsSuper, near_of}, Reads.AreRead}
 use Rattle.device_file.specs.declared.existing.Existing.{Existing}
 use Rattle.device_file.specs.declared.fault.FileFault.{FileFault}
 use Rattle.device_file.specs.declared.opening.FirstSectors.{FirstSectors}
 use Rattle.device_file.specs.declared.opening.OpenFault.{OpenFault}
-use Rattle.device_file.specs.declared.opening.OpenFault.TheVariants as opening
+use Rattle.console.specs.{Status.refusal_of_open, declared.refusal.Refusal.Refusal}
 use Rattle.images.specs.declared.image.FilePlace.{FilePlace}
-use Rattle.images.specs.declared.refusal.Refusal.{Refusal}
-use Rattle.images.specs.declared.refusal.Refusal.TheVariants as refused
+use Rattle.window.specs.Window as window
+use Rattle.device_file.specs.FileValue as file
+use Rattle.console.specs.declared.refusal.Refusal.TheVariants as refused
 
 -- These are the first sectors of a file of `size` sectors, exactly as its reads gave them: all
 -- before the first home sector that their super tells, and two where they have none; those that the
@@ -37,13 +31,8 @@ pub record WithFirst (holds : ℕ → List ℕ → Type 0) (size : ℕ) (P : Fir
   pub has : HasFirst holds size first
   pub so : P first
 
--- why no first sectors were had
-abbrev pub refusal_of_open : OpenFault → Refusal
-refusal_of_open (opening.File why) = refused.File why
-refusal_of_open opening.NoMemory = refused.NoMemory
-
--- They were not had of a file that refuses these reads and has `size` sectors: it has none, it
--- refused a read of first ones, or there was no memory.
+-- No first sectors were had of a file that refuses these reads and has `size` sectors: it has none,
+-- it refused a read of first ones, or there was no memory.
 abbrev pub HasNoFirst : (ℕ → ℕ → Type 0) → ℕ → Refusal → Type 0
 HasNoFirst refuses size refusal =
     (why : OpenFault) × IsUnopened refuses size why × (refusal ≡ refusal_of_open why)

@@ -1,30 +1,23 @@
 -- What the program's commands do.
-use Rattle.std.specs.Prelude.{◌≡◌, ◌⊎◌, ℕ, Bool, true, false, List, ◌++◌, codes}
-use Rattle.std.specs.Prelude.{Option, Some, None}
+use Rattle.std.specs.Prelude.{◌≡◌, ◌⊎◌, ℕ, Bool, true, false, List, ◌++◌, codes, Option, Some, None}
 use Rattle.std.specs.Io.KnownBytes.{Appends, Keeps}
-use Rattle.journal.specs.declared.log_format.LogFormat.{LogFormat}
-use Rattle.journal.specs.Places.{Shape, sectors_of}
+use Rattle.journal.specs.{declared.log_format.LogFormat.LogFormat, Places.{Shape, sectors_of}}
 use Rattle.medium.specs.declared.file_call.Access.TheVariants.{Look, Change}
-use Rattle.device_file.specs.Asked.{Told, begun}
-use Rattle.device_file.specs.FileValue.{FileValue, GivesBlock}
+use Rattle.device_file.specs.{Asked.{Told, begun}, FileValue.{FileValue, GivesBlock}}
 use Rattle.device_file.specs.declared.fault.FileFault.{FileFault}
-use Rattle.console.specs.Streams.{AppendsSome}
-use Rattle.console.specs.Texts.{ended, migration_text}
-use Rattle.console.specs.declared.words.ArgumentFault.{ArgumentFault}
-use Rattle.console.specs.declared.words.ArgumentFault.TheVariants as argument
-use Rattle.images.specs.NewImage.{IsAskedToBe}
-use Rattle.images.specs.Limits.{IsSizesRefusal, MayHave, shape_wanted}
+use Rattle.console.specs.{Streams.AppendsSome, Texts.{ended, migration_text}}
+use Rattle.console.specs.{declared.words.ArgumentFault.ArgumentFault, Status.refusal_of_argument}
+use Rattle.console.specs.declared.refusal.Refusal.{Refusal}
+use Rattle.images.specs.{NewImage.IsAskedToBe, Limits.{IsSizesRefusal, MayHave, shape_wanted}}
 use Rattle.images.specs.Opened.{IsOpened, IsPlainUnopened, IsUnmade, made_at}
 use Rattle.images.specs.Showing.{IsShownOf, IsNotShownOf}
 use Rattle.images.specs.Migrating.{IsMigratedOf, IsNotMigratedOf}
-use Rattle.images.specs.Status.{refusal_of_argument}
 use Rattle.images.specs.Exported.{IsExportedOf, IsNotExportedOf}
-use Rattle.images.specs.Imported.{IsImage, IsImportUnbegun, IsNoImage}
-use Rattle.images.specs.Task.{Wanted, Asks}
+use Rattle.images.specs.{Imported.{IsImage, IsImportUnbegun, IsNoImage}, Task.{Wanted, Asks}}
 use Rattle.images.specs.Task.Wanted.{Help, Version, Show, Migrate, Make, Import, Export}
 use Rattle.images.specs.declared.task.NewSizes.{NewSizes}
-use Rattle.images.specs.declared.refusal.Refusal.{Refusal}
-use Rattle.images.specs.declared.refusal.Refusal.TheVariants as refused
+use Rattle.console.specs.declared.words.ArgumentFault.TheVariants as argument
+use Rattle.console.specs.declared.refusal.Refusal.TheVariants as refused
 
 abbrev pub help_text : List ℕ
 help_text = ended (codes "usbdisk_image make IMAGE --blocks N --slots K --format 1|2"
@@ -34,7 +27,7 @@ help_text = ended (codes "usbdisk_image make IMAGE --blocks N --slots K --format
     ++ ended (codes "usbdisk_image export IMAGE RAW [--replace]")
 
 abbrev pub version_text : List ℕ
-version_text = ended (codes "usbdisk_image 1.10")
+version_text = ended (codes "usbdisk_image 1.11")
 
 abbrev pub made_text : List ℕ
 made_text = ended (codes "made")

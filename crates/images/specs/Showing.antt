@@ -1,17 +1,15 @@
 -- What is told of an image.
 use Rattle.std.specs.Prelude.{◌≡◌, ◌⊎◌, ℕ, ◌+◌, List, [], ◌∷◌, ◌++◌, codes, decimal, Option}
 use Rattle.std.specs.Io.KnownBytes.{Appends, Keeps}
-use Rattle.journal.specs.Sectors.{version_of}
-use Rattle.journal.specs.declared.super_sector.Super.{Super}
+use Rattle.journal.specs.{Sectors.version_of, declared.super_sector.Super.Super}
 use Rattle.window.specs.Window.{Window, state_of, ComesAfter}
 use Rattle.recovery.specs.Causes.{IsDeviceFault, IsInspected, IsLookRefusal}
 use Rattle.recovery.specs.declared.inspection.Inspection.{Inspection}
 use Rattle.recovery.specs.declared.start_fault.StartFault.{StartFault}
 use Rattle.device_file.specs.declared.opening.FirstSectors.{FirstSectors}
-use Rattle.console.specs.Streams.{AppendsSome}
+use Rattle.console.specs.{Streams.AppendsSome, declared.refusal.Refusal.Refusal}
 use Rattle.images.specs.Opened.{IsWindowOver, HaveImage, WithFirst, HasNoFirst}
-use Rattle.images.specs.declared.refusal.Refusal.{Refusal}
-use Rattle.images.specs.declared.refusal.Refusal.TheVariants as refused
+use Rattle.console.specs.declared.refusal.Refusal.TheVariants as refused
 
 -- a word with a space behind it, a number and a line feed
 abbrev pub number_line : List ℕ → ℕ → List ℕ

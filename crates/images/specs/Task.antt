@@ -1,16 +1,13 @@
 -- The words of a command line.
-use Rattle.std.specs.Prelude.{◌≡◌, ◌⊎◌, ◌*◌, ◌++◌, ℕ, List, [], ◌∷◌, codes}
-use Rattle.std.specs.Prelude.{Option, Some, None}
+use Rattle.std.specs.Prelude.{◌≡◌, ◌⊎◌, ◌*◌, ◌++◌, ℕ, List, [], ◌∷◌, codes, Option, Some, None}
 use Rattle.journal.specs.declared.log_format.LogFormat.{LogFormat}
 use Rattle.journal.specs.declared.log_format.LogFormat.TheVariants.{One, Two}
 use Rattle.device_file.specs.declared.existing.Existing.{Existing}
 use Rattle.device_file.specs.declared.existing.Existing.TheVariants.{Keep, Replace}
-use Rattle.console.specs.Numbers.{SpellsNumber}
-use Rattle.console.specs.Words.{IsFileWord}
-use Rattle.images.specs.declared.task.ImageTask.{ImageTask}
-use Rattle.images.specs.declared.task.ImageTask.TheVariants as one
-use Rattle.images.specs.declared.task.NewSizes.{NewSizes}
+use Rattle.console.specs.{Numbers.SpellsNumber, Words.IsFileWord}
+use Rattle.images.specs.{declared.task.ImageTask.ImageTask, declared.task.NewSizes.NewSizes}
 use Rattle.images.specs.declared.task.Task.{Task}
+use Rattle.images.specs.declared.task.ImageTask.TheVariants as one
 use Rattle.images.specs.declared.task.Task.TheVariants as task
 
 -- what a command line asks for

@@ -5,9 +5,8 @@ ghost use Rattle.console.specs.Streams.{AppendsSome};
 ghost use Rattle.images.specs.Texts.{blocks_text};
 
 use crate::ended::Stopped;
-use crate::refusal::Refusal;
 use crate::text::blocks_line;
-use console::{LockedFile, write_out};
+use console::{LockedFile, Refusal, write_out};
 use device_file::CopyBuffer;
 use std::alloc::{AllocError, Global};
 use std::io::Write;
@@ -42,7 +41,7 @@ fn room_for(alloc: Global, done: &[u8], blocks: u64) -> Result<CopyRoom, AllocEr
 }
 
 /// Tells what was done, and gives the file that was made for it back.
-pub(crate) fn tell_of<O: Write>(
+pub(crate) fn say_done<O: Write>(
     file: LockedFile,
     out: &mut O,
     room: &CopyRoom,

@@ -1,6 +1,5 @@
 //! How a command ended, and what it has left of its files.
-use crate::refusal::Refusal;
-use console::LockedFile;
+use console::{LockedFile, Refusal};
 
 /// A file that was opened or made, where there is one.
 pub(crate) type LeftFile = Option<LockedFile>;

@@ -25,13 +25,12 @@ ghost use Rattle.images.specs.NewImage.{GoesThrough};
 ghost use Rattle.images.specs.Opened.{HasNoFirst, WithFirst, made_in};
 ghost use Rattle.images.specs.Program.{IsExport, IsExportRefused};
 
-use crate::copying::{CopyRoom, copy_room, tell_of};
+use crate::copying::{CopyRoom, copy_room, say_done};
 use crate::ended::{LeftFiles, Refused, Stopped};
 use crate::gauge::Gauge;
 use crate::image::{FilePlace, new_target};
 use crate::opening::{first_of, open_file, window_over};
-use crate::refusal::Refusal;
-use console::LockedFile;
+use console::{LockedFile, Refusal};
 use device_file::{
     CopyBuffer, CopyFault, CopyRange, DeviceFile, FileCall, FileFault, FirstSectors, Meter, Run,
     carry_moved, copy_sectors,
@@ -176,7 +175,7 @@ fn make_copy<R: Files<File = File>, S: DeviceFile, O: Write, E: Write + IsTermin
 {
     let mut plain = new_target(raw, ready.image.sizes.blocks)?;
     match export_watched(image, ready, &mut plain, err) {
-        Ok(()) => tell_of(plain, out, &ready.room),
+        Ok(()) => say_done(plain, out, &ready.room),
         Err(fault) => Err(Stopped::with(refusal_of(fault), plain)),
     }
 }

@@ -40,7 +40,7 @@ impl<'a, E: Write + IsTerminal> Gauge<'a, E> {
 }
 
 impl<'a, E: Write> Meter for Gauge<'a, E> {
-    fn tell(&mut self, done: u64, all: u64) {
+    fn progress(&mut self, done: u64, all: u64) {
         let steps = done / STEP;
         if steps > self.steps {
             self.steps = steps;

@@ -7,11 +7,10 @@ ghost use Rattle.device_file.specs.FileValue.{IsMade};
 ghost use Rattle.device_file.specs.declared.fault.FileFault.{FileFault};
 ghost use Rattle.images.specs.Limits.{AreLimits, IsPage, IsSizesRefusal, MayHave, shape_wanted};
 ghost use Rattle.images.specs.Opened.{IsTargetUnmade, IsUnmade};
-ghost use Rattle.images.specs.declared.refusal.Refusal.TheVariants as refused;
+ghost use Rattle.console.specs.declared.refusal.Refusal.TheVariants as refused;
 
-use crate::refusal::Refusal;
 use crate::task::NewSizes;
-use console::{LockedFile, guard_streams};
+use console::{LockedFile, Refusal, guard_streams};
 use device_file::Existing;
 use journal::{LogFormat, Super};
 use std::fs::{File, Files};

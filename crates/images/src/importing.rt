@@ -9,15 +9,14 @@ ghost use Rattle.images.specs.Importing.{ImportsInRuns, IsImported, IsNotImporte
 ghost use Rattle.images.specs.Opened.{IsTargetUnmade, made_at};
 ghost use Rattle.images.specs.Program.{IsImport, IsImportRefused};
 
-use crate::copying::{CopyRoom, copy_room, tell_of};
+use crate::copying::{CopyRoom, copy_room, say_done};
 use crate::ended::{LeftFile, LeftFiles, Refused, Stopped};
 use crate::gauge::Gauge;
 use crate::image::{FilePlace, new_target, sizes_of};
 use crate::making::ask_to_be;
 use crate::opening::open_plain;
-use crate::refusal::Refusal;
 use crate::task::ImageOptions;
-use console::LockedFile;
+use console::{LockedFile, Refusal};
 use device_file::{CopyBuffer, CopyFault, CopyRange, DeviceFile, Meter, Run, copy_sectors};
 use journal::Super;
 use std::fs::{File, Files};
@@ -104,7 +103,7 @@ fn import_from<R: Files<File = File>, S: DeviceFile, O: Write, E: Write + IsTerm
     };
     let mut file = new_image(image, &sizes)?;
     match import_watched(plain, &sizes, &mut file, room, err) {
-        Ok(()) => tell_of(file, out, room),
+        Ok(()) => say_done(file, out, room),
         Err(fault) => Err(Stopped::with(refusal_of(fault), file)),
     }
 }

@@ -8,12 +8,10 @@ ghost use Rattle.images.specs.Opened.{
   IsPlainUnopened,
   IsUnmade,
   IsWindowOver,
-  refusal_of_open,
 };
 
-use crate::refusal::Refusal;
-use console::{LockedFile, guard_streams};
-use device_file::{DeviceFile, FileCall, FileFault, FirstSectors, OpenFault};
+use console::{LockedFile, Refusal, guard_streams};
+use device_file::{DeviceFile, FileCall, FileFault, FirstSectors};
 use medium::Access;
 use std::alloc::Global;
 use std::fs;
@@ -28,7 +26,7 @@ pub(crate) fn first_of<D: DeviceFile>(alloc: Global, file: &D) -> Result<FirstSe
 {
     match FirstSectors::read(alloc, file) {
         Ok(first) => Ok(first),
-        Err(fault) => Err(refusal_of(fault)),
+        Err(fault) => Err(Refusal::from(fault)),
     }
 }
 
@@ -77,16 +75,6 @@ fn open_to_read<R: Files<File = File>>(rt: &R, path: &str) -> Result<LockedFile,
             cause: ErrorKind::InvalidInput,
         }),
         _ => device_file::open(rt, path, Access::Look),
-    }
-}
-
-// Why no first sectors were had.
-fn refusal_of(why: OpenFault) -> Refusal
-    ensures { result ≡ refusal_of_open why }
-{
-    match why {
-        OpenFault::File(fault) => Refusal::File(fault),
-        OpenFault::NoMemory => Refusal::NoMemory,
     }
 }
 

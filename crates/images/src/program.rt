@@ -1,8 +1,7 @@
 //! From the words of a command to its exit status.
-ghost use Rattle.std.specs.Prelude.{◌≡◌, ◌≢◌, ◌≤◌, None, IfOk, IfErr, MatchResult};
+ghost use Rattle.std.specs.Prelude.{◌≡◌, ◌≤◌, None, IfOk, IfErr, MatchResult};
 ghost use Rattle.std.specs.Prelude.{drop, map, string_bytes};
-ghost use Rattle.images.specs.declared.refusal.Refusal.{Refusal};
-ghost use Rattle.images.specs.Status.{status_of};
+ghost use Rattle.console.specs.Status.{EndsFor, status_of};
 ghost use Rattle.images.specs.Program.{
   HasDone,
   HasNoWords,
@@ -31,10 +30,9 @@ use crate::image::{FilePlace, new_file, super_of};
 use crate::importing::{NewImage, import};
 use crate::making::ask_to_be;
 use crate::migrating::migrate;
-use crate::refusal::Refusal;
 use crate::showing::show;
 use crate::task::{ImageTask, NewSizes, Task, read_words};
-use console::{ArgumentFault, foresee, words_of, write_out};
+use console::{ArgumentFault, Refusal, foresee, words_of, write_out};
 use device_file::Run;
 use journal::Super;
 use std::fs::{File, Files};
@@ -47,7 +45,7 @@ usbdisk_image show IMAGE\nusbdisk_image migrate IMAGE\n\
 usbdisk_image import RAW IMAGE --slots K --format 1|2 [--replace]\n\
 usbdisk_image export IMAGE RAW [--replace]\n";
 
-const VERSION: &[u8] = b"usbdisk_image 1.10\n";
+const VERSION: &[u8] = b"usbdisk_image 1.11\n";
 
 /// Does what the words after the program's name ask for, and gives the exit status.
 ///
@@ -70,10 +68,8 @@ pub fn command<R: Files<File = File> + AllocGlobal, O: Write, E: Write + IsTermi
     ensures statuses { result.status ≤ 5 }
     ensures done { result.status ≡ 0 → IsObeyed device.now.bytes (O.contents out.old)
         (O.contents out.new) result.file result.raw (map (λ word. word.now) words.now) }
-    ensures refused { result.status ≢ 0
-        → (refusal : Refusal) × (result.status ≡ status_of refusal)
-        × IsRefusedFor device.now.bytes (O.contents out.old) (O.contents out.new) result.file
-        result.raw (map (λ word. word.now) words.now) refusal }
+    ensures refused { EndsFor result.status (IsRefusedFor device.now.bytes (O.contents out.old)
+        (O.contents out.new) result.file result.raw (map (λ word. word.now) words.now)) }
     ensures calls { AreCalls result.file × AreCalls result.raw }
 {
     match dispatch(rt, words, device, out, err) {
@@ -269,21 +265,13 @@ fn refuse<E: Write>(refused: Refused, words: &[&str], err: &mut E) -> Ended
     } }
     ensures calls { AreCalls refused.files.file × AreCalls refused.files.raw }
 {
-    let text = refused.refusal.text();
-    let _ = match name_of(refused.refusal, words) {
-        Some(name) => writeln!(err, "{name}: {text}"),
-        None => writeln!(err, "{text}"),
+    // A refusal names the second file behind the command's name, or the first.
+    let name = match refused.refusal {
+        Refusal::Target(_) => words.get(2),
+        _ => words.get(1),
     };
+    refused.refusal.report(name.copied(), err);
     end(refused.refusal.status(), refused.files)
-}
-
-// The file of a command that its refusal names: the second behind the command's name, or the first.
-fn name_of<'a>(refusal: Refusal, words: &[&'a str]) -> Option<&'a str> {
-    match refusal {
-        Refusal::Words => None,
-        Refusal::Target(_) => words.get(2).copied(),
-        _ => words.get(1).copied(),
-    }
 }
 
 /// Does what the program's arguments ask for, and gives the exit status. Where they are not had, it
@@ -300,12 +288,10 @@ pub fn run_program<R: Files<File = File> + AllocGlobal, O: Write, E: Write + IsT
     ensures done { result.status ≡ 0 → MatchResult args (λ all. IsObeyed device.now.bytes
         (O.contents out.old) (O.contents out.new) result.file result.raw
         (drop 1 (map string_bytes all.items))) (λ fault. ⊥) }
-    ensures refused { result.status ≢ 0
-        → (refusal : Refusal) × (result.status ≡ status_of refusal)
-        × MatchResult args (λ all. IsProgramRefused device.now.bytes (O.contents out.old)
-        (O.contents out.new) result.file result.raw (drop 1 (map string_bytes all.items)) refusal)
-        (λ fault. HasNoWords device.now.bytes (O.contents out.old) (O.contents out.new) result.file
-        result.raw fault refusal) }
+    ensures refused { EndsFor result.status (λ refusal. MatchResult args (λ all. IsProgramRefused
+        device.now.bytes (O.contents out.old) (O.contents out.new) result.file result.raw
+        (drop 1 (map string_bytes all.items)) refusal) (λ fault. HasNoWords device.now.bytes
+        (O.contents out.old) (O.contents out.new) result.file result.raw fault refusal)) }
     ensures calls { AreCalls result.file × AreCalls result.raw }
 {
     let args = match args {

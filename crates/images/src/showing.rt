@@ -5,9 +5,8 @@ ghost use Rattle.images.specs.Showing.{IsShown, IsNotShown, IsShownOf, IsNotShow
 
 use crate::ended::{LeftFile, Stopped};
 use crate::opening::{first_of, open_file, window_over};
-use crate::refusal::Refusal;
 use crate::text::text_of;
-use console::write_out;
+use console::{Refusal, write_out};
 use device_file::{DeviceFile, FirstSectors};
 use medium::Access;
 use recovery::inspect;

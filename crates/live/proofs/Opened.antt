@@ -1,14 +1,11 @@
 -- A window over the first sectors of a file is ready for a start.
-use Rattle.std.proofs.Common.{◌≡◌, ◌<◌, ◌≤◌, ◌+◌, ◌*◌, ℕ, true, List, length, min, inl, inr, arith, refl, sym, ap, subst}
-use Rattle.std.specs.Prelude.{Option, Some, None, nat_le}
-use Rattle.std.proofs.lemmas.Bool.{cases_Bool, leb-true, leb-false}
+use Rattle.std.proofs.Common.{◌≡◌, ◌<◌, ◌≤◌, ◌+◌, ◌*◌, ℕ, List, length, min, inl, inr, arith, refl, sym, ap, subst}
+use Rattle.std.{proofs.lemmas.Bool.{cases_Bool, leb-true, leb-false}, specs.Prelude.{Option, Some, None, nat_le}}
 use Rattle.medium.specs.Writes.{sector_of}
-use Rattle.journal.specs.{Places.Shape, Sectors.IsSuper, Formats.shape_of, declared.super_sector.Super.Super}
+use Rattle.journal.specs.{Places.Shape, Sectors.IsSuper, Standing.HasShape, Formats.shape_of, declared.super_sector.Super.Super}
 use Rattle.journal.proofs.SectorNumbers.{IsSuper-one}
-use Rattle.window.specs.Window.{Window, state_of, fresh}
-use Rattle.window.proofs.Kept.{opened_length, opened_front}
-use Rattle.device_file.proofs.Fresh.{covers_fresh}
-use Rattle.device_file.specs.First.{SpellsSuper, near_of}
+use Rattle.window.{specs.Window.{Window, state_of, fresh}, proofs.Kept.{opened_length, opened_front}}
+use Rattle.device_file.{proofs.Fresh.covers_fresh, specs.First.{SpellsSuper, near_of}}
 use Rattle.live.specs.{Ready.{IsReadyToStart, HasRoomToStart}, Starting.{IsWindowOf, room_for}}
 
 module _ (sectors : ℕ) (bytes device : List ℕ) (some : 0 < sectors) where
@@ -21,10 +18,15 @@ module _ (sectors : ℕ) (bytes device : List ℕ) (some : 0 < sectors) where
   at_0 : (room near : ℕ) → 0 < near → length bytes ≡ 512 * min near sectors → (state_of (over room)).content 0 ≡ sector_of bytes 0
   at_0 room near first count = sym (opened_front sectors bytes device 0 (omega (arith, some, first, count)))
 
-  within : (home blocks room : ℕ) → length bytes ≡ 512 * min home sectors → nat_le (home + blocks) sectors ≡ true
-      → home + blocks ≤ (state_of (over room)).size
-  within home blocks room count fits =
-      let few : home + blocks ≤ sectors = leb-true (home + blocks) sectors fits in omega (arith, few, size_is room home count)
+  -- the image of such a medium is the one that its first sector tells
+  image_is : (sizes : Super) (room : ℕ) (shape : Shape) → IsSuper (shape_of sizes) (sector_of bytes 0)
+      → length bytes ≡ 512 * min sizes.home sectors → HasShape (state_of (over room)).size shape (state_of (over room)).content
+      → (shape.home ≡ sizes.home) × (sizes.home + sizes.blocks ≤ sectors)
+  image_is sizes room shape is count has =
+      let zero = at_0 room sizes.home (omega (arith, is.home_is.0)) count in
+      let same = IsSuper-one shape (shape_of sizes) (sector_of bytes 0) (subst (IsSuper shape) zero has.super) is in
+      let home = ap (λ (s : Shape). s.home) same in
+      (home, omega (arith, has.fits, size_is room sizes.home count, home, ap (λ (s : Shape). s.blocks) same))
 
   -- with a super, whose image may be longer than the file
   room_of_image : (sizes : Super) → IsSuper (shape_of sizes) (sector_of bytes 0) → length bytes ≡ 512 * min sizes.home sectors
@@ -34,22 +36,12 @@ module _ (sectors : ℕ) (bytes device : List ℕ) (some : 0 < sectors) where
       let room = room_for sectors (Some sizes) in
       let zero = at_0 room sizes.home (omega (arith, is.home_is.0)) count in
       elim (cases_Bool (nat_le (sizes.home + sizes.blocks) sectors)) [
-        | inl fits ↦ inl (
-          shape_of sizes,
-          record { super = rw zero is; fits = within sizes.home sizes.blocks room count fits },
-          rw fits (omega arith),
-        )
+        | inl fits ↦ (
+            let few : sizes.home + sizes.blocks ≤ sectors = leb-true (sizes.home + sizes.blocks) sectors fits in
+            let stands : sizes.home + sizes.blocks ≤ (state_of (over room)).size = omega (arith, few, size_is room sizes.home count) in
+            inl (shape_of sizes, record { super = rw zero is; fits = stands }, rw fits (omega arith)))
         | inr not ↦ inr (
-          λ shape has.
-              let same = IsSuper-one shape (shape_of sizes) (sector_of bytes 0) (rw zero at has.super) is in
-              absurd (omega (
-                arith,
-                leb-false _ _ not,
-                has.fits,
-                size_is room sizes.home count,
-                ap (λ (s : Shape). s.home) same,
-                ap (λ (s : Shape). s.blocks) same,
-              )),
+          λ shape has. absurd (omega (arith, leb-false _ _ not, (image_is sizes room shape is count has).1)),
           rw not (omega arith),
         )
       ]
@@ -57,21 +49,11 @@ module _ (sectors : ℕ) (bytes device : List ℕ) (some : 0 < sectors) where
   ready : (sizes : Option Super) → SpellsSuper sizes (sector_of bytes 0) → length bytes ≡ 512 * min (near_of sizes) sectors
       → IsReadyToStart (over (room_for sectors sizes))
   ready (Some sizes) spells count =
-      let room = room_for sectors (Some sizes) in
-      let zero = at_0 room sizes.home (omega (arith, spells.home_is.0)) count in record {
+      let room = room_for sectors (Some sizes) in record {
         empty = refl;
         log = record {
           some = omega (arith, some, spells.home_is.0, count);
-          log = λ shape has.
-              let same = IsSuper-one shape (shape_of sizes) (sector_of bytes 0) (subst (IsSuper shape) zero has.super) spells in
-              omega (
-                arith,
-                count,
-                has.fits,
-                size_is room sizes.home count,
-                ap (λ (s : Shape). s.home) same,
-                ap (λ (s : Shape). s.blocks) same,
-              );
+          log = λ shape has. let is = image_is sizes room shape spells count has in omega (arith, count, is.0, is.1);
         };
         room = room_of_image sizes spells count;
         span = omega arith;

@@ -1,25 +1,20 @@
 -- A disk over a file that was ready is ready again, and what an event reads is in sight.
 use Rattle.std.proofs.Common.{◌≡◌, ◌⊎◌, ◌≤◌, ◌+◌, ◌/◌, ℕ, true, List, length, inl, inr, arith, refl, sym, ◌∙◌, ap, subst}
-use Rattle.std.specs.Prelude.{Option, Some, None}
-use Rattle.std.proofs.lemmas.Bool.{cases_Bool, cases_lt}
+use Rattle.std.{proofs.lemmas.Bool.{cases_Bool, cases_lt}, specs.Prelude.{Option, Some, None}}
 use Rattle.medium.specs.Sent.{sent}
-use Rattle.journal.specs.{Places.Shape, Standing.HasShape}
-use Rattle.journal.proofs.SectorNumbers.{IsSuper-one}
-use Rattle.window.specs.Story as story
-use Rattle.spec.specs.{declared.case.Case.Case, declared.case.Case.TheVariants.{C5, C6}, declared.wrapper.Cbw.Cbw}
-use Rattle.spec.specs.{declared.event.Event.Event, declared.event.Answer.Answer}
-use Rattle.bot_machine.proofs.Wrappers.{one_wrapper}
+use Rattle.journal.{specs.{Places.Shape, Standing.HasShape}, proofs.SectorNumbers.IsSuper-one}
+use Rattle.spec.specs.declared.{case.Case.{Case, TheVariants.{C5, C6}}, wrapper.Cbw.Cbw, event.{Event.Event, Answer.Answer}}
+use Rattle.bot_machine.{proofs.Wrappers.one_wrapper, specs.{Device.Device, Disk.{IsStep, IsRearmed}, Opening.IsOpened, Reading.ReadsHome}}
+use Rattle.bot_machine.specs.Reading.{ReadsAt, sectors_in, sectors_for}
 use Rattle.window.specs.{Window.{Window, state_of, is_in_sight, ComesAfter, IsServed}, Looks.{near_in_sight, shown_in_sight, none_refused}}
 use Rattle.window.specs.{Looks.none_kept_out, Sight.AreMissing, declared.call.DeviceCall.DeviceCall}
 use Rattle.scsi_unit.specs.{Reading.ReadsBack, declared.reading.HomeSectors.HomeSectors}
-use Rattle.bot_machine.specs.{Device.Device, Disk.{IsStep, IsRearmed}, Opening.IsOpened, Reading.{ReadsHome, ReadsAt, sectors_in}}
-use Rattle.bot_machine.specs.{Reading.sectors_for}
-use Rattle.spec.specs.declared.event.Event.TheVariants as event
 use Rattle.device_file.specs.{Asked.Told, declared.fault.FileFault.FileFault}
-use Rattle.live.specs.{FileWindows.{Carries, is_well}, Missing.{DiskOn, medium_of, window_of, Wants, WantsNone}}
-use Rattle.live.specs.{Playing.{SeesRead, Prepares, PlaysReady, Plays, MissesNothing}, Ready.{room_of, RefusesNone, KeepsAll}}
-use Rattle.live.specs.{Ready.{IsReadyToStart, HasRoomToStart, layout_on, IsReady, SeesHome}}
-use Rattle.live.proofs.Rooms.{enough}
+use Rattle.live.specs.{Ready.{room_of, RefusesNone, KeepsAll, IsReadyToStart, HasRoomToStart, layout_on, IsReady, SeesHome}, Missing.DiskOn}
+use Rattle.live.specs.{Missing.{medium_of, window_of, Wants, WantsNone}, Playing.{SeesRead, Prepares, PlaysReady, Plays, MissesNothing}}
+use Rattle.live.{specs.{FileWindows.{Carries, is_well}, Starting.Starts, declared.file.FileWindow.FileWindow}, proofs.Rooms.enough}
+use Rattle.window.specs.Story as story
+use Rattle.spec.specs.declared.event.Event.TheVariants as event
 
 well_none : (why : Option FileFault) → is_well why ≡ true → why ≡ None
 well_none None good = refl
@@ -87,12 +82,10 @@ module _ {D : Type 0} where
       }
 
   -- a disk that started, and whose file carried out all
-  pub ready_started : (told : D → Told) {at_once : D → List DeviceCall → D → Type 0} (first : Window) (started new : DiskOn D)
-      (device : Device) → IsReadyToStart first → IsOpened (state_of first) (state_of (window_of started)) device started
-      → ComesAfter first (window_of started) → Carries told at_once (medium_of started) (medium_of new) → IsRearmed started new
-      → (medium_of new).fault ≡ None → IsReady new
-  ready_started told first started new device ready opened follows carries others well =
-      ready_carried told started new (fit_started first started device ready opened follows) carries others well
+  pub ready_started : {told : D → Told} {at_once : D → List DeviceCall → D → Type 0} {most : ℕ} {medium : FileWindow D} {new : DiskOn D}
+      → Starts told at_once most medium new → IsReadyToStart medium.window → (medium_of new).fault ≡ None → IsReady new
+  ready_started {told} {medium} {new} s ready well =
+      ready_carried told s.started new (fit_started medium.window s.started _ ready s.opens s.follows.follows) s.carried s.others well
 
   -- so behind an event
   pub ready_again : (told : D → Told) {at_once : D → List DeviceCall → D → Type 0} (old played new : DiskOn D)
@@ -210,23 +203,19 @@ module _ {D : Type 0} where
     ready_prepared old (event.Out packet) new (inr (first, count, wants, inr misses)) ready = rw misses.1 ready
     ready_prepared old _ new same ready = rw same ready
 
-    module _ (old : DiskOn D) (event : Event) (answer : Answer) (ready new : DiskOn D)
-        (plays : PlaysReady told at_once holds refuses ready event answer new) (was : IsReady ready) where
-      sees_all : SeesHome ready event → MissesNothing told at_once holds refuses old event ready plays.played
-      sees_all home = record { kept = plays.kept was; seen = inl (plays.served was home) }
-
     misses_nothing : (old : DiskOn D) (event : Event) (answer : Answer) (ready new : DiskOn D)
         → Prepares told at_once holds refuses old event ready
         → (plays : PlaysReady told at_once holds refuses ready event answer new) → IsReady old
         → MissesNothing told at_once holds refuses old event ready plays.played
     misses_nothing old (event.Out packet) answer ready new (inl (none, same)) plays was =
-        sees_all old (event.Out packet) answer ready new plays (rw same was) (rw same none)
+        record { kept = plays.kept (rw same was); seen = inl (plays.served (rw same was) (rw same none)) }
     misses_nothing old (event.Out packet) answer ready new (inr (first, count, wants, inl sees)) plays was =
-        sees_all old (event.Out packet) answer ready new plays (ready_shown old ready first count sees was)
-        (shown_sees old ready packet.items first count was wants sees)
+        let again = ready_shown old ready first count sees was in
+        record { kept = plays.kept again; seen = inl (plays.served again (shown_sees old ready packet.items first count was wants sees)) }
     misses_nothing old (event.Out packet) answer ready new (inr (first, count, wants, inr misses)) plays was =
         record { kept = plays.kept (rw misses.1 was); seen = inr (first, count, wants, misses) }
-    misses_nothing old other answer ready new same plays was = sees_all old other answer ready new plays (rw same was) tt
+    misses_nothing old _ answer ready new same plays was =
+        record { kept = plays.kept (rw same was); seen = inl (plays.served (rw same was) tt) }
 
     -- an event is played by a disk that was made ready for it
     pub plays_prepared : (old : DiskOn D) (event : Event) (answer : Answer) (ready new : DiskOn D) (why : Option FileFault)

@@ -1,14 +1,13 @@
 -- No start and no event misses.
-use Rattle.std.proofs.Common.{◌≡◌, ◌<◌, ◌≤◌, ◌+◌, ℕ, length, inl, inr, arith, ap}
-use Rattle.std.proofs.Math.Nat.{le-max_left, le-max_right}
+use Rattle.std.proofs.{Common.{◌≡◌, ◌<◌, ◌≤◌, ◌+◌, ℕ, length, inl, inr, arith, ap}, Math.Nat.{le-max_left, le-max_right}}
 use Rattle.medium.specs.{Medium.State, Sent.sent, declared.fault.MediumFault.MediumFault}
-use Rattle.medium.specs.declared.fault.MediumFault.TheVariants as kind
 use Rattle.journal.specs.{declared.log_format.LogFormat.LogFormat, declared.log_format.LogFormat.TheVariants.{One, Two}}
 use Rattle.recovery.specs.{Causes.{IsDeviceFault, start_fault_of}, Calls.{most_start_sends, LooksAtLog}}
 use Rattle.window.specs.{Window.{Window, state_of, ComesAfter, IsServed}, Looks.{near_in_sight, none_refused}}
 use Rattle.scsi_unit.specs.{Calls.most_sends_of, StartFaults.StartFault}
 use Rattle.bot_machine.specs.Opening.{IsNotOpened, StartLeaves}
 use Rattle.live.specs.Ready.{room_of, RefusesNone, IsReadyToStart, HasRoomToStart}
+use Rattle.medium.specs.declared.fault.MediumFault.TheVariants as kind
 
 -- the room is enough for each event, and for a start
 pub enough : (format : LogFormat) (slots : ℕ) → most_sends_of format ≤ room_of format slots

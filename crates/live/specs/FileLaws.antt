@@ -6,7 +6,7 @@ use Rattle.spec.specs.declared.event.Event.TheVariants as event
 use Rattle.device_file.specs.Asked.{Told}
 use Rattle.window.specs.declared.call.DeviceCall.{DeviceCall}
 use Rattle.runner.specs.{Played.packets_of, Players.IsPlayer}
-use Rattle.live.specs.{Missing.DiskOn, Playing.{Prepares, PreparesPacket, Plays, AnswersThrough}}
+use Rattle.live.specs.{Missing.DiskOn, Playing.{Prepares, Plays, AnswersThrough}}
 
 module _ {D : Type 0} (told : D → Told) (at_once : D → List DeviceCall → D → Type 0)
     (holds : D → ℕ → List ℕ → Type 0) (refuses : D → ℕ → ℕ → Type 0) where
@@ -22,18 +22,15 @@ module _ {D : Type 0} (told : D → Told) (at_once : D → List DeviceCall → D
       (done.0, done.1, through-append first rest said more done.0 mid new done.2 next)
   through-append _ rest _ more old mid new done next = absurd done
 
-  packet_keeps : (old : DiskOn D) (packet : List ℕ) (new : DiskOn D)
-      → PreparesPacket told at_once holds refuses old packet new → packets_of new ≡ packets_of old
-  packet_keeps old packet new (inl none) = ap (λ (d : DiskOn D). d.line.packet_size) none.1
-  packet_keeps old packet new (inr (first, count, wants, inl sees)) =
-      ap (λ (d : DiskOn D). d.line.packet_size) sees.others
-  packet_keeps old packet new (inr (first, count, wants, inr misses)) =
-      ap (λ (d : DiskOn D). d.line.packet_size) misses.1
-
   -- the size of packets stays
   pub prepared_keeps : (old : DiskOn D) (event : Event) (new : DiskOn D)
       → Prepares told at_once holds refuses old event new → packets_of new ≡ packets_of old
-  prepared_keeps old (event.Out packet) new prepared = packet_keeps old packet.items new prepared
+  prepared_keeps old (event.Out packet) new (inl none) =
+      ap (λ (d : DiskOn D). d.line.packet_size) none.1
+  prepared_keeps old (event.Out packet) new (inr (first, count, wants, inl sees)) =
+      ap (λ (d : DiskOn D). d.line.packet_size) sees.others
+  prepared_keeps old (event.Out packet) new (inr (first, count, wants, inr misses)) =
+      ap (λ (d : DiskOn D). d.line.packet_size) misses.1
   prepared_keeps old _ new same = ap (λ (d : DiskOn D). d.line.packet_size) same
 
   plays_keeps : (old : DiskOn D) (event : Event) (answer : Answer) (good : Bool) (new : DiskOn D)

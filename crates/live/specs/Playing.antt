@@ -1,15 +1,14 @@
 -- How a disk over a file goes through events.
 use Rattle.std.specs.Prelude.{◌≡◌, ◌⊎◌, ℕ, ◌*◌, ◌/◌, Bool, true, false, List, [], ◌∷◌, length, None}
 use Rattle.medium.specs.Inlet.{AreHeld}
-use Rattle.window.specs.Window.{CoversDevice}
-use Rattle.window.specs.declared.call.DeviceCall.{DeviceCall}
+use Rattle.window.specs.{Window.CoversDevice, declared.call.DeviceCall.DeviceCall}
 use Rattle.spec.specs.{Book.Book, declared.event.Event.Event, declared.event.Answer.Answer}
 use Rattle.bot_machine.specs.Disk.{FitsDisk, IsStep, IsRearmed}
-use Rattle.spec.specs.declared.event.Event.TheVariants as event
 use Rattle.device_file.specs.{Asked.Told, Reads.AreRead}
-use Rattle.live.specs.{FileWindows.{state_of, is_well, GoesOn, Shows, Carries}, Missing.DiskOn}
-use Rattle.live.specs.{Missing.{medium_of, window_of, Wants, WantsNone}, Ready.{IsReady, SeesHome}}
-use Rattle.live.specs.{Ready.{CoversParts, RefusesNone, KeepsAll}}
+use Rattle.live.specs.FileWindows.{state_of, is_well, GoesOn, Shows, Carries}
+use Rattle.live.specs.Missing.{DiskOn, medium_of, window_of, Wants, WantsNone}
+use Rattle.live.specs.Ready.{IsReady, SeesHome, CoversParts, RefusesNone, KeepsAll}
+use Rattle.spec.specs.declared.event.Event.TheVariants as event
 
 -- What a file was asked, what its reads gave, and which of them it refused.
 module _ {D : Type 0} (told : D → Told) (at_once : D → List DeviceCall → D → Type 0)

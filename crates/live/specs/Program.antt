@@ -9,9 +9,9 @@ use Rattle.device_file.specs.{Asked.Told, FileValue.{FileValue, GivesBlock, IsOp
 use Rattle.device_file.specs.{Carried.AsksPart, declared.fault.FileFault.FileFault}
 use Rattle.window.specs.declared.call.DeviceCall.{DeviceCall}
 use Rattle.runner.specs.Live.{AreLiveWords, IsLiveLine}
-use Rattle.live.specs.{Serving.{IsServedOn, IsNotServedOn}, Status.refusal_of_argument}
-use Rattle.live.specs.{declared.refusal.Refusal.Refusal}
-use Rattle.live.specs.declared.refusal.Refusal.TheVariants as refused
+use Rattle.live.specs.Serving.{IsServedOn, IsNotServedOn}
+use Rattle.console.specs.{Status.refusal_of_argument, declared.refusal.Refusal.Refusal}
+use Rattle.console.specs.declared.refusal.Refusal.TheVariants as refused
 
 -- what a file of the system was asked, and how many sectors it has
 abbrev pub told_of : FileValue → Told
@@ -43,7 +43,7 @@ pub record IsLiveStatus (status : ℕ) (back : Option FileValue) : Type 0 where
 
 -- no file was opened: the null device was not, or the file refused
 abbrev pub IsUnopened : Refusal → Type 0
-IsUnopened refusal = (refusal ≡ refused.Streams)
+IsUnopened refusal = (refusal ≡ refused.NullDevice)
     ⊎ ((fault : FileFault) × (refusal ≡ refused.File fault))
 
 -- What was written, and what the input had left, then and now, and the file that comes back.

@@ -1,12 +1,22 @@
 -- How the lines of an input are served on an open file, which comes back.
-use Rattle.std.specs.Prelude.{◌≡◌, ◌⊎◌, ℕ, List, Option}
-use Rattle.std.specs.Io.KnownBytes.{Keeps}
-use Rattle.device_file.specs.Asked.{Told}
+use Rattle.std.specs.{Prelude.{◌≡◌, ◌⊎◌, ℕ, List, Option, Some, None}, Io.KnownBytes.Keeps}
+use Rattle.device_file.specs.{Asked.Told, declared.fault.FileFault.FileFault}
 use Rattle.window.specs.declared.call.DeviceCall.{DeviceCall}
+use Rattle.console.specs.declared.refusal.Refusal.{Refusal}
 use Rattle.runner.specs.{Served.{IsServedBy, IsStoppedBy}, declared.player.ServeFault.ServeFault}
 use Rattle.live.specs.{Missing.{DiskOn, medium_of}, Playing.{AnswersThrough, IsUnanswered}}
-use Rattle.live.specs.{Starting.{IsStartedOn, IsNotStartedOn}, Status.refusal_of_serving}
-use Rattle.live.specs.{declared.refusal.Refusal.Refusal}
+use Rattle.live.specs.Starting.{IsStartedOn, IsNotStartedOn}
+use Rattle.console.specs.declared.refusal.Refusal.TheVariants as refused
+use Rattle.runner.specs.declared.player.ServeFault.TheVariants as serve
+
+-- Lines that were not served to their end. An event has no answer where the file refused a call,
+-- and this is the call.
+abbrev pub refusal_of_serving : ServeFault → Option FileFault → Refusal
+refusal_of_serving (serve.Line number) why = refused.Line number
+refusal_of_serving serve.Reader why = refused.Input
+refusal_of_serving serve.Writer why = refused.Output
+refusal_of_serving serve.Player (Some why) = refused.File why
+refusal_of_serving serve.Player None = refused.Output
 
 -- What a file was asked, what its reads gave, which of them it refused, how many sectors it has,
 -- and which bytes are thought to stand behind the first ones: whatever they are. Packets have at

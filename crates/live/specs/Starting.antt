@@ -3,20 +3,18 @@ use Rattle.std.specs.Prelude.{◌≡◌, ◌⊎◌, ℕ, ◌+◌, List, Option, 
 use Rattle.medium.specs.Writes.{sector_of}
 use Rattle.journal.specs.declared.super_sector.Super.{Super}
 use Rattle.recovery.specs.Causes.{IsDeviceFault}
-use Rattle.window.specs.Window.{Window, CoversDevice, fresh}
-use Rattle.window.specs.declared.call.DeviceCall.{DeviceCall}
+use Rattle.window.specs.{Window.{Window, CoversDevice, fresh}, declared.call.DeviceCall.DeviceCall}
 use Rattle.device_file.specs.{Asked.Told, First.{IsUnopened, SpellsSuper}, Reads.AreRead}
-use Rattle.device_file.specs.{declared.fault.FileFault.FileFault}
-use Rattle.device_file.specs.{declared.opening.FirstSectors.FirstSectors}
-use Rattle.device_file.specs.{declared.opening.OpenFault.OpenFault}
+use Rattle.device_file.specs.declared.{fault.FileFault.FileFault, opening.OpenFault.OpenFault}
+use Rattle.device_file.specs.declared.opening.FirstSectors.{FirstSectors}
 use Rattle.live.specs.{declared.file.FileWindow.FileWindow, FileWindows.{state_of, GoesOn, Carries}}
 use Rattle.live.specs.{FileWindows.IsOver, Missing.{DiskOn, medium_of, window_of}}
-use Rattle.live.specs.{Ready.{CoversParts, room_of, IsReady, RefusesNone}}
-use Rattle.live.specs.{Status.refusal_of_open, declared.refusal.Refusal.Refusal}
+use Rattle.live.specs.Ready.{CoversParts, room_of, IsReady, RefusesNone}
+use Rattle.console.specs.{Status.refusal_of_open, declared.refusal.Refusal.Refusal}
 use Rattle.bot_machine.specs.{Device.{Device, Ahead}, Disk.IsRearmed, Opening.IsOpened}
 use Rattle.bot_machine.specs.{Opening.{IsNotOpened, StartLeaves}, StartFaults.StartFault}
 use Rattle.runner.specs.Script.{device}
-use Rattle.live.specs.declared.refusal.Refusal.TheVariants as refused
+use Rattle.console.specs.declared.refusal.Refusal.TheVariants as refused
 
 -- The room over a file of `size` sectors, by its super: one call, where no disk can start.
 abbrev pub room_for : ℕ → Option Super → ℕ

@@ -1,6 +1,5 @@
 //! How serving ended, and what it has left of its file.
-use crate::refusal::Refusal;
-use console::LockedFile;
+use console::{LockedFile, Refusal};
 
 /// How the program ended, and the file that it opened, exactly as it was left. Nothing is behind it
 /// for a caller to do but to let go of it, which closes the file.

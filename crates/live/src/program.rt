@@ -1,20 +1,18 @@
 //! The work of the program that serves an image file line by line.
-ghost use Rattle.std.specs.Prelude.{◌≡◌, ◌≢◌, ◌↔◌, None, IfOk, IfErr, MatchResult};
+ghost use Rattle.std.specs.Prelude.{◌≡◌, ◌↔◌, None, IfOk, IfErr, MatchResult};
 ghost use Rattle.std.specs.Prelude.{map, drop, string_bytes};
 ghost use Rattle.spec.specs.Packets.{bytes_of};
 ghost use Rattle.device_file.specs.Carried.{AreCalls};
-ghost use Rattle.live.specs.declared.refusal.Refusal.{Refusal};
+ghost use Rattle.console.specs.Status.{EndsFor, status_of};
 ghost use Rattle.live.specs.Program.{HasDoneLive, HasNoWords, IsLiveOn, IsLiveRefusedFor};
 ghost use Rattle.live.specs.Program.{IsLiveStatus, IsProgramRefused, IsStoppedOn};
-ghost use Rattle.live.specs.Status.{status_of};
 ghost use Rattle.runner.specs.Live.{IsLiveLine};
 
 use crate::ended::{Ended, Stopped};
-use crate::refusal::Refusal;
 use crate::serving::serve_file;
 use crate::starting::DiskOptions;
 use crate::streams::Streams;
-use console::{ArgumentFault, LockedFile, foresee, guard_streams, words_of};
+use console::{ArgumentFault, LockedFile, Refusal, foresee, guard_streams, words_of};
 use medium::Access;
 use runner::read_live_words;
 use std::alloc::Global;
@@ -44,10 +42,9 @@ pub fn live_command<R: Files<File = File> + AllocGlobal, I: Read, O: Write, E: W
         (O.contents streams.new.out) (I.remaining streams.old.input) (I.remaining streams.new.input)
         result.file (map (λ word. word.now) words.now) × (err.new ≡ err.old) }
     ensures words { (result.status ≡ 2) ↔ (IsLiveLine (map (λ word. word.now) words.now) → ⊥) }
-    ensures refused { result.status ≢ 0 → (refusal : Refusal) × (result.status ≡ status_of refusal)
-        × IsLiveRefusedFor device.now.bytes (O.contents streams.old.out)
-        (O.contents streams.new.out) (I.remaining streams.old.input) (I.remaining streams.new.input)
-        result.file (map (λ word. word.now) words.now) refusal }
+    ensures refused { EndsFor result.status (IsLiveRefusedFor device.now.bytes
+        (O.contents streams.old.out) (O.contents streams.new.out) (I.remaining streams.old.input)
+        (I.remaining streams.new.input) result.file (map (λ word. word.now) words.now)) }
     ensures calls { AreCalls result.file }
 {
     match serve_image(rt, words, device, streams) {
@@ -56,7 +53,7 @@ pub fn live_command<R: Files<File = File> + AllocGlobal, I: Read, O: Write, E: W
             Ended { status: 0, file }
         }
         Err(stopped) => {
-            report(stopped.refusal, words, err);
+            stopped.refusal.report(words.first().copied(), err);
             foresee(&stopped.file);
             Ended {
                 status: stopped.refusal.status(),
@@ -80,12 +77,12 @@ pub fn run_live<R: Files<File = File> + AllocGlobal, I: Read, O: Write, E: Write
         (O.contents streams.old.out) (O.contents streams.new.out) (I.remaining streams.old.input)
         (I.remaining streams.new.input) result.file (drop 1 (map string_bytes all.items)))
         (λ fault. ⊥) × (err.new ≡ err.old) }
-    ensures refused { result.status ≢ 0 → (refusal : Refusal) × (result.status ≡ status_of refusal)
-        × MatchResult args (λ all. IsProgramRefused device.now.bytes (O.contents streams.old.out)
-        (O.contents streams.new.out) (I.remaining streams.old.input) (I.remaining streams.new.input)
-        result.file (drop 1 (map string_bytes all.items)) refusal) (λ fault. HasNoWords
+    ensures refused { EndsFor result.status (λ refusal. MatchResult args (λ all. IsProgramRefused
+        device.now.bytes (O.contents streams.old.out) (O.contents streams.new.out)
+        (I.remaining streams.old.input) (I.remaining streams.new.input) result.file
+        (drop 1 (map string_bytes all.items)) refusal) (λ fault. HasNoWords
         (O.contents streams.old.out) (O.contents streams.new.out) (I.remaining streams.old.input)
-        (I.remaining streams.new.input) result.file fault refusal) }
+        (I.remaining streams.new.input) result.file fault refusal)) }
     ensures calls { AreCalls result.file }
 {
     let args = match args {
@@ -118,7 +115,7 @@ fn serve_image<R: Files<File = File> + AllocGlobal, I: Read, O: Write>(
         return Err(stopped(Refusal::Words));
     };
     let Some(_streams) = guard_streams(rt) else {
-        return Err(stopped(Refusal::Streams));
+        return Err(stopped(Refusal::NullDevice));
     };
     match device_file::open(rt, image, Access::Change) {
         Ok(file) => serve_opened(rt.alloc(), file, DiskOptions { device, size }, streams),
@@ -164,20 +161,9 @@ fn stopped(refusal: Refusal) -> Stopped<LeftFile>
 fn refuse<E: Write>(refusal: Refusal, err: &mut E) -> Ended
     ensures { result ≡ record { status = status_of refusal; file = None } }
 {
-    report(refusal, &[], err);
+    refusal.report(None, err);
     Ended {
         status: refusal.status(),
         file: None,
     }
-}
-
-// Writes why the words or the image were refused, where that can be written.
-fn report<E: Write>(refusal: Refusal, words: &[&str], err: &mut E) {
-    let text = refusal.text();
-    let _ = match (refusal, words) {
-        (Refusal::Line(number), _) => writeln!(err, "line {number}: {text}"),
-        (Refusal::Words, _) => writeln!(err, "{text}"),
-        (_, [image, ..]) => writeln!(err, "{image}: {text}"),
-        _ => writeln!(err, "{text}"),
-    };
 }

@@ -1,13 +1,12 @@
 //! The lines of an input are served on an open file.
 ghost use Rattle.std.specs.Prelude.{◌≡◌, Option, IfOk, IfErr};
 ghost use Rattle.spec.specs.Packets.{bytes_of};
-ghost use Rattle.live.specs.Serving.{IsServedOn, IsNotServedOn};
-ghost use Rattle.live.specs.Status.{refusal_of_serving};
+ghost use Rattle.live.specs.Serving.{IsServedOn, IsNotServedOn, refusal_of_serving};
 
 use crate::ended::Stopped;
-use crate::refusal::Refusal;
 use crate::starting::{DiskOptions, start_on};
 use crate::streams::Streams;
+use console::Refusal;
 use device_file::{DeviceFile, FileFault};
 use runner::{ServeFault, serve_player};
 use std::alloc::Global;

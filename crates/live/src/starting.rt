@@ -6,14 +6,13 @@ ghost use Rattle.live.specs.Starting.{HasNoWindow, IsCarried, IsCarriedInPart, I
 ghost use Rattle.live.specs.Starting.{IsRefusedStart, IsStarted};
 ghost use Rattle.live.specs.Starting.{IsStartedOn, IsWindowOf, room_for};
 ghost use Rattle.live.specs.Ready.{IsReadyToStart, room_of};
-ghost use Rattle.live.specs.Status.{refusal_of_open};
 
 use crate::ended::Stopped;
 use crate::file::FileWindow;
 use crate::player::{FileDisk, TRANSFER};
-use crate::refusal::Refusal;
 use bot_machine::{Disk, PacketSize, Retiring};
-use device_file::{DeviceFile, FirstSectors, OpenFault, Run};
+use console::Refusal;
+use device_file::{DeviceFile, FirstSectors, Run};
 use journal::Super;
 use medium::Outlet;
 use runner::disk_identity;
@@ -76,22 +75,12 @@ fn window_over<D: DeviceFile>(
 {
     let first = match FirstSectors::read(alloc, file) {
         Ok(first) => first,
-        Err(fault) => return Err(refusal_of(fault)),
+        Err(fault) => return Err(Refusal::from(fault)),
     };
     let room = room_to_serve(&first.sizes, first.sectors);
     match first.into_window(alloc, device, SPAN, room) {
         Ok(window) => Ok(window),
         Err(_) => Err(Refusal::NoMemory),
-    }
-}
-
-// Why no first sectors were had.
-fn refusal_of(fault: OpenFault) -> Refusal
-    ensures { result ≡ refusal_of_open fault }
-{
-    match fault {
-        OpenFault::File(fault) => Refusal::File(fault),
-        OpenFault::NoMemory => Refusal::NoMemory,
     }
 }
 

@@ -1,17 +1,11 @@
 -- Lines that act on lives, one after another.
-use Rattle.std.proofs.Common.{◌≡◌, ℕ, List, [], ◌∷◌, ◌++◌, Option, refl}
-use Rattle.std.specs.Prelude.{flat_map}
+use Rattle.std.{proofs.Common.{◌≡◌, ℕ, List, [], ◌∷◌, ◌++◌, Option, refl}, specs.Prelude.flat_map}
 use Rattle.medium.specs.Sim.{Sim}
 use Rattle.spec.specs.Lives.{Action}
 use Rattle.bot_machine.specs.LivesValue.{LivesValue, medium_in}
-use Rattle.runner.specs.declared.fault.ScriptFault.{ScriptFault}
-use Rattle.runner.specs.declared.kept.KeptWrites.{KeptWrites}
-use Rattle.runner.specs.declared.line.ScriptLine.{ScriptLine}
-use Rattle.runner.specs.declared.line.ScriptLine.TheVariants.{Fuse, Fail, Cut}
-use Rattle.runner.specs.Events.{events_of}
-use Rattle.runner.specs.Line.{Spells}
-use Rattle.runner.specs.Lifetimes.{comes, actions_of, LineActs}
-use Rattle.runner.specs.PlayedLives.{TellsLives, BreaksOff, PlaysAll, PlaysUpTo}
+use Rattle.runner.specs.{declared.fault.ScriptFault.ScriptFault, declared.kept.KeptWrites.KeptWrites, declared.line.ScriptLine.ScriptLine}
+use Rattle.runner.specs.{declared.line.ScriptLine.TheVariants.{Fuse, Fail, Cut}, Events.events_of, Line.Spells}
+use Rattle.runner.specs.{Lifetimes.{comes, actions_of, LineActs}, PlayedLives.{TellsLives, BreaksOff, PlaysAll, PlaysUpTo}}
 use Rattle.runner.proofs.LifeActions.{tells-none, tells-more, ends-behind}
 use Rattle.runner.proofs.InTurn.{IsGivenTo, given-start, given-more, given-all, given-part}
 

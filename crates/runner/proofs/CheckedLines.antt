@@ -1,13 +1,8 @@
 -- Lines that were read, and those that are left.
-use Rattle.std.proofs.Common.{◌≡◌, ◌≤◌, ℕ, ◌+◌, List, [], ◌∷◌, ◌++◌, length, sym, ap, ◌∙◌, arith, append_assoc, append-nil}
-use Rattle.std.proofs.Common.{length-append}
+use Rattle.std.proofs.Common.{◌≡◌, ◌≤◌, ℕ, ◌+◌, List, [], ◌∷◌, ◌++◌, length, sym, ap, ◌∙◌, arith, append_assoc, append-nil, length-append}
+use Rattle.std.proofs.{lemmas.List.Elements.All-push, lemmas.List.Splits.length-slice_split, lemmas.List.Sums.count_by-le-length}
 use Rattle.std.specs.Prelude.{All, ◌==◌}
-use Rattle.std.proofs.lemmas.List.Elements.{All-push}
-use Rattle.std.proofs.lemmas.List.Splits.{length-slice_split}
-use Rattle.std.proofs.lemmas.List.Sums.{count_by-le-length}
-use Rattle.runner.specs.declared.line.ScriptKind.{ScriptKind}
-use Rattle.runner.specs.Line.{IsScriptLine}
-use Rattle.runner.specs.Lines.{lines_of}
+use Rattle.runner.specs.{declared.line.ScriptKind.ScriptKind, Line.IsScriptLine, Lines.lines_of}
 
 -- the first `number` lines were read, all of them of a script, and these are left
 pub record IsReadTo (kind : ScriptKind) (most : ℕ) (all left : List (List ℕ)) (number : ℕ) : Type 0 where

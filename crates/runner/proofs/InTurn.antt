@@ -1,7 +1,6 @@
 -- What lines give, one after another.
 use Rattle.std.proofs.Common.{◌≡◌, ℕ, List, [], ◌∷◌, ◌++◌, ◌∙◌, refl, sym, ap, subst, append_assoc, append-nil}
-use Rattle.std.specs.Prelude.{All}
-use Rattle.std.proofs.lemmas.List.Elements.{All-head, All-tail}
+use Rattle.std.{proofs.lemmas.List.Elements.{All-head, All-tail}, specs.Prelude.All}
 use Rattle.runner.specs.Script.{InTurn, StopsAt}
 
 -- the lines before those left gave these

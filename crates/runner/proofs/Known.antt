@@ -1,6 +1,5 @@
 -- What a writer holds, where it is known.
-use Rattle.std.proofs.Common.{ℕ, List, [], ◌++◌, Option, sym, subst, append_assoc, append-nil}
-use Rattle.std.proofs.KnownBytes.{Appends-trans}
+use Rattle.std.proofs.{Common.{ℕ, List, [], ◌++◌, Option, sym, subst, append_assoc, append-nil}, KnownBytes.Appends-trans}
 use Rattle.std.specs.Io.KnownBytes.{Appends}
 use Rattle.console.specs.Streams.{AppendsUpTo, AppendsSome}
 

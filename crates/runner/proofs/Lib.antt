@@ -3,7 +3,6 @@ pub mod Runs
 pub mod ToldEvents
 pub mod Known
 pub mod Packets
-pub mod Options
 pub mod InTurn
 pub mod WordWalks
 pub mod Taken

@@ -1,11 +1,8 @@
 -- A script that is refused before any of it is played.
-use Rattle.std.proofs.Common.{ℕ, List, Option, refl}
-use Rattle.std.proofs.KnownBytes.{Keeps-refl}
+use Rattle.std.proofs.{Common.{ℕ, List, Option, refl}, KnownBytes.Keeps-refl}
 use Rattle.bot_machine.specs.StartFaults.{StartFault}
-use Rattle.runner.specs.declared.fault.ScriptFault.{ScriptFault}
-use Rattle.runner.specs.declared.fault.ScriptFault.TheVariants.{Start, Writer}
-use Rattle.runner.specs.declared.line.ScriptKind.{ScriptKind}
-use Rattle.runner.specs.Outcome.{IsNoScript, ComesToNoEnd}
+use Rattle.runner.specs.{declared.fault.ScriptFault.ScriptFault, declared.fault.ScriptFault.TheVariants.{Start, Writer}}
+use Rattle.runner.specs.{declared.line.ScriptKind.ScriptKind, Outcome.{IsNoScript, ComesToNoEnd}}
 
 pub unplayed : {M : Type 0} (kind : ScriptKind) (most : ℕ) (left text : Option (List ℕ)) (medium : M)
     (UpToStart : StartFault → M → Type 0) (UpToAnswer : M → Type 0) (fault : ScriptFault) → IsNoScript kind most left fault

@@ -1,7 +1,6 @@
 -- Hex digits and the bytes that they spell.
 use Rattle.std.proofs.Common.{◌≡◌, ◌*◌, ◌∙◌, ℕ, List, length, Ok, ap}
-use Rattle.hex.specs.Hex.{decode_of, decode_sized}
-use Rattle.hex.proofs.HexLemmas.{decode_of-ok, decode_sized-twice}
+use Rattle.hex.{specs.Hex.{decode_of, decode_sized}, proofs.HexLemmas.{decode_of-ok, decode_sized-twice}}
 use Rattle.runner.specs.Line.{SpellsPacket}
 
 -- the digits that spell a packet are two for each byte

@@ -1,34 +1,16 @@
 -- Which refusals a command may have.
-use Rattle.std.proofs.Common.{◌≡◌, ◌⊎◌, ℕ, List, Option, None, refl, sym, ◌∙◌, ap, inl, inr, arith}
-use Rattle.std.proofs.KnownBytes.{Keeps-refl}
+use Rattle.std.proofs.{Common.{◌≡◌, ◌⊎◌, ℕ, List, Option, None, refl, sym, ◌∙◌, ap, inl, inr, arith}, KnownBytes.Keeps-refl}
 use Rattle.medium.specs.ImageFile.{Copied, ComesAfter}
-use Rattle.bot_machine.specs.StartFaults.{StartFault}
-use Rattle.bot_machine.specs.StartFaults as start
-use Rattle.runner.specs.declared.fault.ScriptFault.{ScriptFault}
-use Rattle.runner.specs.declared.fault.ScriptFault.TheVariants as script
-use Rattle.runner.specs.declared.refusal.Refusal.{Refusal}
-use Rattle.runner.specs.declared.refusal.Refusal.TheVariants as refused
-use Rattle.runner.specs.declared.task.Task.{Task}
+use Rattle.runner.specs.{declared.fault.ScriptFault.ScriptFault, declared.task.Task.Task}
 use Rattle.runner.specs.declared.task.Task.TheVariants.{Format, Migrate, Run, Sim}
 use Rattle.runner.specs.Program.{ComesBack, IsBack, IsJustOpened, IsUnread, IsUntouched, IsNotDone, IsRefusedFor}
-use Rattle.runner.specs.Status.{status_of, refusal_of_start, refusal_of_fault}
-use Rattle.runner.specs.Task.{IsCommandLine}
-
--- a refusal has a status of its own, and that of words alone has 2
-pub some_status : (refusal : Refusal) → status_of refusal ≡ 0 → ⊥
-some_status refused.TooLong is = omega (arith, is)
-some_status _ is = omega (arith, is)
-
-status_of_words : (refusal : Refusal) → status_of refusal ≡ 2 → refusal ≡ refused.Words
-status_of_words refused.Words is = refl
-status_of_words _ is = absurd (omega (arith, is))
-
-start_not_words : (fault : StartFault) → refusal_of_start fault ≡ refused.Words → ⊥
-start_not_words start.NoMemory is = cc
-start_not_words _ is = cc
+use Rattle.runner.specs.{Refused.refusal_of_fault, Task.IsCommandLine}
+use Rattle.console.{specs.{declared.refusal.Refusal.Refusal, Status.status_of}, proofs.Statuses.refused_status}
+use Rattle.runner.specs.declared.fault.ScriptFault.TheVariants as script
+use Rattle.console.specs.declared.refusal.Refusal.TheVariants as refused
 
 script_not_words : (fault : ScriptFault) → refusal_of_fault fault ≡ refused.Words → ⊥
-script_not_words (script.Start fault) is = start_not_words fault is
+script_not_words script.TooLong is = cc
 script_not_words _ is = cc
 
 unread_not_words : (refusal : Refusal) → IsUnread refusal → refusal ≡ refused.Words → ⊥
@@ -44,7 +26,7 @@ module _ (was now : Option (List ℕ)) (back : Option Copied) (refusal : Refusal
   not_words (Format image sizes) (inr (right, inr (is, why))) same = cc
   not_words (Migrate image) (inl without) same = unread_not_words refusal without.0 same
   not_words (Migrate image) (inr stopped) same = elim stopped.work [
-    | inl why ↦ start_not_words why.fault (sym why.told ∙ same)
+    | inl why ↦ cc
     | inr (is, untold) ↦ cc
   ]
   not_words (Run image script size) (inl without) same = unread_not_words refusal without.0 same
@@ -59,7 +41,7 @@ module _ (was now : Option (List ℕ)) (back : Option Copied) (refusal : Refusal
   pub no_line_at_two : (words : List (List ℕ)) → IsRefusedFor was now back words refusal → status_of refusal ≡ 2 → IsCommandLine words → ⊥
   no_line_at_two words (inl (is, left)) two = absurd (omega (arith, ap status_of is, two))
   no_line_at_two words (inr (inl (is, none, left))) two = none
-  no_line_at_two words (inr (inr (task, spelled, why))) two = absurd (not_words task why (status_of_words refusal two))
+  no_line_at_two words (inr (inr (task, spelled, why))) two = absurd (not_words task why ((refused_status refusal).words two))
 
   pub two_or_five : (words : List (List ℕ)) → IsRefusedFor was now back words refusal → (IsCommandLine words → ⊥)
       → (status_of refusal ≡ 2) ⊎ (status_of refusal ≡ 5)

@@ -1,36 +1,20 @@
 -- Lives of a disk over a medium in memory, from the first on.
 use Rattle.std.proofs.Common.{◌≡◌, ℕ, Bool, false, List, [], ◌∷◌, ◌++◌, Option, refl, ap, ◌∙◌, arith}
-use Rattle.std.specs.Prelude.{All}
-use Rattle.medium.specs.Medium.{CutLeaves}
-use Rattle.medium.specs.Sim.{Sim, state_of}
-use Rattle.bot_machine.specs.StartFaults.{StartFault}
-use Rattle.bot_machine.specs.Device.{presented, Device}
-use Rattle.bot_machine.specs.Books.{StandsAs}
-use Rattle.bot_machine.specs.Starting.{StandsForSome}
-use Rattle.spec.specs.Book.{Book}
-use Rattle.spec.specs.declared.event.Answer.{Answer}
-use Rattle.bot_machine.specs.declared.lives.disk_state.DiskState.{DiskState}
-use Rattle.bot_machine.specs.declared.lives.disk_state.DiskState.TheVariants.{Stopped}
-use Rattle.spec.specs.Promise.{first_standing, AreKept, AreKeptUpTo}
+use Rattle.std.specs.{Prelude.All, Io.KnownBytes.IsAtEnd}
+use Rattle.medium.specs.{Medium.CutLeaves, Sim.{Sim, state_of}}
+use Rattle.bot_machine.specs.{StartFaults.StartFault, Device.{presented, Device}, Books.StandsAs, Starting.StandsForSome}
+use Rattle.bot_machine.specs.{declared.lives.disk_state.DiskState.DiskState, declared.lives.disk_state.DiskState.TheVariants.Stopped}
 use Rattle.bot_machine.specs.Lifetimes.{KeepsPromise, KeepsPromiseUpTo, IsRefusedFor}
-use Rattle.spec.specs.Lives.{Action, plays, Standing, LivesRun}
 use Rattle.bot_machine.specs.LivesValue.{LivesValue, LivesRefuseStart, HasLimit, FitsLives, OpensOn, faults_armed}
 use Rattle.bot_machine.specs.Moving.{medium_in, has_refused, MovesBy}
-use Rattle.bot_machine.proofs.LifeRuns.{first_fits, more_refused}
-use Rattle.bot_machine.proofs.Moved.{few_causes}
-use Rattle.bot_machine.proofs.Runs.{refused_events-append}
+use Rattle.bot_machine.proofs.{LifeRuns.{first_fits, more_refused}, Moved.few_causes, Runs.refused_events-append}
+use Rattle.spec.specs.{Book.Book, declared.event.Answer.Answer, Promise.{first_standing, AreKept, AreKeptUpTo}}
+use Rattle.spec.specs.Lives.{Action, plays, Standing, LivesRun}
+use Rattle.runner.specs.{declared.fault.ScriptFault.ScriptFault, declared.fault.ScriptFault.TheVariants.{Start, Writer}}
+use Rattle.runner.specs.{Lifetimes.{LineActs, AreMoved, AreStopped, AwaitsLife}, declared.line.ScriptKind.TheVariants.Lives}
+use Rattle.runner.specs.{Line.IsScriptLine, Lines.lines_of, Outcome.{IsRead, HasTaken}, OutcomeOfLives.{ArePlayed, AreRefused}}
+use Rattle.runner.specs.{PlayedLives.{Acted, EndsBy, PlaysAll, PlaysUpTo}, Script.{StopsAt, device}}
 use Rattle.runner.specs.declared.fault.ScriptError.{ScriptError as ErrorOf}
-use Rattle.runner.specs.declared.fault.ScriptFault.{ScriptFault}
-use Rattle.runner.specs.declared.fault.ScriptFault.TheVariants.{Start, Writer}
-use Rattle.runner.specs.Lifetimes.{LineActs, AreMoved, AreStopped, AwaitsLife}
-use Rattle.runner.specs.declared.line.ScriptKind.TheVariants.{Lives}
-use Rattle.runner.specs.Line.{IsScriptLine}
-use Rattle.runner.specs.Lines.{lines_of}
-use Rattle.std.specs.Io.KnownBytes.{IsAtEnd}
-use Rattle.runner.specs.Outcome.{IsRead, HasTaken}
-use Rattle.runner.specs.OutcomeOfLives.{ArePlayed, AreRefused}
-use Rattle.runner.specs.PlayedLives.{Acted, EndsBy, PlaysAll, PlaysUpTo}
-use Rattle.runner.specs.Script.{StopsAt, device}
 
 -- no life has been yet
 abbrev pub first_over : ℕ → Sim → LivesValue

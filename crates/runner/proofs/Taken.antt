@@ -15,9 +15,8 @@ use Rattle.clap.specs.declared.error.kind.ErrorKind.{ErrorKind}
 use Rattle.clap.specs.declared.error.kind.ErrorKind.TheVariants as kinds
 use Rattle.console.specs.Words.{IsFileWord}
 use Rattle.console.proofs.Numerals.{decimal-no_hyphen}
-use Rattle.runner.specs.declared.refusal.Refusal.{Refusal}
-use Rattle.runner.specs.declared.refusal.Refusal.TheVariants as refused
-use Rattle.runner.specs.Status.{refusal_of_kind}
+use Rattle.console.specs.declared.refusal.Refusal.{Refusal}
+use Rattle.console.specs.declared.refusal.Refusal.TheVariants as refused
 use Rattle.journal.specs.declared.log_format.LogFormat.{LogFormat}
 use Rattle.journal.specs.declared.log_format.LogFormat.TheVariants.{One, Two}
 use Rattle.spec.specs.declared.packet_size.PacketSize.{PacketSize}
@@ -25,6 +24,7 @@ use Rattle.spec.specs.declared.packet_size.PacketSize.TheVariants.{Full64, High5
 use Rattle.runner.specs.declared.task.Task.{Task}
 use Rattle.runner.specs.declared.task.Task.TheVariants.{Format, Migrate, Run, Sim}
 use Rattle.runner.specs.Task.{IsSizeWord, IsFormatEnding, IsPacketEnding, IsCommandLine, SpellsTask, format_word, packet_word}
+use Rattle.runner.specs.Task.{refusal_of_kind}
 use Rattle.runner.specs.Parser.{usbdisk_app, format_app, script_app, migrate_app}
 use Rattle.runner.proofs.WordWalks.{IsPlain, Leads, start, stopped_at, passes_stopped, behind_word, behind_option, leads-none, level}
 

@@ -1,17 +1,10 @@
 -- Events that are played and told, one after another.
 use Rattle.std.proofs.Common.{◌≡◌, ℕ, Option, List, [], ◌∷◌, ◌++◌, append_assoc, append-nil}
-use Rattle.std.specs.Io.KnownBytes.{Appends}
-use Rattle.std.proofs.KnownBytes.{Appends-kept, Appends-nil, Appends-trans}
-use Rattle.spec.specs.declared.event.Event.{Event}
-use Rattle.spec.specs.declared.event.Answer.{Answer}
-use Rattle.runner.specs.Text.{line_for, text_of}
-use Rattle.runner.specs.Players.{IsPlayer}
-use Rattle.runner.specs.Played.{TellsBy}
-use Rattle.runner.specs.Served.{EndsBy, IsPlayedInPart, IsUnanswered}
-use Rattle.runner.specs.declared.player.ServeFault.{ServeFault}
-use Rattle.runner.specs.declared.player.ServeFault.TheVariants.{Writer, Player}
-use Rattle.runner.proofs.Known.{AppendsUpTo-more, AppendsSome-more}
-use Rattle.runner.proofs.Runs.{text_of-append}
+use Rattle.std.{proofs.KnownBytes.{Appends-kept, Appends-nil, Appends-trans}, specs.Io.KnownBytes.Appends}
+use Rattle.spec.specs.{declared.event.Event.Event, declared.event.Answer.Answer}
+use Rattle.runner.specs.{Text.{line_for, text_of}, Players.IsPlayer, Played.TellsBy, Served.{EndsBy, IsPlayedInPart, IsUnanswered}}
+use Rattle.runner.specs.{declared.player.ServeFault.ServeFault, declared.player.ServeFault.TheVariants.{Writer, Player}}
+use Rattle.runner.proofs.{Known.{AppendsUpTo-more, AppendsSome-more}, Runs.text_of-append}
 
 module _ {D : Type 0} {Goes : D → List Event → List Answer → D → Type 0} {most : D → ℕ} (laws : IsPlayer Goes most) where
   pub tells-none : (was : Option (List ℕ)) (d : D) → TellsBy Goes was was d [] d

@@ -1,17 +1,12 @@
 -- The packets of lines are not too long.
 use Rattle.std.proofs.Common.{◌≡◌, ◌≤◌, ℕ, suc, List, [], ◌∷◌, ◌++◌, length, map, ap, subst, inl, inr, ◌∙◌, arith}
+use Rattle.std.proofs.{lemmas.List.length-take, lemmas.List.Elements.{All-cons, All-nil, All-replicate}}
 use Rattle.std.specs.Prelude.{replicate, zero, take, drop}
-use Rattle.std.proofs.lemmas.List.{length-take}
-use Rattle.std.proofs.lemmas.List.Elements.{All-cons, All-nil, All-replicate}
-use Rattle.spec.specs.Packets.{bytes_of, packets_of, cut_into}
+use Rattle.spec.specs.{Packets.{bytes_of, packets_of, cut_into}, declared.event.Event.Event}
 use Rattle.bot_machine.specs.Fitting.{IsWithin, AreWithin}
-use Rattle.spec.specs.declared.event.Event.{Event}
+use Rattle.runner.specs.{declared.line.ScriptLine.ScriptLine, declared.line.ScriptLine.TheVariants.{Out, Fill, In, Setup, Tick}}
+use Rattle.runner.{specs.{Events.{packet_out, events_of}, Line.{Spells, SpellsOut}}, proofs.InTurn.of_all}
 use Rattle.spec.specs.declared.event.Event.TheVariants as event
-use Rattle.runner.specs.declared.line.ScriptLine.{ScriptLine}
-use Rattle.runner.specs.declared.line.ScriptLine.TheVariants.{Out, Fill, In, Setup, Tick}
-use Rattle.runner.specs.Events.{packet_out, events_of}
-use Rattle.runner.specs.Line.{Spells, SpellsOut}
-use Rattle.runner.proofs.InTurn.{of_all}
 
 one_within : (most : ℕ) (happens : Event) → IsWithin most happens → AreWithin most (happens ∷ [])
 one_within most happens is = All-cons (IsWithin most) happens [] is (All-nil (IsWithin most))

@@ -3,10 +3,8 @@ use Rattle.std.specs.Prelude.{◌≡◌, suc, Bool, List, [], ◌∷◌, ◌++�
 use Rattle.std.proofs.Common.{refl, ap, ◌∙◌, subst}
 use Rattle.medium.specs.Medium.{State}
 use Rattle.bot_machine.specs.Disk.{DiskValue, StepsThrough}
-use Rattle.spec.specs.declared.event.Event.{Event}
-use Rattle.spec.specs.declared.event.Answer.{Answer}
-use Rattle.runner.specs.Played.{StepsOn, packets_of}
-use Rattle.runner.specs.Players.{IsPlayer}
+use Rattle.spec.specs.{declared.event.Event.Event, declared.event.Answer.Answer}
+use Rattle.runner.specs.{Played.{StepsOn, packets_of}, Players.IsPlayer}
 
 module _ {M : Type 0} (state : M → State) where
   -- steps, and then others

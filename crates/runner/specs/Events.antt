@@ -1,10 +1,9 @@
 -- What a line does to the disk of its script.
 use Rattle.std.specs.Prelude.{ℕ, List, [], ◌∷◌, map, replicate}
-use Rattle.spec.specs.declared.event.Event.{Event}
-use Rattle.spec.specs.declared.event.Event.TheVariants as event
-use Rattle.spec.specs.Packets.{bytes_of, packets_of}
+use Rattle.spec.specs.{declared.event.Event.Event, Packets.{bytes_of, packets_of}}
 use Rattle.runner.specs.declared.line.ScriptLine.{ScriptLine}
 use Rattle.runner.specs.declared.line.ScriptLine.TheVariants.{Out, Fill, In, Setup, Tick}
+use Rattle.spec.specs.declared.event.Event.TheVariants as event
 
 -- a packet to Bulk-Out
 abbrev pub packet_out : List ℕ → Event

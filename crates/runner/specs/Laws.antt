@@ -2,18 +2,12 @@
 -- that lives have left.
 use Rattle.std.specs.Prelude.{◌≡◌, ℕ, ◌+◌, Bool, true, List, None, replicate}
 use Rattle.medium.specs.Sim.{Sim, state_of, IsCut}
-use Rattle.journal.specs.declared.log_format.LogFormat.TheVariants.{Two}
-use Rattle.journal.specs.Places.{limit_of}
-use Rattle.recovery.specs.Calls.{Shape, IsFormatted}
-use Rattle.recovery.specs.Recovered.{IsMigratedFrom}
+use Rattle.journal.specs.{declared.log_format.LogFormat.TheVariants.Two, Places.limit_of}
+use Rattle.recovery.specs.{Calls.{Shape, IsFormatted}, Recovered.IsMigratedFrom}
 use Rattle.recovery.specs.declared.recovered.Recovered.{Recovered}
-use Rattle.spec.specs.Book.{Book, opened}
-use Rattle.bot_machine.specs.Device.{Device}
-use Rattle.spec.specs.declared.event.Answer.{Answer}
-use Rattle.bot_machine.specs.declared.lives.life.Life.{Life}
-use Rattle.spec.specs.Lives.{Opens}
-use Rattle.bot_machine.specs.LivesValue.{OpensOn, HasLimit, IsAtRest}
-use Rattle.bot_machine.specs.Lifetimes.{AreLived}
+use Rattle.spec.specs.{Book.{Book, opened}, declared.event.Answer.Answer, Lives.Opens}
+use Rattle.bot_machine.specs.{Device.Device, declared.lives.life.Life.Life}
+use Rattle.bot_machine.specs.{LivesValue.{OpensOn, HasLimit, IsAtRest}, Lifetimes.AreLived}
 
 -- A first life opens over the medium with this book, and has this limit: its power is on, nothing
 -- is unflushed and no fuse is armed; the contents stand for the blocks of the book in a format with

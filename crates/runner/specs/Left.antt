@@ -1,7 +1,6 @@
 -- The parts that are still to come.
 use Rattle.std.specs.Prelude.{ℕ, List}
-use Rattle.runner.specs.Lines.{parts_in}
-use Rattle.runner.specs.declared.parts.Parts.{Parts}
+use Rattle.runner.specs.{Lines.parts_in, declared.parts.Parts.Parts}
 
 abbrev pub parts_left : Parts → List (List ℕ)
 parts_left parts = parts_in parts.separator parts.rest

@@ -15,7 +15,6 @@ pub mod Outcome
 pub mod OutcomeOfLives
 pub mod Left
 pub mod Task
-pub mod Status
 pub mod Program
 pub mod Live
 pub mod Parser

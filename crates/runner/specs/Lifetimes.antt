@@ -1,26 +1,20 @@
 -- What a script of several lives plays, and its text.
-use Rattle.std.specs.Prelude.{◌≡◌, ℕ, Bool, true, false, List, [], ◌∷◌, ◌++◌, flat_map}
-use Rattle.std.specs.Prelude.{◌==◌, None}
+use Rattle.std.specs.Prelude.{◌≡◌, ℕ, Bool, true, false, List, [], ◌∷◌, ◌++◌, flat_map, ◌==◌, None}
 use Rattle.std.specs.List.{list_any}
 use Rattle.medium.specs.Sim.{Sim, state_of}
 use Rattle.bot_machine.specs.StartFaults.{StartFault}
-use Rattle.spec.specs.declared.event.Event.{Event}
-use Rattle.spec.specs.declared.event.Answer.{Answer}
-use Rattle.spec.specs.declared.event.Answer.TheVariants.{Off}
 use Rattle.bot_machine.specs.Lifetimes.{KeepsPromise, KeepsPromiseUpTo, IsRefusedFor}
-use Rattle.spec.specs.Lives.{Action, arms, fails, starts, plays, cuts}
 use Rattle.bot_machine.specs.LivesValue.{IsAtRest}
 use Rattle.bot_machine.specs.Moving.{medium_in, has_refused, MovesBy, IsRefusedStart}
 use Rattle.bot_machine.specs.declared.lives.disk_state.DiskState.{DiskState}
 use Rattle.bot_machine.specs.declared.lives.disk_state.DiskState.TheVariants.{Stopped}
-use Rattle.runner.specs.declared.kept.KeptWrites.{KeptWrites}
+use Rattle.spec.specs.{declared.event.Event.Event, declared.event.Answer.Answer}
+use Rattle.spec.specs.declared.event.Answer.TheVariants.{Off}
+use Rattle.spec.specs.Lives.{Action, arms, fails, starts, plays, cuts}
+use Rattle.runner.specs.{declared.kept.KeptWrites.KeptWrites, declared.line.ScriptLine.ScriptLine}
+use Rattle.runner.specs.{declared.line.ScriptLine.TheVariants.{Fuse, Fail, Cut}, Line.Spells}
+use Rattle.runner.specs.{Events.events_of, Script.{InTurn, device}, Text.line_for}
 use Rattle.runner.specs.declared.kept.KeptWrites.TheVariants as kept
-use Rattle.runner.specs.declared.line.ScriptLine.{ScriptLine}
-use Rattle.runner.specs.declared.line.ScriptLine.TheVariants.{Fuse, Fail, Cut}
-use Rattle.runner.specs.Line.{Spells}
-use Rattle.runner.specs.Events.{events_of}
-use Rattle.runner.specs.Script.{InTurn, device}
-use Rattle.runner.specs.Text.{line_for}
 
 -- a life may begin over it: the power is on, nothing is unflushed, and no fuse is armed
 pub record AwaitsLife (medium : Sim) : Type 0 where

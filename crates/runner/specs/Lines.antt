@@ -1,7 +1,5 @@
 -- The lines of a script, and the words of a line.
-use Rattle.std.specs.Prelude.{ℕ, List, [], ◌==◌, Option, Some, None}
-use Rattle.std.specs.Borrow.{Bor}
-use Rattle.std.specs.List.{slice_split}
+use Rattle.std.specs.{Prelude.{ℕ, List, [], ◌==◌, Option, Some, None}, Borrow.Bor, List.slice_split}
 
 -- the parts between one separator and the next; what stands after the last one is a part too,
 -- perhaps an empty one

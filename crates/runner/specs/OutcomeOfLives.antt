@@ -1,21 +1,15 @@
 -- What playing a script of several lives leaves: a medium, and what was written.
-use Rattle.std.specs.Prelude.{ℕ, List, [], ◌∷◌, ◌++◌, All, Option}
-use Rattle.std.specs.Io.KnownBytes.{Appends}
+use Rattle.std.specs.{Prelude.{ℕ, List, [], ◌∷◌, ◌++◌, All, Option}, Io.KnownBytes.Appends}
 use Rattle.medium.specs.Sim.{Sim}
-use Rattle.bot_machine.specs.StartFaults.{StartFault}
-use Rattle.bot_machine.specs.Lifetimes.{KeepsPromise, KeepsPromiseUpTo}
-use Rattle.spec.specs.declared.event.Event.{Event}
-use Rattle.spec.specs.declared.event.Answer.{Answer}
+use Rattle.bot_machine.specs.{StartFaults.StartFault, Lifetimes.{KeepsPromise, KeepsPromiseUpTo}}
+use Rattle.spec.specs.{declared.event.Event.Event, declared.event.Answer.Answer}
 use Rattle.spec.specs.Lives.{Action, starts, plays}
 use Rattle.console.specs.Streams.{AppendsUpTo}
 use Rattle.runner.specs.declared.fault.ScriptFault.{ScriptFault}
 use Rattle.runner.specs.declared.line.ScriptKind.TheVariants.{Lives}
 use Rattle.runner.specs.Lifetimes.{LineActs, Acts, AreMoved, AreStopped, text_of_lives}
-use Rattle.runner.specs.Line.{IsScriptLine}
-use Rattle.runner.specs.Lines.{lines_of}
-use Rattle.runner.specs.Outcome.{IsRead, ComesToNoEnd}
-use Rattle.runner.specs.Script.{StopsAt, device}
-use Rattle.runner.specs.Text.{line_for}
+use Rattle.runner.specs.{Line.IsScriptLine, Lines.lines_of, Outcome.{IsRead, ComesToNoEnd}}
+use Rattle.runner.specs.{Script.{StopsAt, device}, Text.line_for}
 
 module _ (most : ℕ) (left was now : Option (List ℕ)) (medium : Sim) where
   -- the script was played whole: exactly the text of the answers to its actions was appended, and

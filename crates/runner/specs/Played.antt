@@ -1,9 +1,7 @@
 -- Events played on a disk.
-use Rattle.std.specs.Prelude.{ℕ, Bool, List, [], ◌∷◌, ◌++◌, Option}
-use Rattle.std.specs.Io.KnownBytes.{Appends}
+use Rattle.std.specs.{Prelude.{ℕ, Bool, List, [], ◌∷◌, ◌++◌, Option}, Io.KnownBytes.Appends}
 use Rattle.medium.specs.Medium.{State}
-use Rattle.spec.specs.declared.event.Event.{Event}
-use Rattle.spec.specs.declared.event.Answer.{Answer}
+use Rattle.spec.specs.{declared.event.Event.Event, declared.event.Answer.Answer}
 use Rattle.bot_machine.specs.Disk.{DiskValue, StepsThrough}
 use Rattle.console.specs.Streams.{AppendsUpTo}
 use Rattle.runner.specs.Text.{line_for, text_of}

@@ -3,16 +3,14 @@ use Rattle.std.specs.Prelude.{◌≡◌, ℕ, Bool, false, List, [], ◌∷◌, 
 use Rattle.std.specs.Io.KnownBytes.{Appends}
 use Rattle.medium.specs.Sim.{Sim}
 use Rattle.bot_machine.specs.StartFaults.{StartFault}
-use Rattle.spec.specs.declared.event.Event.{Event}
-use Rattle.spec.specs.declared.event.Answer.{Answer}
-use Rattle.spec.specs.Lives.{Action, starts, plays}
 use Rattle.bot_machine.specs.LivesValue.{LivesValue, LivesGoOn, LivesRefuseStart, medium_in}
+use Rattle.spec.specs.{declared.event.Event.Event, declared.event.Answer.Answer}
+use Rattle.spec.specs.Lives.{Action, starts, plays}
 use Rattle.console.specs.Streams.{AppendsUpTo}
 use Rattle.runner.specs.declared.fault.ScriptFault.{ScriptFault}
 use Rattle.runner.specs.declared.fault.ScriptFault.TheVariants.{Start, Writer}
 use Rattle.runner.specs.Lifetimes.{LineActs, Acts, AnswersFit, fused_after, text_of_lives}
-use Rattle.runner.specs.Script.{StopsAt}
-use Rattle.runner.specs.Text.{line_for}
+use Rattle.runner.specs.{Script.StopsAt, Text.line_for}
 
 -- where this says that no fuse is armed, none is, and the power is on
 abbrev pub FuseIs : Bool → LivesValue → Type 0

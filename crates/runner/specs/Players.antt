@@ -1,7 +1,6 @@
 -- What plays events, one after another.
 use Rattle.std.specs.Prelude.{◌≡◌, ℕ, List, [], ◌++◌, length}
-use Rattle.spec.specs.declared.event.Event.{Event}
-use Rattle.spec.specs.declared.event.Answer.{Answer}
+use Rattle.spec.specs.{declared.event.Event.Event, declared.event.Answer.Answer}
 
 -- The laws of how it goes through events, each with one answer, and of the most bytes of a packet.
 pub record IsPlayer {D : Type 0} (Goes : D → List Event → List Answer → D → Type 0)

@@ -1,32 +1,23 @@
 -- What the program's commands do.
 use Rattle.std.specs.Prelude.{◌≡◌, ◌⊎◌, ◌*◌, ℕ, Bool, List, [], length, codes, Option, Some, None}
 use Rattle.std.specs.Io.KnownBytes.{Appends, Keeps}
-use Rattle.medium.specs.Medium.{State}
-use Rattle.medium.specs.FileStory.{IsReadWhole}
-use Rattle.medium.specs.ImageFile as file
-use Rattle.medium.specs.ImageFile.{Copied, IsImage, fresh}
-use Rattle.medium.specs.Sim.{Sim}
-use Rattle.medium.specs.Power.{powered}
-use Rattle.medium.specs.Tally.{none}
-use Rattle.journal.specs.declared.log_format.LogFormat.{LogFormat}
-use Rattle.journal.specs.Places.{new_shape, sectors_of}
+use Rattle.medium.specs.{Medium.State, FileStory.IsReadWhole, ImageFile.{Copied, IsImage, fresh}}
+use Rattle.medium.specs.{Sim.Sim, Power.powered, Tally.none}
+use Rattle.journal.specs.{declared.log_format.LogFormat.LogFormat, Places.{new_shape, sectors_of}}
 use Rattle.recovery.specs.Calls.{AreSizes, IsFormatted}
 use Rattle.recovery.specs.Recovered.{IsMigrationBy, IsMigrationCause, MigrationLeaves}
 use Rattle.recovery.specs.declared.recovered.Recovered.{Recovered}
 use Rattle.spec.specs.Packets.{bytes_of}
 use Rattle.bot_machine.specs.StartFaults.{StartFault}
-use Rattle.console.specs.Streams.{AppendsSome}
-use Rattle.console.specs.Texts.{ended, migration_text}
+use Rattle.console.specs.{Streams.AppendsSome, Texts.{ended, migration_text}}
 use Rattle.console.specs.declared.words.ArgumentFault.{ArgumentFault}
-use Rattle.runner.specs.declared.fault.ScriptFault.{ScriptFault}
-use Rattle.runner.specs.declared.refusal.Refusal.{Refusal}
-use Rattle.runner.specs.declared.refusal.Refusal.TheVariants as refused
-use Rattle.runner.specs.declared.task.Task.{Task}
+use Rattle.console.specs.{declared.refusal.Refusal.Refusal, Status.refusal_of_argument}
+use Rattle.runner.specs.{declared.fault.ScriptFault.ScriptFault, declared.task.Task.Task}
+use Rattle.runner.specs.{Outcome.{IsPlayed, IsRefused}, OutcomeOfLives.{ArePlayed, AreRefused}}
+use Rattle.runner.specs.{Refused.refusal_of_fault, Task.{SpellsTask, IsCommandLine}}
+use Rattle.medium.specs.ImageFile as file
+use Rattle.console.specs.declared.refusal.Refusal.TheVariants as refused
 use Rattle.runner.specs.declared.task.Task.TheVariants.{Format, Migrate, Run, Sim as InMemory}
-use Rattle.runner.specs.Outcome.{IsPlayed, IsRefused}
-use Rattle.runner.specs.OutcomeOfLives.{ArePlayed, AreRefused}
-use Rattle.runner.specs.Status.{refusal_of_argument, refusal_of_fault, refusal_of_start}
-use Rattle.runner.specs.Task.{SpellsTask, IsCommandLine}
 
 -- `blocks` blocks and `slots` log slots of this format make an image of at most 65,536 sectors
 abbrev pub AreImageSizes : LogFormat → ℕ → ℕ → Type 0
@@ -58,7 +49,7 @@ simulated image = record {
 -- a file was not read, or was no image, or there was no memory for it
 abbrev pub IsUnread : Refusal → Type 0
 IsUnread refusal = (refusal ≡ refused.ImageLength)
-    ⊎ ((refusal ≡ refused.File) ⊎ (refusal ≡ refused.NoMemory))
+    ⊎ ((refusal ≡ refused.FileFailed) ⊎ (refusal ≡ refused.NoMemory))
 
 -- the image file at this path was opened, and this is its medium before the first call
 pub record IsJustOpened (path : List ℕ) (opened : Copied) : Type 0 where
@@ -109,13 +100,13 @@ module _ (was now : Option (List ℕ)) where
       pub fault : StartFault
       pub cause : IsMigrationCause (state medium) (state back) fault
       pub leaves : MigrationLeaves (state medium) (state back)
-      pub told : refusal ≡ refusal_of_start fault
+      pub told : refusal ≡ refused.ImageFault fault
       pub kept : Keeps was now
 
     -- it was not, or not all of what is told of it was written
     abbrev pub IsNotMigrated : M → Refusal → Type 0
     IsNotMigrated back refusal = IsMigrationStopped back refusal
-        ⊎ ((refusal ≡ refused.File) × IsMigratedBy AppendsSome back)
+        ⊎ ((refusal ≡ refused.FileFailed) × IsMigratedBy AppendsSome back)
 
   -- The medium of the image file comes back, where one was opened or made: with exactly what the
   -- work on it has left.
@@ -171,7 +162,7 @@ module _ (was now : Option (List ℕ)) where
     IsFormatRefused path format blocks slots refusal =
         ((refusal ≡ refused.ImageSize) × (¬ AreImageSizes format blocks slots) × IsUntouched)
         ⊎ ((¬ (¬ AreImageSizes format blocks slots))
-        × (((refusal ≡ refused.NoMemory) × IsUntouched) ⊎ ((refusal ≡ refused.File)
+        × (((refusal ≡ refused.NoMemory) × IsUntouched) ⊎ ((refusal ≡ refused.FileFailed)
         × (IsUntouched ⊎ IsFormatBy AppendsSome path format blocks slots))))
 
     -- no image file was opened, and nothing was written
@@ -187,7 +178,7 @@ module _ (was now : Option (List ℕ)) where
     -- this is why
     abbrev pub IsRunRefused : List ℕ → ℕ → Refusal → Type 0
     IsRunRefused path most refusal = NoImage refusal ⊎ ComesBack back path (λ opened after.
-        ((refusal ≡ refused.File) × (after ≡ opened) × Keeps was now)
+        ((refusal ≡ refused.FileFailed) × (after ≡ opened) × Keeps was now)
         ⊎ ((left : Option (List ℕ))
         × IsPlayRefused file.state_of most left was now opened after refusal))
 

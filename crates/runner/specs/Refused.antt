@@ -1,15 +1,27 @@
--- Why a script that was not read whole is refused, and how far it was read.
+-- Why a script is refused, and how far one was read that was not read whole.
 use Rattle.std.specs.Prelude.{◌<◌, ◌≤◌, ℕ, List, length, Option}
 use Rattle.std.specs.Io.KnownBytes.{Consumes}
+use Rattle.console.specs.declared.refusal.Refusal.{Refusal}
+use Rattle.console.specs.declared.refusal.Refusal.TheVariants as refused
 use Rattle.runner.specs.declared.read.ReadFault.{ReadFault}
 use Rattle.runner.specs.declared.read.ReadFault.TheVariants as read
 use Rattle.runner.specs.declared.fault.ScriptFault.{ScriptFault}
-use Rattle.runner.specs.declared.fault.ScriptFault.TheVariants.{TooLong, NoMemory, Reader}
+use Rattle.runner.specs.declared.fault.ScriptFault.TheVariants.{Line, TooLong, Start, NoMemory}
+use Rattle.runner.specs.declared.fault.ScriptFault.TheVariants.{Reader, Writer}
 
 abbrev pub read_fault : ReadFault → ScriptFault
 read_fault read.TooLong = TooLong
 read_fault read.NoMemory = NoMemory
 read_fault read.Reader = Reader
+
+-- a command whose script was not played to its end is refused for this
+abbrev pub refusal_of_fault : ScriptFault → Refusal
+refusal_of_fault (Line number) = refused.Line number
+refusal_of_fault TooLong = refused.TooLong
+refusal_of_fault (Start fault) = refused.ImageFault fault
+refusal_of_fault NoMemory = refused.NoMemory
+refusal_of_fault Reader = refused.FileFailed
+refusal_of_fault Writer = refused.FileFailed
 
 -- How far a reader was read that was not read to its end within a limit: by more bytes than the
 -- limit, or by no more; and where memory ran out by at least one.

@@ -1,27 +1,18 @@
 -- What a script of one life plays, and its text.
 use Rattle.std.specs.Prelude.{◌≡◌, ◌≤◌, ℕ, ◌+◌, Bool, true, List, [], ◌∷◌, ◌++◌, length, All, codes}
-use Rattle.medium.specs.Medium.{State}
-use Rattle.medium.specs.Moments.{EachCut}
-use Rattle.spec.specs.Blocks.{Array}
-use Rattle.journal.specs.Places.{limit_of}
-use Rattle.bot_machine.specs.Starting.{Shape, StandsFor, IsOursForSome}
-use Rattle.bot_machine.specs.Device.{Device, Late}
-use Rattle.spec.specs.Identification.{Identification}
-use Rattle.spec.specs.Book.{Book, opened}
-use Rattle.bot_machine.specs.Books.{MayFind}
-use Rattle.spec.specs.Rules.{UnitState, opened_unit}
-use Rattle.spec.specs.declared.event.Event.{Event}
-use Rattle.spec.specs.declared.event.Answer.{Answer}
-use Rattle.spec.specs.Exchange.{at_rest}
+use Rattle.medium.specs.{Medium.State, Moments.EachCut}
+use Rattle.spec.specs.{Blocks.Array, Identification.Identification, Book.{Book, opened}}
+use Rattle.spec.specs.{Rules.{UnitState, opened_unit}, declared.event.Event.Event}
+use Rattle.spec.specs.{declared.event.Answer.Answer, Exchange.at_rest}
 use Rattle.spec.specs.Conversation.{Conversation, refused_events}
-use Rattle.bot_machine.specs.Disk.{DiskValue, StepsThrough}
 use Rattle.spec.specs.UnitConversation.{UnitRun, on_line}
+use Rattle.journal.specs.Places.{limit_of}
+use Rattle.bot_machine.specs.{Starting.{Shape, StandsFor, IsOursForSome}, Device.{Device, Late}}
+use Rattle.bot_machine.specs.{Books.MayFind, Disk.{DiskValue, StepsThrough}}
 use Rattle.bot_machine.specs.Opening.{IsOpened, StartLeaves}
-use Rattle.runner.specs.declared.line.ScriptLine.{ScriptLine}
-use Rattle.runner.specs.declared.line.ScriptKind.{ScriptKind}
+use Rattle.runner.specs.{declared.line.ScriptLine.ScriptLine, declared.line.ScriptKind.ScriptKind}
 use Rattle.runner.specs.declared.line.ScriptKind.TheVariants.{OneLife}
-use Rattle.runner.specs.Line.{Spells, Allows, IsScriptLine}
-use Rattle.runner.specs.Events.{events_of}
+use Rattle.runner.specs.{Line.{Spells, Allows, IsScriptLine}, Events.events_of}
 
 -- the line plays these events, in a script of one life, where packets have at most `most` bytes
 pub record LinePlays (most : ℕ) (line : List ℕ) (events : List Event) : Type 0 where

@@ -1,11 +1,13 @@
 -- The words of a command line.
 use Rattle.std.specs.Prelude.{◌≡◌, ◌⊎◌, ℕ, List, [], ◌∷◌, codes}
+use Rattle.clap.specs.declared.error.kind.ErrorKind.{ErrorKind}
+use Rattle.clap.specs.declared.error.kind.ErrorKind.TheVariants.{OutOfMemory}
 use Rattle.journal.specs.declared.log_format.LogFormat.{LogFormat}
 use Rattle.journal.specs.declared.log_format.LogFormat.TheVariants.{One, Two}
 use Rattle.spec.specs.declared.packet_size.PacketSize.{PacketSize}
 use Rattle.spec.specs.declared.packet_size.PacketSize.TheVariants.{Full64, High512}
-use Rattle.console.specs.Numbers.{SpellsNumber}
-use Rattle.console.specs.Words.{IsFileWord}
+use Rattle.console.specs.{Numbers.SpellsNumber, Words.IsFileWord, declared.refusal.Refusal.Refusal}
+use Rattle.console.specs.declared.refusal.Refusal.TheVariants.{Words, NoMemory}
 use Rattle.runner.specs.declared.task.Task.{Task}
 use Rattle.runner.specs.declared.task.Task.TheVariants.{Format, Migrate, Run, Sim}
 
@@ -74,3 +76,8 @@ SpellsTask words (Sim image script size) =
 -- the words ask for something
 abbrev pub IsCommandLine : List (List ℕ) → Type 0
 IsCommandLine words = (task : Task) × SpellsTask words task
+
+-- words that a parser refuses, but for want of memory, are none of a command
+abbrev pub refusal_of_kind : ErrorKind → Refusal
+refusal_of_kind OutOfMemory = NoMemory
+refusal_of_kind _ = Words

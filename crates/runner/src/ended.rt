@@ -1,7 +1,7 @@
 //! How a command ended, and what it has left of its image file.
 ghost use Rattle.std.specs.Prelude.{◌≡◌, Some, None};
 
-use crate::refusal::Refusal;
+use console::Refusal;
 use medium::FileMedium;
 use std::fs::File;
 

@@ -3,6 +3,7 @@ ghost use Rattle.std.specs.Prelude.{◌≡◌};
 
 use crate::read::ReadFault;
 use bot_machine::{StartError, StartFault};
+use console::Refusal;
 use medium::Medium;
 use thiserror::Error;
 
@@ -71,6 +72,22 @@ impl From<ReadFault> for ScriptFault {
             ReadFault::TooLong => ScriptFault::TooLong,
             ReadFault::NoMemory => ScriptFault::NoMemory,
             ReadFault::Reader => ScriptFault::Reader,
+        }
+    }
+}
+
+impl From<ScriptFault> for Refusal {
+    ghost use Rattle.runner.specs.Refused.{refusal_of_fault};
+
+    ghost from_gives = { λ fault e. e ≡ refusal_of_fault fault };
+
+    fn from(fault: ScriptFault) -> Refusal {
+        match fault {
+            ScriptFault::Line(number) => Refusal::Line(number),
+            ScriptFault::TooLong => Refusal::TooLong,
+            ScriptFault::Start(fault) => Refusal::ImageFault(fault),
+            ScriptFault::NoMemory => Refusal::NoMemory,
+            ScriptFault::Reader | ScriptFault::Writer => Refusal::FileFailed,
         }
     }
 }

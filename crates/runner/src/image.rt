@@ -7,8 +7,7 @@ ghost use Rattle.recovery.specs.Calls.{AreSizes, IsFormatted};
 ghost use Rattle.runner.specs.Program.{AreImageSizes, IsJustOpened, IsMade, simulated};
 
 use crate::read::{ReadFault, read_to_limit};
-use crate::refusal::Refusal;
-use console::{StreamGuard, guard_streams};
+use console::{Refusal, StreamGuard, guard_streams};
 use journal::LogFormat;
 use medium::{FileMedium, Medium, SimError, SimMedium};
 use recovery::FormatFault;
@@ -40,7 +39,7 @@ pub(crate) fn make_image<R: Files<File = File> + AllocGlobal>(
     ensures size { (result ≡ Err Refusal.ImageSize)
         ↔ ¬ AreImageSizes sizes.format sizes.blocks sizes.slots }
     ensures refused { IfErr result (λ refusal. (refusal ≡ Refusal.ImageSize)
-        ⊎ ((refusal ≡ Refusal.File) ⊎ (refusal ≡ Refusal.NoMemory))) }
+        ⊎ ((refusal ≡ Refusal.FileFailed) ⊎ (refusal ≡ Refusal.NoMemory))) }
 {
     let sectors = image_sectors(sizes).ok_or(Refusal::ImageSize)?;
     let _streams = hold(rt)?;
@@ -51,9 +50,9 @@ pub(crate) fn make_image<R: Files<File = File> + AllocGlobal>(
 
 /// Holds the standard streams that were closed at the start.
 pub(crate) fn hold<R: Files>(rt: &R) -> Result<StreamGuard<R::File>, Refusal>
-    ensures { IfErr result (λ refusal. refusal ≡ Refusal.File) }
+    ensures { IfErr result (λ refusal. refusal ≡ Refusal.FileFailed) }
 {
-    guard_streams(rt).ok_or(Refusal::File)
+    guard_streams(rt).ok_or(Refusal::FileFailed)
 }
 
 // Formats a medium of zeros, which has room for these sizes.
@@ -62,12 +61,12 @@ fn format_medium<M: Medium>(medium: &mut M, sizes: ImageSizes) -> Result<(), Ref
         (new_shape sizes.format sizes.blocks sizes.slots) }
     ensures { MatchResult result (λ _. IsFormatted
         (new_shape sizes.format sizes.blocks sizes.slots) (M.state medium.new)
-        × M.follows medium.old medium.new) (λ refusal. refusal ≡ Refusal.File) }
+        × M.follows medium.old medium.new) (λ refusal. refusal ≡ Refusal.FileFailed) }
 {
     match recovery::make(medium, sizes.format, sizes.blocks, sizes.slots) {
         Ok(()) => Ok(()),
         Err(FormatFault::BadSize) => Err(Refusal::ImageSize),
-        Err(FormatFault::Medium) => Err(Refusal::File),
+        Err(FormatFault::Medium) => Err(Refusal::FileFailed),
     }
 }
 
@@ -94,7 +93,7 @@ pub(crate) fn open_image<R: Files<File = File> + AllocGlobal>(
 ) -> Result<FileMedium<File>, Refusal>
     ensures opened { IfOk result (IsJustOpened path.now) }
     ensures refused { IfErr result (λ refusal. (refusal ≡ Refusal.ImageLength)
-        ⊎ ((refusal ≡ Refusal.File) ⊎ (refusal ≡ Refusal.NoMemory))) }
+        ⊎ ((refusal ≡ Refusal.FileFailed) ⊎ (refusal ≡ Refusal.NoMemory))) }
 {
     Ok(FileMedium::open(rt, path)?)
 }
@@ -104,16 +103,16 @@ pub(crate) fn sim_medium<R: Files + AllocGlobal>(rt: &R, path: &str) -> Result<S
     ensures { MatchResult result
         (λ medium. (image : List ℕ) × IsImage image × (medium ≡ simulated image))
         (λ refusal. (refusal ≡ Refusal.ImageLength)
-        ⊎ ((refusal ≡ Refusal.File) ⊎ (refusal ≡ Refusal.NoMemory))) }
+        ⊎ ((refusal ≡ Refusal.FileFailed) ⊎ (refusal ≡ Refusal.NoMemory))) }
 {
     let Ok(mut image) = fs::open(rt, path) else {
-        return Err(Refusal::File);
+        return Err(Refusal::FileFailed);
     };
     let image = match read_to_limit(rt.alloc(), &mut image, IMAGE_LIMIT) {
         Ok(image) => image,
         Err(ReadFault::TooLong) => return Err(Refusal::ImageLength),
         Err(ReadFault::NoMemory) => return Err(Refusal::NoMemory),
-        Err(ReadFault::Reader) => return Err(Refusal::File),
+        Err(ReadFault::Reader) => return Err(Refusal::FileFailed),
     };
     match SimMedium::new(rt.alloc(), image, ROOM) {
         Ok(medium) => Ok(medium),

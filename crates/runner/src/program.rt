@@ -1,11 +1,10 @@
 //! From the words of a command to its exit status.
-ghost use Rattle.std.specs.Prelude.{◌≡◌, ◌≢◌, ◌⊎◌, ◌≤◌, Some, None, Ok, Err, IfOk, IfErr};
+ghost use Rattle.std.specs.Prelude.{◌≡◌, ◌⊎◌, ◌≤◌, Some, None, Ok, Err, IfOk, IfErr};
 ghost use Rattle.std.specs.Prelude.{MatchResult, OnOk, map, drop, string_bytes};
 ghost use Rattle.std.specs.Io.KnownBytes.{Appends};
 ghost use Rattle.console.specs.Streams.{AppendsSome};
 ghost use Rattle.spec.specs.Packets.{bytes_of};
-ghost use Rattle.runner.specs.declared.refusal.Refusal.{Refusal};
-ghost use Rattle.runner.specs.Status.{status_of};
+ghost use Rattle.console.specs.Status.{EndsFor, status_of};
 ghost use Rattle.runner.specs.Task.{IsCommandLine};
 ghost use Rattle.runner.specs.Program.{HasDone, HasNoWords, IsBack, IsFormat, IsFormatRefused};
 ghost use Rattle.runner.specs.Program.{IsMigrated};
@@ -17,12 +16,11 @@ ghost use Rattle.runner.specs.Program.{IsRunRefused, IsSim, IsSimRefused};
 use crate::ended::{Ended, Stopped, stopped_with};
 use crate::fault::ScriptError;
 use crate::image::{ImageSizes, hold, make_image, open_image, sim_medium};
-use crate::refusal::Refusal;
 use crate::script::run_script;
 use crate::sim::sim_script;
 use crate::task::{Task, read_words};
 use bot_machine::PacketSize;
-use console::{ArgumentFault, migration_line, words_of, write_out};
+use console::{ArgumentFault, Refusal, migration_line, words_of, write_out};
 use medium::{FileMedium, Medium};
 use std::alloc::Global;
 use std::fs;
@@ -52,10 +50,8 @@ pub fn command<R: Files<File = File> + AllocGlobal, O: Write, E: Write>(
     ensures words { result.status ≡ 2 → IsCommandLine (map (λ word. word.now) words.now) → ⊥ }
     ensures other_words { (IsCommandLine (map (λ word. word.now) words.now) → ⊥)
         → (result.status ≡ 2) ⊎ (result.status ≡ 5) }
-    ensures refused { result.status ≢ 0
-        → (refusal : Refusal) × (result.status ≡ status_of refusal)
-        × IsRefusedFor (O.contents out.old) (O.contents out.new) result.medium
-        (map (λ word. word.now) words.now) refusal }
+    ensures refused { EndsFor result.status (IsRefusedFor (O.contents out.old) (O.contents out.new)
+        result.medium (map (λ word. word.now) words.now)) }
 {
     match dispatch(rt, words, out) {
         Ok(medium) => Ended { status: 0, medium },
@@ -75,10 +71,10 @@ pub fn run_program<R: Files<File = File> + AllocGlobal, O: Write, E: Write>(
     ensures done { result.status ≡ 0 → MatchResult args (λ all. HasDone (O.contents out.old)
         (O.contents out.new) result.medium (drop 1 (map string_bytes all.items))) (λ fault. ⊥)
         × (err.new ≡ err.old) }
-    ensures refused { result.status ≢ 0 → (refusal : Refusal) × (result.status ≡ status_of refusal)
-        × MatchResult args (λ all. IsRefusedFor (O.contents out.old) (O.contents out.new)
-        result.medium (drop 1 (map string_bytes all.items)) refusal) (λ fault. HasNoWords
-        (O.contents out.old) (O.contents out.new) result.medium fault refusal) }
+    ensures refused { EndsFor result.status (λ refusal. MatchResult args (λ all. IsRefusedFor
+        (O.contents out.old) (O.contents out.new) result.medium
+        (drop 1 (map string_bytes all.items)) refusal) (λ fault. HasNoWords (O.contents out.old)
+        (O.contents out.new) result.medium fault refusal)) }
 {
     let args = match args {
         Ok(args) => args,
@@ -94,10 +90,9 @@ pub fn run_program<R: Files<File = File> + AllocGlobal, O: Write, E: Write>(
 fn refuse<E: Write>(stopped: Stopped<LeftImage>, err: &mut E) -> Ended
     ensures { result ≡ record { status = status_of stopped.refusal; medium = stopped.medium } }
 {
-    let refusal = stopped.refusal;
-    let _ = writeln!(err, "{refusal}");
+    stopped.refusal.report(None, err);
     Ended {
-        status: refusal.status(),
+        status: stopped.refusal.status(),
         medium: stopped.medium,
     }
 }
@@ -148,11 +143,11 @@ fn make<R: Files<File = File> + AllocGlobal, O: Write>(
         stopped.refusal) }
 {
     let medium = make_image(rt, image, sizes)?;
-    tell_of(medium, b"formatted\n", out)
+    say_done(medium, b"formatted\n", out)
 }
 
-// Says what a medium is now, and gives it back.
-fn tell_of<M: Medium, O: Write>(
+// Says what was done to a medium, and gives it back.
+fn say_done<M: Medium, O: Write>(
     medium: M,
     text: &[u8],
     out: &mut O,
@@ -160,12 +155,12 @@ fn tell_of<M: Medium, O: Write>(
     ensures done { IfOk result (λ back. (back ≡ Some medium)
         × Appends (O.contents out.old) (O.contents out.new) text.now) }
     ensures refused { IfErr result (λ stopped. (stopped.medium ≡ Some medium)
-        × (stopped.refusal ≡ Refusal.File)
+        × (stopped.refusal ≡ Refusal.FileFailed)
         × AppendsSome (O.contents out.old) (O.contents out.new) text.now) }
 {
     match write_out(out, text) {
         Ok(()) => Ok(Some(medium)),
-        Err(_) => Err(stopped_with(Refusal::File, medium)),
+        Err(_) => Err(stopped_with(Refusal::FileFailed, medium)),
     }
 }
 
@@ -198,8 +193,8 @@ fn migrate_medium<M: Medium, O: Write>(
         stopped.medium) }
 {
     match recovery::migrate(&mut medium) {
-        Ok((_, was_one)) => tell_of(medium, migration_line(was_one), out),
-        Err(fault) => Err(stopped_with(Refusal::from(fault), medium)),
+        Ok((_, was_one)) => say_done(medium, migration_line(was_one), out),
+        Err(fault) => Err(stopped_with(Refusal::ImageFault(fault), medium)),
     }
 }
 
@@ -220,7 +215,7 @@ fn run<R: Files<File = File> + AllocGlobal, O: Write>(
     let _streams = hold(rt)?;
     let medium = open_image(rt, image)?;
     let Ok(mut script) = fs::open(rt, script) else {
-        return Err(stopped_with(Refusal::File, medium));
+        return Err(stopped_with(Refusal::FileFailed, medium));
     };
     play_on(rt.alloc(), medium, &mut script, out, size)
 }
@@ -263,7 +258,7 @@ fn sim<R: Files<File = File> + AllocGlobal, O: Write>(
     let _streams = hold(rt)?;
     let medium = sim_medium(rt, image)?;
     let Ok(mut script) = fs::open(rt, script) else {
-        return Err(Refusal::File);
+        return Err(Refusal::FileFailed);
     };
     match sim_script(rt.alloc(), medium, &mut script, out, size) {
         Ok(_) => Ok(()),

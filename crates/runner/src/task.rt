@@ -1,17 +1,18 @@
 //! The words of a command line.
 ghost use Rattle.std.specs.Prelude.{◌≡◌, ◌≤◌, ◌⊎◌, [], ◌∷◌, IfOk, IfErr, IfSome, IfNone};
 ghost use Rattle.std.specs.Prelude.{map, length};
-ghost use Rattle.clap.specs.Words.{App, Rule, app_of, with_rule, with_subcommand};
+ghost use Rattle.clap.specs.Words.{App, Rule, app_of, kind_of, with_rule, with_subcommand};
 ghost use Rattle.runner.specs.Parser.{IsArgOf, IsParserOf, word_rule, option_rule};
 ghost use Rattle.runner.specs.Parser.{free_option_rule, bare_app};
 ghost use Rattle.runner.specs.Parser.{usbdisk_app, format_app, migrate_app, script_app};
 ghost use Rattle.runner.specs.Task.{SpellsTask, IsCommandLine, IsFormatEnding, IsPacketEnding};
+ghost use Rattle.runner.specs.Task.{refusal_of_kind};
 
 use crate::image::ImageSizes;
-use crate::refusal::Refusal;
 use bot_machine::PacketSize;
+use clap::error::ErrorKind;
 use clap::{Arg, Command};
-use console::{is_file_word, read_number};
+use console::{Refusal, is_file_word, read_number};
 use journal::LogFormat;
 use std::alloc::{AllocError, Global};
 
@@ -62,8 +63,26 @@ pub(crate) fn read_words<'a>(alloc: Global, words: &'a [&'a str]) -> Result<Task
         ⊎ ((refusal ≡ Refusal.Words)
         × (IsCommandLine (map (λ word. word.now) words.entry.now) → ⊥))) }
 {
-    parser(alloc)?.try_get_matches_from(words)?;
-    exactly(words).ok_or(Refusal::Words)
+    let Ok(parser) = parser(alloc) else {
+        return Err(Refusal::NoMemory);
+    };
+    if let Err(error) = parser.try_get_matches_from(words) {
+        return Err(refusal_of(error));
+    }
+    match exactly(words) {
+        Some(task) => Ok(task),
+        None => Err(Refusal::Words),
+    }
+}
+
+// Why words are refused that the parser does not take.
+fn refusal_of(error: clap::Error) -> Refusal
+    ensures { result ≡ refusal_of_kind (kind_of error) }
+{
+    match error.kind() {
+        ErrorKind::OutOfMemory => Refusal::NoMemory,
+        _ => Refusal::Words,
+    }
 }
 
 // The command line, as a parser knows it. It also takes a hyphen alone for a file, `--`, options in

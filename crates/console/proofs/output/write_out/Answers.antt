@@ -1,8 +1,7 @@
 use Rattle.std.proofs.Common.{◌≡◌, ◌++◌, ◌-◌, ◌∙◌, ℕ, List, [], Bor, take, drop, length, ap, sym, refl, append_assoc, take-append-drop}
-use Rattle.std.proofs.lemmas.List.{take_rest}
-use Rattle.std.proofs.KnownBytes.{Appends-nil, Appends-trans, Appends-kept}
-use Rattle.console.proofs.output.write_out.Goals as goal
+use Rattle.std.proofs.{lemmas.List.take_rest, KnownBytes.{Appends-nil, Appends-trans, Appends-kept}}
 use Rattle.console.proofs.output.write_out.Goals.{in-Ok, in-Err}
+use Rattle.console.proofs.output.write_out.Goals as goal
 
 -- what was written moves from the rest to the front
 moves : (all written rest : List ℕ) (n : ℕ) → all ≡ written ++ rest → all ≡ (written ++ take n rest) ++ take (length rest - n) (drop n rest)

@@ -1,5 +1,4 @@
-use Rattle.std.proofs.Common.{◌≡◌, ◌++◌, ℕ, List}
-use Rattle.std.specs.Io.KnownBytes.{Appends}
+use Rattle.std.{proofs.Common.{◌≡◌, ◌++◌, ℕ, List}, specs.Io.KnownBytes.Appends}
 use Rattle.console.proofs.output.write_out.Given as goal
 
 -- what is gone from the rest was appended

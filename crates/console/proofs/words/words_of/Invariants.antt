@@ -1,5 +1,4 @@
-use Rattle.std.proofs.Common.{◌≡◌, map, take}
-use Rattle.std.specs.Prelude.{string_bytes}
+use Rattle.std.{proofs.Common.{◌≡◌, map, take}, specs.Prelude.string_bytes}
 use Rattle.console.proofs.words.words_of.Given as goal
 
 abbrev pub invariant-loop-arg : goal.invariant-loop-arg

@@ -1,5 +1,4 @@
-use Rattle.std.proofs.Common.{◌∙◌, [], ◌∷◌, inl, inr, refl}
-use Rattle.std.specs.Prelude.{is_ok}
+use Rattle.std.{proofs.Common.{◌∙◌, [], ◌∷◌, inl, inr, refl}, specs.Prelude.is_ok}
 use Rattle.window.specs.declared.call.DeviceCall.TheVariants.{Flush}
 use Rattle.images.proofs.InOrder.{goes_on, named_sync, one_call, stops_before}
 use Rattle.images.proofs.exporting.carry_home.Goals as goal

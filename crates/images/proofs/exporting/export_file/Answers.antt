@@ -1,12 +1,7 @@
-use Rattle.std.proofs.Common.{◌⊎◌, ℕ, List, inl, inr, refl}
-use Rattle.std.specs.Prelude.{Option, None}
-use Rattle.std.proofs.KnownBytes.{Keeps-refl}
+use Rattle.std.{proofs.{Common.{◌⊎◌, ℕ, List, inl, inr, refl}, KnownBytes.Keeps-refl}, specs.Prelude.{Option, None}}
 use Rattle.device_file.specs.Asked.{Told}
-use Rattle.images.specs.Exported.{IsNotExportedOf}
-use Rattle.images.specs.Exporting.{IsNotRecoveredIn}
-use Rattle.images.specs.Opened.{HasNoFirst, WithFirst}
-use Rattle.images.specs.declared.refusal.Refusal.{Refusal}
-use Rattle.images.proofs.Options.{if_ok, if_err}
+use Rattle.images.specs.{Exported.IsNotExportedOf, Exporting.IsNotRecoveredIn, Opened.{HasNoFirst, WithFirst}}
+use Rattle.console.{specs.declared.refusal.Refusal.Refusal, proofs.Options.{if_ok, if_err}}
 use Rattle.images.proofs.exporting.export_file.Goals as goal
 
 -- an image that was not read or not recovered leaves no plain file

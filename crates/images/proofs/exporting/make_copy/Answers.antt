@@ -1,18 +1,12 @@
-use Rattle.std.proofs.Common.{◌≡◌, ◌∙◌, ℕ, List, inl, inr, refl, ap}
-use Rattle.std.specs.Prelude.{Option, Some}
-use Rattle.std.specs.Io.KnownBytes.{Appends}
-use Rattle.std.proofs.KnownBytes.{Keeps-refl}
-use Rattle.console.specs.Streams.{AppendsSome}
+use Rattle.std.proofs.{Common.{◌≡◌, ◌∙◌, ℕ, List, inl, inr, refl, ap}, KnownBytes.Keeps-refl}
+use Rattle.std.specs.{Prelude.{Option, Some}, Io.KnownBytes.Appends}
+use Rattle.console.{specs.Streams.AppendsSome, proofs.Options.{if_ok, if_err}}
 use Rattle.window.specs.declared.call.DeviceCall.{DeviceCall}
 use Rattle.journal.specs.declared.super_sector.Super.{Super}
-use Rattle.device_file.specs.FileValue.{FileValue, IsMade}
-use Rattle.device_file.specs.declared.existing.Existing.{Existing}
-use Rattle.images.specs.Exported.{IsNoCopyMade, IsPlainCopy, exported_text}
-use Rattle.images.specs.Exporting.{HasBlocks}
-use Rattle.images.specs.Opened.{made_at}
+use Rattle.device_file.specs.{FileValue.{FileValue, IsMade}, declared.existing.Existing.Existing}
+use Rattle.images.specs.{Exported.{IsNoCopyMade, IsPlainCopy, exported_text}, Exporting.HasBlocks, Opened.made_at}
 use Rattle.images.specs.declared.ended.Stopped.{Stopped}
-use Rattle.images.specs.declared.refusal.Refusal.TheVariants as refused
-use Rattle.images.proofs.Options.{if_ok, if_err}
+use Rattle.console.specs.declared.refusal.Refusal.TheVariants as refused
 use Rattle.images.proofs.exporting.make_copy.Goals as goal
 
 module _ {holds : ℕ → List ℕ → Type 0} {refuses : ℕ → ℕ → Type 0} {sizes : Super} {waiting : List DeviceCall}
@@ -41,14 +35,14 @@ module _ {holds : ℕ → List ℕ → Type 0} {refuses : ℕ → ℕ → Type 0
   }))
 
 pub returns-in-Ok-clause-ok : goal.returns-in-Ok-clause-ok
-returns-in-Ok-clause-ok g c = if_ok c.tell_of.result
+returns-in-Ok-clause-ok g c = if_ok c.say_done.result
     (copied c.in_ok-plain.ensures.ok c.in-Ok.ensures.size.0 c.in-Ok.ensures.ok (rw c.in-Ok.ensures.size.1 c.requires))
-    c.tell_of.ensures.told
+    c.say_done.ensures.told
 
 pub returns-in-Ok-clause-err : goal.returns-in-Ok-clause-err
-returns-in-Ok-clause-err g c = if_err c.tell_of.result
+returns-in-Ok-clause-err g c = if_err c.say_done.result
     (untold c.in_ok-plain.ensures.ok c.in-Ok.ensures.size.0 c.in-Ok.ensures.ok (rw c.in-Ok.ensures.size.1 c.requires))
-    c.tell_of.ensures.untold
+    c.say_done.ensures.untold
 
 pub returns-in-Err-clause-err : goal.returns-in-Err-clause-err
 returns-in-Err-clause-err g c = rw c.with.ensures (inr (inl (record {

@@ -1,13 +1,8 @@
-use Rattle.std.proofs.Common.{◌≡◌, ◌≤◌, ◌+◌, ℕ, inr, refl, sym, subst}
-use Rattle.std.specs.Prelude.{Option, Some}
-use Rattle.journal.specs.Places.{Shape}
-use Rattle.journal.specs.Formats.{shape_of}
-use Rattle.journal.specs.declared.super_sector.Super.{Super}
+use Rattle.std.{proofs.Common.{◌≡◌, ◌≤◌, ◌+◌, ℕ, inr, refl, sym, subst}, specs.Prelude.{Option, Some}}
+use Rattle.journal.specs.{Places.Shape, Formats.shape_of, declared.super_sector.Super.Super}
 use Rattle.recovery.specs.Calls.{most_start_sends}
 use Rattle.window.specs.Window.{state_of}
-use Rattle.images.specs.Exporting.{recovery_room}
-use Rattle.images.proofs.Misses.{misses, by_image}
-use Rattle.images.specs.Opened.{IsWindowOver}
+use Rattle.images.{specs.{Exporting.recovery_room, Opened.IsWindowOver}, proofs.Misses.{misses, by_image}}
 use Rattle.images.proofs.exporting.recover_in_window.Goals as goal
 
 few : (x y : ℕ) (told : Option Super) (sizes : Super) (shape : Shape) → told ≡ Some sizes → shape ≡ shape_of sizes

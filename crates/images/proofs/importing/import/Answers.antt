@@ -1,5 +1,4 @@
-use Rattle.std.proofs.Common.{inl, inr, refl}
-use Rattle.std.proofs.KnownBytes.{Keeps-refl}
+use Rattle.std.proofs.{Common.{inl, inr, refl}, KnownBytes.Keeps-refl}
 use Rattle.images.proofs.importing.import.Goals as goal
 
 pub returns-in-Err-clause-refused : goal.returns-in-Err-clause-refused

@@ -1,5 +1,4 @@
-use Rattle.std.proofs.Common.{inl, inr, refl}
-use Rattle.std.specs.Prelude.{is_ok}
+use Rattle.std.{proofs.Common.{inl, inr, refl}, specs.Prelude.is_ok}
 use Rattle.journal.specs.Formats.{shape_of}
 use Rattle.images.proofs.Imports.{imported_all, imported_unmade}
 use Rattle.images.proofs.importing.import_blocks.Goals as goal

@@ -1,18 +1,10 @@
-use Rattle.std.proofs.Common.{◌≡◌, ◌∙◌, ℕ, List, inr, ap}
-use Rattle.std.specs.Prelude.{Option, Some}
-use Rattle.std.specs.Io.KnownBytes.{Appends}
-use Rattle.console.specs.Streams.{AppendsSome}
-use Rattle.journal.specs.Places.{Shape, new_shape, sectors_of}
-use Rattle.journal.specs.declared.log_format.LogFormat.{LogFormat}
-use Rattle.device_file.specs.FileValue.{FileValue, IsMade}
-use Rattle.device_file.specs.declared.existing.Existing.{Existing}
-use Rattle.images.specs.Imported.{IsImage, IsNoImage, imported_text}
-use Rattle.images.specs.Importing.{IsImported}
-use Rattle.images.specs.Limits.{AreLimits}
-use Rattle.images.specs.Opened.{made_at}
+use Rattle.std.{proofs.Common.{◌≡◌, ◌∙◌, ℕ, List, inr, ap}, specs.{Prelude.{Option, Some}, Io.KnownBytes.Appends}}
+use Rattle.console.{specs.Streams.AppendsSome, proofs.Options.{if_ok, if_err}}
+use Rattle.journal.specs.{Places.{Shape, new_shape, sectors_of}, declared.log_format.LogFormat.LogFormat}
+use Rattle.device_file.specs.{FileValue.{FileValue, IsMade}, declared.existing.Existing.Existing}
+use Rattle.images.specs.{Imported.{IsImage, IsNoImage, imported_text}, Importing.IsImported, Limits.AreLimits, Opened.made_at}
 use Rattle.images.specs.declared.ended.Stopped.{Stopped}
-use Rattle.images.specs.declared.refusal.Refusal.TheVariants as refused
-use Rattle.images.proofs.Options.{if_ok, if_err}
+use Rattle.console.specs.declared.refusal.Refusal.TheVariants as refused
 use Rattle.images.proofs.importing.import_from.Goals as goal
 
 module _ {holds : ℕ → List ℕ → Type 0} {refuses : ℕ → ℕ → Type 0} {format : LogFormat} {blocks slots : ℕ} {shape : Shape}
@@ -44,11 +36,11 @@ module _ {holds : ℕ → List ℕ → Type 0} {refuses : ℕ → ℕ → Type 0
   })))
 
 pub returns-in-Ok-clause-ok : goal.returns-in-Ok-clause-ok
-returns-in-Ok-clause-ok g c = if_ok c.tell_of.result
+returns-in-Ok-clause-ok g c = if_ok c.say_done.result
     (imported (rw c.sectors.ensures at c.in-Some.ensures) c.in_ok-file.ensures.ok c.in-Ok.ensures.size.0 c.in-Ok.ensures.ok
-    (rw c.in-Ok.ensures.size.1 c.requires)) c.tell_of.ensures.told
+    (rw c.in-Ok.ensures.size.1 c.requires)) c.say_done.ensures.told
 
 pub returns-in-Ok-clause-err : goal.returns-in-Ok-clause-err
-returns-in-Ok-clause-err g c = if_err c.tell_of.result
+returns-in-Ok-clause-err g c = if_err c.say_done.result
     (untold (rw c.sectors.ensures at c.in-Some.ensures) c.in_ok-file.ensures.ok c.in-Ok.ensures.size.0 c.in-Ok.ensures.ok
-    (rw c.in-Ok.ensures.size.1 c.requires)) c.tell_of.ensures.untold
+    (rw c.in-Ok.ensures.size.1 c.requires)) c.say_done.ensures.untold

@@ -1,5 +1,4 @@
-use Rattle.images.proofs.ExportLaw.{export_holds}
-use Rattle.images.proofs.NewImages.{makes_image}
+use Rattle.images.proofs.{ExportLaw.export_holds, NewImages.makes_image}
 use Rattle.images.proofs.laws.copy_laws.Goals as goal
 
 pub returns-clause-exports : goal.returns-clause-exports

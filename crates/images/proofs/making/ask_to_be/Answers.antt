@@ -1,13 +1,11 @@
-use Rattle.std.proofs.Common.{◌∙◌, Bool, [], ◌∷◌, false}
-use Rattle.std.specs.Prelude.{is_ok}
+use Rattle.std.{proofs.Common.{◌∙◌, Bool, [], ◌∷◌, false}, specs.Prelude.is_ok}
 use Rattle.window.specs.declared.call.DeviceCall.TheVariants.{Write, Flush}
 use Rattle.device_file.specs.Asked.{AsksInOrder, Told}
 use Rattle.journal.specs.Formats.{shape_of}
 use Rattle.images.specs.NewImage.{IsAskedToBe, making}
-use Rattle.images.proofs.InOrder.{goes_on, named_sync, one_call, stops_before}
+use Rattle.images.proofs.{InOrder.{goes_on, named_sync, one_call, stops_before}, making.ask_to_be.Goals.After-first_head}
 use Rattle.images.proofs.making.ask_to_be.Given as given
 use Rattle.images.proofs.making.ask_to_be.Goals as goal
-use Rattle.images.proofs.making.ask_to_be.Goals.{After-first_head}
 
 -- with this super and this head
 asked : (g : given.Over) (c : After-first_head g) (good : Bool) (old new : Told)

@@ -1,5 +1,4 @@
-use Rattle.std.proofs.Common.{◌∙◌, true}
-use Rattle.std.specs.Prelude.{is_ok}
+use Rattle.std.{proofs.Common.{◌∙◌, true}, specs.Prelude.is_ok}
 use Rattle.window.specs.declared.call.DeviceCall.TheVariants.{Write, Flush}
 use Rattle.images.proofs.InOrder.{one_call, goes_on, named_write}
 use Rattle.images.proofs.making.write_behind.Goals as goal

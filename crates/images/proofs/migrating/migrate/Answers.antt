@@ -1,13 +1,8 @@
-use Rattle.std.proofs.Common.{◌≡◌, ℕ, Bool, List, inl, inr, refl, subst}
-use Rattle.std.specs.Io.KnownBytes.{Appends}
-use Rattle.std.proofs.KnownBytes.{Keeps-refl}
+use Rattle.std.{proofs.{Common.{◌≡◌, ℕ, Bool, List, inl, inr, refl, subst}, KnownBytes.Keeps-refl}, specs.Io.KnownBytes.Appends}
 use Rattle.medium.specs.declared.file_call.Access.TheVariants.{Change}
-use Rattle.device_file.specs.Asked.{begun}
-use Rattle.device_file.specs.FileValue.{FileValue, IsOpened}
-use Rattle.console.specs.Streams.{AppendsSome}
-use Rattle.images.specs.Migrating.{IsMigratedOf, IsNotMigratedOf}
-use Rattle.images.specs.Program.{unnamed, untold}
-use Rattle.images.specs.declared.refusal.Refusal.{Refusal}
+use Rattle.device_file.specs.{Asked.begun, FileValue.{FileValue, IsOpened}}
+use Rattle.console.specs.{Streams.AppendsSome, declared.refusal.Refusal.Refusal}
+use Rattle.images.specs.{Migrating.{IsMigratedOf, IsNotMigratedOf}, Program.{unnamed, untold}}
 use Rattle.images.proofs.migrating.migrate.Goals as goal
 
 -- a file that was just opened was asked nothing, and is as large as before

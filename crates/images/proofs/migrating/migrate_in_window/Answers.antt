@@ -1,14 +1,9 @@
-use Rattle.std.proofs.Common.{◌≡◌, ◌≤◌, ◌+◌, ℕ, inl, inr, refl, sym, subst}
-use Rattle.std.specs.Prelude.{Option, Some}
-use Rattle.journal.specs.Places.{Shape}
-use Rattle.journal.specs.Formats.{shape_of}
-use Rattle.journal.specs.declared.super_sector.Super.{Super}
+use Rattle.std.{proofs.Common.{◌≡◌, ◌≤◌, ◌+◌, ℕ, inl, inr, refl, sym, subst}, specs.Prelude.{Option, Some}}
+use Rattle.journal.specs.{Places.Shape, Formats.shape_of, declared.super_sector.Super.Super}
 use Rattle.recovery.specs.Recovered.{most_migration_sends}
 use Rattle.window.specs.Window.{state_of}
-use Rattle.images.specs.Migrating.{migration_room}
+use Rattle.images.{specs.{Migrating.migration_room, Opened.IsWindowOver}, proofs.Misses.{misses, migration_by_image}}
 use Rattle.device_file.proofs.Fresh.{covers_fresh}
-use Rattle.images.proofs.Misses.{misses, migration_by_image}
-use Rattle.images.specs.Opened.{IsWindowOver}
 use Rattle.images.proofs.migrating.migrate_in_window.Goals as goal
 
 few : (x y : ℕ) (told : Option Super) (sizes : Super) (shape : Shape) → told ≡ Some sizes → shape ≡ shape_of sizes

@@ -1,15 +1,14 @@
-use Rattle.std.proofs.Common.{subst, sym, ◌∙◌, ◌≤◌, ℕ, ap}
+use Rattle.std.proofs.Common.{◌∙◌, ap, sym}
+use Rattle.console.proofs.Statuses.{refused_status}
 use Rattle.images.specs.declared.ended.Ended.{Ended}
-use Rattle.images.proofs.Statuses.{at_most_5, never_0}
 use Rattle.images.proofs.program.command.Goals as goal
 
 pub returns-in-Err-clause-statuses : goal.returns-in-Err-clause-statuses
-returns-in-Err-clause-statuses g c =
-    subst (λ (n : ℕ). n ≤ 5) (sym (ap (λ (e : Ended). e.status) c.refuse.ensures.is)) (at_most_5 c.in-Err.refused.refusal)
+returns-in-Err-clause-statuses g c = rw c.refuse.ensures.is (refused_status c.in-Err.refused.refusal).most
 
 pub returns-in-Err-clause-done : goal.returns-in-Err-clause-done
 returns-in-Err-clause-done g c = λ none.
-    absurd (never_0 c.in-Err.refused.refusal (sym (ap (λ (e : Ended). e.status) c.refuse.ensures.is) ∙ none))
+    absurd ((refused_status c.in-Err.refused.refusal).some (sym (ap (λ (e : Ended). e.status) c.refuse.ensures.is) ∙ none))
 
 pub returns-in-Ok-clause-done : goal.returns-in-Ok-clause-done
 returns-in-Ok-clause-done g c = λ done. rw c.end.ensures.is c.in-Ok.ensures.done

@@ -1,6 +1,6 @@
 use Rattle.std.proofs.Common.{inr}
 use Rattle.images.specs.Task.{wanted_of}
-use Rattle.images.proofs.Options.{if_ok, if_err}
+use Rattle.console.proofs.Options.{if_ok, if_err}
 use Rattle.images.proofs.program.dispatch.Goals as goal
 
 pub returns-in-Some-clause-done : goal.returns-in-Some-clause-done

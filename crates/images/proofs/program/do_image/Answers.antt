@@ -1,5 +1,5 @@
 use Rattle.std.proofs.Common.{refl}
-use Rattle.images.proofs.Options.{if_ok, if_err}
+use Rattle.console.proofs.Options.{if_ok, if_err}
 use Rattle.images.proofs.program.do_image.Goals as goal
 
 pub returns-in-Help-clause-done : goal.returns-in-Help-clause-done

@@ -1,12 +1,8 @@
-use Rattle.std.proofs.Common.{◌≡◌, subst, sym, None, Option, Result, Ok, Err}
-use Rattle.std.specs.Prelude.{IfOk, IfErr}
+use Rattle.std.{proofs.Common.{◌≡◌, subst, sym, None, Option, Result, Ok, Err}, specs.Prelude.{IfOk, IfErr}}
 use Rattle.device_file.specs.FileValue.{FileValue}
-use Rattle.images.specs.Program.{HasDone, HasNotDone}
-use Rattle.images.specs.Task.{image_wanted}
-use Rattle.images.specs.declared.ended.LeftFiles.{LeftFiles}
-use Rattle.images.specs.declared.ended.Refused.{Refused}
-use Rattle.images.specs.declared.ended.Stopped.{Stopped}
-use Rattle.images.specs.declared.refusal.Refusal.{Refusal}
+use Rattle.images.specs.{Program.{HasDone, HasNotDone}, Task.image_wanted, declared.ended.LeftFiles.LeftFiles}
+use Rattle.images.specs.{declared.ended.Refused.Refused, declared.ended.Stopped.Stopped}
+use Rattle.console.specs.declared.refusal.Refusal.{Refusal}
 use Rattle.images.proofs.program.do_task.Goals as goal
 
 -- what holds of one file, and of no plain one

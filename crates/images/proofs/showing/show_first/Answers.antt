@@ -1,6 +1,4 @@
-use Rattle.std.proofs.Common.{◌∙◌, ℕ, List, inl, inr, refl, subst}
-use Rattle.std.specs.Io.KnownBytes.{Appends}
-use Rattle.std.proofs.KnownBytes.{Keeps-refl}
+use Rattle.std.{proofs.{Common.{◌∙◌, ℕ, List, inl, inr, refl, subst}, KnownBytes.Keeps-refl}, specs.Io.KnownBytes.Appends}
 use Rattle.console.specs.Streams.{AppendsSome}
 use Rattle.window.specs.Window.{state_of}
 use Rattle.images.proofs.Misses.{misses, none_sent, look_by_image}

@@ -1,9 +1,7 @@
-use Rattle.std.proofs.Common.{◌≡◌, ℕ, List, [], ◌∷◌, ap, subst, map, length, arith, codes}
-use Rattle.std.specs.Prelude.{get_or}
-use Rattle.std.specs.Borrow.{Bor}
+use Rattle.std.{proofs.Common.{◌≡◌, ℕ, List, [], ◌∷◌, ap, subst, map, length, arith, codes}, specs.{Prelude.get_or, Borrow.Bor}}
 use Rattle.images.specs.Task.{Wanted, Asks, IsMakeLine, IsImportLine, IsExportLine}
 use Rattle.images.specs.Task.Wanted.{Help, Version, Show, Migrate, Make, Import, Export}
-use Rattle.images.proofs.Options.{none_weaker}
+use Rattle.console.proofs.Options.{none_weaker}
 use Rattle.images.proofs.task.long_task.Goals as goal
 
 -- the first letter of the first word

@@ -1,9 +1,7 @@
-use Rattle.std.proofs.Common.{◌≡◌, ◌≤◌, ◌-◌, ℕ, List, ◌∷◌, ap, sym, subst, map, take, drop, length, arith, codes}
-use Rattle.std.specs.Prelude.{get_or}
-use Rattle.std.specs.Borrow.{Bor}
-use Rattle.std.proofs.lemmas.List.{take_all}
+use Rattle.std.proofs.{Common.{◌≡◌, ◌≤◌, ◌-◌, ℕ, List, ◌∷◌, ap, sym, subst, map, take, drop, length, arith, codes}, lemmas.List.take_all}
+use Rattle.std.specs.{Prelude.get_or, Borrow.Bor}
 use Rattle.images.specs.Task.{IsMakeLine}
-use Rattle.images.proofs.Options.{none_weaker}
+use Rattle.console.proofs.Options.{none_weaker}
 use Rattle.images.proofs.task.make_task.Goals as goal
 
 abbrev Word : Type 0

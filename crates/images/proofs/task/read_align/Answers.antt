@@ -1,7 +1,6 @@
-use Rattle.std.proofs.Common.{◌∙◌, ℕ, List, [], ap, sym, subst}
-use Rattle.std.specs.Prelude.{get_or}
+use Rattle.std.{proofs.Common.{◌∙◌, ℕ, List, [], ap, sym, subst}, specs.Prelude.get_or}
 use Rattle.images.specs.Task.{SpellsBytes}
-use Rattle.images.proofs.Options.{none_weaker}
+use Rattle.console.proofs.Options.{none_weaker}
 use Rattle.images.proofs.task.read_align.Goals as goal
 
 pub returns-clause-none : goal.returns-clause-none

@@ -1,5 +1,5 @@
 use Rattle.images.proofs.Bytes.{never_empty, only_units, plain_bytes}
-use Rattle.images.proofs.Options.{none_weaker}
+use Rattle.console.proofs.Options.{none_weaker}
 use Rattle.images.proofs.task.read_bytes.Goals as goal
 
 pub returns-in_default-clause-none : goal.returns-in_default-clause-none

@@ -1,13 +1,9 @@
-use Rattle.std.proofs.Common.{◌≡◌, ◌≤◌, ◌-◌, ◌++◌, ◌∙◌, ℕ, List, [], ◌∷◌, Some, None, ap, sym, subst, map, take, drop}
-use Rattle.std.proofs.Common.{length, arith}
-use Rattle.std.specs.Prelude.{get_or}
-use Rattle.std.specs.Borrow.{Bor}
-use Rattle.std.proofs.lemmas.List.{take_all}
-use Rattle.device_file.specs.declared.existing.Existing.{Existing}
-use Rattle.device_file.specs.declared.existing.Existing.TheVariants.{Keep, Replace}
+use Rattle.std.proofs.Common.{◌≡◌, ◌≤◌, ◌-◌, ◌++◌, ◌∙◌, ℕ, List, [], ◌∷◌, Some, None, ap, sym, subst, map, take, drop, length, arith}
+use Rattle.std.{proofs.lemmas.List.take_all, specs.{Prelude.get_or, Borrow.Bor}}
+use Rattle.device_file.specs.{declared.existing.Existing.Existing, declared.existing.Existing.TheVariants.{Keep, Replace}}
 use Rattle.journal.specs.declared.log_format.LogFormat.{LogFormat}
 use Rattle.images.specs.Task.{AreAlignWords, AreNewOptions, AreOptions, HasNewOptions, replace_words}
-use Rattle.images.proofs.Options.{none_so}
+use Rattle.console.proofs.Options.{none_so}
 use Rattle.images.proofs.task.read_new_options.Goals as goal
 
 abbrev Word : Type 0

@@ -1,6 +1,6 @@
 use Rattle.std.proofs.Common.{ℕ, List, ◌∷◌, ap, sym, subst, drop, map, codes}
 use Rattle.images.specs.Task.{AreNewOptions, HasNewOptions, IsMakeLine}
-use Rattle.images.proofs.Options.{none_so}
+use Rattle.console.proofs.Options.{none_so}
 use Rattle.images.proofs.task.sized_task.Goals as goal
 
 -- what stands behind the blocks

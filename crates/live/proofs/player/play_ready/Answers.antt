@@ -1,8 +1,6 @@
-use Rattle.window.specs.Window.{mirror_of}
-use Rattle.window.proofs.InFlight.{parts_follow}
+use Rattle.window.{specs.Window.mirror_of, proofs.InFlight.parts_follow}
 use Rattle.device_file.proofs.Fresh.{served_after}
-use Rattle.live.specs.Missing.{window_of}
-use Rattle.live.proofs.Ready.{event_kept, event_served, ready_again}
+use Rattle.live.{specs.Missing.window_of, proofs.Ready.{event_kept, event_served, ready_again}}
 use Rattle.live.proofs.player.play_ready.Goals as goal
 
 pub returns : goal.returns

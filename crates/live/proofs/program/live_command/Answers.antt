@@ -1,5 +1,6 @@
-use Rattle.std.proofs.Common.{◌∙◌, map, sym, arith}
-use Rattle.live.proofs.Refusals.{most_status, some_status, no_line_at_two, two_without_line, three_unasked}
+use Rattle.std.proofs.Common.{◌∙◌, sym, arith}
+use Rattle.console.proofs.Statuses.{refused_status}
+use Rattle.live.proofs.Refusals.{no_line_at_two, two_without_line, three_unasked}
 use Rattle.live.proofs.program.live_command.Goals as goal
 
 pub returns-in-Ok-clause-words : goal.returns-in-Ok-clause-words
@@ -12,18 +13,15 @@ returns-in-Ok-clause-statuses g c = record { most = omega arith; unasked = λ th
 
 pub returns-in-Err-clause-statuses : goal.returns-in-Err-clause-statuses
 returns-in-Err-clause-statuses g c = record {
-  most = rw c.status.ensures (most_status c.in-Err.stopped.refusal);
-  unasked = λ three. three_unasked _ _ _ _ _ _ (map (λ word. word.now) c.args.words.now) c.in-Err.stopped.refusal c.in-Err.ensures.refused
-      (sym c.status.ensures ∙ three);
+  most = rw c.status.ensures (refused_status c.in-Err.stopped.refusal).most;
+  unasked = λ three. three_unasked _ _ _ _ _ _ _ _ c.in-Err.ensures.refused (sym c.status.ensures ∙ three);
 }
 
 pub returns-in-Err-clause-done : goal.returns-in-Err-clause-done
-returns-in-Err-clause-done g c zero = absurd (some_status c.in-Err.stopped.refusal (sym c.status.ensures ∙ zero))
+returns-in-Err-clause-done g c zero = absurd ((refused_status c.in-Err.stopped.refusal).some (sym c.status.ensures ∙ zero))
 
 pub returns-in-Err-clause-words : goal.returns-in-Err-clause-words
-returns-in-Err-clause-words g c =
-    let words = map (λ word. word.now) c.args.words.now in
-    let refusal = c.in-Err.stopped.refusal in (
-      λ two. no_line_at_two _ _ _ _ _ _ words refusal c.in-Err.ensures.refused (sym c.status.ensures ∙ two),
-      λ never. c.status.ensures ∙ two_without_line _ _ _ _ _ _ words refusal c.in-Err.ensures.refused never,
-    )
+returns-in-Err-clause-words g c = (
+  λ two. no_line_at_two _ _ _ _ _ _ _ _ c.in-Err.ensures.refused (sym c.status.ensures ∙ two),
+  λ never. c.status.ensures ∙ two_without_line _ _ _ _ _ _ _ _ c.in-Err.ensures.refused never,
+)

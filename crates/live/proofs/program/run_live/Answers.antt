@@ -1,24 +1,16 @@
-use Rattle.std.proofs.Common.{◌∙◌, ap, inl, inr, refl, map, drop}
-use Rattle.std.proofs.KnownBytes.{Keeps-refl}
-use Rattle.std.specs.Prelude.{string_bytes}
-use Rattle.live.specs.declared.ended.Ended.{Ended}
-use Rattle.live.specs.declared.refusal.Refusal.TheVariants as refused
+use Rattle.std.{proofs.{Common.{◌∙◌, ap, inl, inr, refl, map, drop}, KnownBytes.Keeps-refl}, specs.Prelude.string_bytes}
+use Rattle.console.specs.declared.refusal.Refusal.TheVariants as refused
 use Rattle.live.proofs.program.run_live.Goals as goal
 
 pub returns-clause-refused : goal.returns-clause-refused
-returns-clause-refused g c not =
-    let ended = c.refuse-in-Err-words_of.ensures in (
-      refused.NoMemory,
-      ap (λ (e : Ended). e.status) ended,
-      rw c.in-Ok.is (inl (record {
-        refused_is = refl;
-        untouched = record {
-          none = ap (λ (e : Ended). e.file) ended;
-          unread = refl;
-          kept = Keeps-refl (g.O.Write.contents c.args.streams.now.out);
-        };
-      })),
-    )
+returns-clause-refused g c not = rw (c.refuse-in-Err-words_of.ensures, c.in-Ok.is) (
+  refused.NoMemory,
+  refl,
+  inl (record {
+    refused_is = refl;
+    untouched = record { none = refl; unread = refl; kept = Keeps-refl (g.O.Write.contents c.args.streams.now.out) };
+  }),
+)
 
 pub returns-in-Ok-words_of : goal.returns-in-Ok-words_of
 returns-in-Ok-words_of g c =

@@ -1,5 +1,5 @@
 use Rattle.std.proofs.Common.{inr}
-use Rattle.runner.proofs.Options.{if_ok, if_err}
+use Rattle.console.proofs.Options.{if_ok, if_err}
 use Rattle.live.proofs.program.serve_image.Goals as goal
 
 pub returns-in-Ok-clause-done : goal.returns-in-Ok-clause-done

@@ -1,8 +1,6 @@
 use Rattle.std.proofs.Common.{arith}
 use Rattle.spec.specs.Packets.{bytes_of}
-use Rattle.runner.specs.Left.{parts_left}
-use Rattle.runner.specs.Lines.{lines_of}
-use Rattle.runner.proofs.CheckedLines.{read-more, read-all, number-bound}
+use Rattle.runner.{specs.{Left.parts_left, Lines.lines_of}, proofs.CheckedLines.{read-more, read-all, number-bound}}
 use Rattle.runner.proofs.check.check_script.Goals as goal
 
 pub overflow_add-number : goal.overflow_add-number

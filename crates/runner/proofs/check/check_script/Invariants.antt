@@ -1,7 +1,5 @@
 use Rattle.spec.specs.Packets.{bytes_of}
-use Rattle.runner.specs.Left.{parts_left}
-use Rattle.runner.specs.Lines.{lines_of}
-use Rattle.runner.proofs.CheckedLines.{IsReadTo}
+use Rattle.runner.{specs.{Left.parts_left, Lines.lines_of}, proofs.CheckedLines.IsReadTo}
 use Rattle.runner.proofs.check.check_script.Given as goal
 
 abbrev pub invariant-loop-line : goal.invariant-loop-line

@@ -1,5 +1,4 @@
-use Rattle.std.proofs.Common.{◌∙◌, ap, take}
-use Rattle.std.proofs.lemmas.List.{take-replicate}
+use Rattle.std.proofs.{Common.{◌∙◌, ap, take}, lemmas.List.take-replicate}
 use Rattle.runner.proofs.events.packet_of.Goals as goal
 
 pub returns : goal.returns

@@ -1,5 +1,4 @@
-use Rattle.std.proofs.Common.{◌≡◌, ◌≤◌, ℕ, suc, List, [], ◌∷◌, ◌++◌, map, arith, ◌∙◌, sym, ap}
-use Rattle.std.specs.Prelude.{All, decimal}
+use Rattle.std.{proofs.Common.{◌≡◌, ◌≤◌, ℕ, suc, List, [], ◌∷◌, ◌++◌, map, arith, ◌∙◌, sym, ap}, specs.Prelude.{All, decimal}}
 use Rattle.console.specs.Numbers.{SpellsNumber}
 use Rattle.runner.specs.Left.{parts_left}
 use Rattle.runner.proofs.kept.read_numbers.Goals as goal

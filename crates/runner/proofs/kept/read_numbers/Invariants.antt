@@ -1,7 +1,5 @@
-use Rattle.std.proofs.Common.{◌≡◌, ◌++◌, ◌≤◌, length, map}
-use Rattle.std.specs.Prelude.{All, decimal}
-use Rattle.runner.specs.Left.{parts_left}
-use Rattle.runner.specs.Lines.{words_of}
+use Rattle.std.{proofs.Common.{◌≡◌, ◌++◌, ◌≤◌, length, map}, specs.Prelude.{All, decimal}}
+use Rattle.runner.specs.{Left.parts_left, Lines.words_of}
 use Rattle.runner.proofs.kept.read_numbers.Given as goal
 
 abbrev pub invariant-loop-word : goal.invariant-loop-word

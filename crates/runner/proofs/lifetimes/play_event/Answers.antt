@@ -1,5 +1,4 @@
-use Rattle.std.proofs.Common.{◌∙◌}
-use Rattle.std.proofs.lemmas.Result.{err_from_is_err_and}
+use Rattle.std.proofs.{Common.◌∙◌, lemmas.Result.err_from_is_err_and}
 use Rattle.runner.proofs.LifeActions.{acted-event, tells-event, breaks-start, breaks-writer}
 use Rattle.runner.proofs.lifetimes.play_event.Goals as goal
 

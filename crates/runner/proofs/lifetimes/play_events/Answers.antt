@@ -1,16 +1,10 @@
 use Rattle.std.proofs.Common.{◌≡◌, ◌∷◌, [], ◌++◌, ◌∙◌, ap, sym, subst, append_assoc, append-nil, List, ℕ, refl}
+use Rattle.std.proofs.{lemmas.List.Concat.flat_map-cons, lemmas.List.Elements.All-rest, lemmas.Result.err_from_is_err_and}
 use Rattle.std.specs.Prelude.{flat_map}
-use Rattle.std.proofs.lemmas.List.Concat.{flat_map-cons}
-use Rattle.std.proofs.lemmas.List.Elements.{All-rest}
-use Rattle.std.proofs.lemmas.Result.{err_from_is_err_and}
-use Rattle.bot_machine.specs.Device.{Device}
-use Rattle.bot_machine.specs.Fitting.{IsWithin, AreWithin}
-use Rattle.spec.specs.declared.event.Event.{Event}
-use Rattle.spec.specs.Lives.{Action}
-use Rattle.runner.specs.Events.{events_of}
-use Rattle.runner.specs.Lifetimes.{comes}
-use Rattle.runner.proofs.LifeActions.{tells-none, tells-more, breaks-more}
-use Rattle.runner.proofs.Within.{next_within}
+use Rattle.bot_machine.specs.{Device.Device, Fitting.{IsWithin, AreWithin}}
+use Rattle.spec.specs.{declared.event.Event.Event, Lives.Action}
+use Rattle.runner.specs.{Events.events_of, Lifetimes.comes}
+use Rattle.runner.proofs.{LifeActions.{tells-none, tells-more, breaks-more}, Within.next_within}
 use Rattle.runner.proofs.lifetimes.play_events.Goals as goal
 
 -- what all events do, where these have come, this one comes, and these are left

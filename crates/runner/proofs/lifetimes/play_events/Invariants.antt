@@ -1,10 +1,7 @@
-use Rattle.std.proofs.Common.{◌≡◌, ◌++◌, List}
-use Rattle.std.specs.Prelude.{flat_map}
+use Rattle.std.{proofs.Common.{◌≡◌, ◌++◌, List}, specs.Prelude.flat_map}
 use Rattle.bot_machine.specs.Fitting.{AreWithin}
 use Rattle.spec.specs.Lives.{Action}
-use Rattle.runner.specs.Events.{events_of}
-use Rattle.runner.specs.Lifetimes.{comes}
-use Rattle.runner.specs.PlayedLives.{TellsLives}
+use Rattle.runner.specs.{Events.events_of, Lifetimes.comes, PlayedLives.TellsLives}
 use Rattle.runner.proofs.lifetimes.play_events.Given as goal
 
 abbrev pub invariant-loop-event : goal.invariant-loop-event

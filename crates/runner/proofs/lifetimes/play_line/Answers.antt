@@ -1,15 +1,10 @@
-use Rattle.std.proofs.Common.{◌∷◌, [], ℕ, sym, subst, refl}
-use Rattle.std.specs.Prelude.{flat_map}
-use Rattle.spec.specs.Lives.{arms, fails, cuts}
+use Rattle.std.{proofs.Common.{◌∷◌, [], ℕ, sym, subst, refl}, specs.Prelude.flat_map}
+use Rattle.spec.specs.{Lives.{arms, fails, cuts}, Packets.bytes_of}
 use Rattle.bot_machine.specs.Fitting.{AreWithin}
-use Rattle.spec.specs.Packets.{bytes_of}
-use Rattle.runner.specs.declared.line.ScriptLine.TheVariants.{Fuse, Fail, Cut}
-use Rattle.runner.specs.Events.{events_of}
-use Rattle.runner.specs.Lifetimes.{comes, is_kept}
-use Rattle.runner.proofs.LifeActions.{acted-fuse, acted-fail, tells-silently}
-use Rattle.runner.proofs.ActingLines.{line_acts, event_line_acts}
-use Rattle.runner.proofs.Options.{is_some_where}
+use Rattle.runner.specs.{declared.line.ScriptLine.TheVariants.{Fuse, Fail, Cut}, Events.events_of, Lifetimes.{comes, is_kept}}
+use Rattle.runner.proofs.{LifeActions.{acted-fuse, acted-fail, tells-silently}, ActingLines.{line_acts, event_line_acts}}
 use Rattle.runner.proofs.Within.{events_within}
+use Rattle.console.proofs.Options.{is_some_where}
 use Rattle.runner.proofs.lifetimes.play_line.Goals as goal
 
 pub unwrap-requires : goal.unwrap-requires

@@ -1,10 +1,7 @@
-use Rattle.std.proofs.Common.{[], ◌∙◌, ap, sym, arith}
-use Rattle.std.proofs.lemmas.List.Elements.{All-rest}
+use Rattle.std.proofs.{Common.{[], ◌∙◌, ap, sym, arith}, lemmas.List.Elements.All-rest}
 use Rattle.bot_machine.specs.Device.{Device}
 use Rattle.spec.specs.Packets.{bytes_of}
-use Rattle.runner.specs.Left.{parts_left}
-use Rattle.runner.specs.Line.{IsScriptLine}
-use Rattle.runner.specs.declared.line.ScriptKind.TheVariants.{Lives}
+use Rattle.runner.specs.{Left.parts_left, Line.IsScriptLine, declared.line.ScriptKind.TheVariants.Lives}
 use Rattle.runner.proofs.ActingLines.{lines-none, lines-all, lines-more, lines-break}
 use Rattle.runner.proofs.lifetimes.play_lives.Goals as goal
 

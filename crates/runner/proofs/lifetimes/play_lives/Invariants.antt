@@ -1,9 +1,6 @@
 use Rattle.std.specs.Prelude.{All}
 use Rattle.spec.specs.Packets.{bytes_of}
-use Rattle.runner.specs.declared.line.ScriptKind.TheVariants.{Lives}
-use Rattle.runner.specs.Left.{parts_left}
-use Rattle.runner.specs.Line.{IsScriptLine}
-use Rattle.runner.specs.Lines.{lines_of}
+use Rattle.runner.specs.{declared.line.ScriptKind.TheVariants.Lives, Left.parts_left, Line.IsScriptLine, Lines.lines_of}
 use Rattle.runner.proofs.ActingLines.{ArePlayedTo}
 use Rattle.runner.proofs.lifetimes.play_lives.Given as goal
 

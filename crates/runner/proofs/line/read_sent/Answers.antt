@@ -1,6 +1,5 @@
 use Rattle.std.proofs.Common.{◌≡◌, ◌⊎◌, inl, inr, refl, ℕ, List, codes}
-use Rattle.runner.specs.declared.line.ScriptKind.TheVariants.{OneLife}
-use Rattle.runner.specs.declared.line.ScriptLine.{ScriptLine}
+use Rattle.runner.specs.{declared.line.ScriptKind.TheVariants.OneLife, declared.line.ScriptLine.ScriptLine}
 use Rattle.runner.specs.declared.line.ScriptLine.TheVariants.{Skipped, Out, Fill, In, Setup, Tick}
 use Rattle.runner.specs.Line.{Spells, Allows, SpellsOut, SpellsFill, SpellsSetup, SpellsCount}
 use Rattle.spec.specs.Packets.{bytes_of}

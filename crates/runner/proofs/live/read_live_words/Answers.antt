@@ -1,6 +1,5 @@
-use Rattle.std.proofs.Common.{◌≡◌, ◌≤◌, ◌-◌, ◌∙◌, ℕ, List, ◌∷◌, ap, sym, subst, map, take, drop, length, arith}
+use Rattle.std.proofs.{Common.{◌≡◌, ◌≤◌, ◌-◌, ◌∙◌, ℕ, List, ◌∷◌, ap, sym, subst, map, take, drop, length, arith}, lemmas.List.take_all}
 use Rattle.std.specs.Borrow.{Bor}
-use Rattle.std.proofs.lemmas.List.{take_all}
 use Rattle.runner.specs.Task.{IsPacketEnding}
 use Rattle.runner.proofs.live.read_live_words.Goals as goal
 

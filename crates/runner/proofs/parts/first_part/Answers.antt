@@ -1,11 +1,8 @@
 use Rattle.std.proofs.Common.{◌≡◌, ◌==◌, ◌≤◌, ◌+◌, ℕ, List, [], ◌∷◌, Bool, length, take, drop, Some, None, arith, ◌-◌, sym, length-drop}
-use Rattle.std.proofs.lemmas.Bool.Decides.{nat_tests}
-use Rattle.std.specs.List.{position, position_or_len}
-use Rattle.std.proofs.lemmas.List.Quantifiers.{position-Some}
-use Rattle.std.proofs.lemmas.List.Sums.{position_or_len_is, fails_before_first}
-use Rattle.std.proofs.lemmas.List.Splits.{slice_split_first, slice_split_none}
+use Rattle.std.proofs.{lemmas.Bool.Decides.nat_tests, lemmas.List.Quantifiers.position-Some}
+use Rattle.std.proofs.{lemmas.List.Sums.{position_or_len_is, fails_before_first}, lemmas.List.Splits.{slice_split_first, slice_split_none}}
+use Rattle.std.{proofs.lemmas.List.take_all, specs.List.{position, position_or_len}}
 use Rattle.runner.specs.Lines.{parts_of}
-use Rattle.std.proofs.lemmas.List.{take_all}
 use Rattle.runner.proofs.parts.first_part.Goals as goal
 
 -- the parts, where the first separator stands at an index

@@ -1,10 +1,7 @@
-use Rattle.std.proofs.Common.{◌∷◌, [], ◌++◌, ◌∙◌, ℕ, ap, sym, subst, append_assoc}
-use Rattle.std.proofs.lemmas.Result.{err_from_is_err_and}
+use Rattle.std.proofs.{Common.{◌∷◌, [], ◌++◌, ◌∙◌, ℕ, ap, sym, subst, append_assoc}, lemmas.Result.err_from_is_err_and}
 use Rattle.bot_machine.specs.Fitting.{IsWithin}
-use Rattle.runner.specs.Events.{events_of}
-use Rattle.runner.specs.Served.{IsUnanswered}
-use Rattle.runner.proofs.ToldEvents.{tells-none, tells-one, tells-more, ends-here, most_stays}
-use Rattle.runner.proofs.Within.{next_within}
+use Rattle.runner.specs.{Events.events_of, Served.IsUnanswered}
+use Rattle.runner.proofs.{ToldEvents.{tells-none, tells-one, tells-more, ends-here, most_stays}, Within.next_within}
 use Rattle.runner.proofs.play.play_asked.Goals as goal
 
 pub loop-event-init : goal.loop-event-init

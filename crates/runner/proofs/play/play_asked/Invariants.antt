@@ -1,7 +1,6 @@
 use Rattle.std.proofs.Common.{◌≡◌, ◌++◌, List}
 use Rattle.spec.specs.declared.event.Event.{Event}
-use Rattle.runner.specs.Events.{events_of}
-use Rattle.runner.specs.Played.{TellsBy}
+use Rattle.runner.specs.{Events.events_of, Played.TellsBy}
 use Rattle.runner.proofs.play.play_asked.Given as goal
 
 abbrev pub invariant-loop-event : goal.invariant-loop-event

@@ -1,6 +1,6 @@
 use Rattle.std.proofs.Common.{ap, map, refl, sym, ◌∙◌}
-use Rattle.runner.specs.declared.ended.Ended.{Ended}
-use Rattle.runner.proofs.Refusals.{some_status, no_line_at_two, two_or_five}
+use Rattle.runner.{specs.declared.ended.Ended.Ended, proofs.Refusals.{no_line_at_two, two_or_five}}
+use Rattle.console.proofs.Statuses.{refused_status}
 use Rattle.runner.proofs.program.command.Goals as goal
 
 pub returns-in-Ok-clause-other_words : goal.returns-in-Ok-clause-other_words
@@ -8,7 +8,7 @@ returns-in-Ok-clause-other_words g c not = let done = c.in-Ok.ensures.done in ab
 
 pub returns-in-Err-clause-done : goal.returns-in-Err-clause-done
 returns-in-Err-clause-done g c zero =
-    absurd (some_status c.in-Err.stopped.refusal (sym (ap (λ (e : Ended). e.status) c.refuse.ensures) ∙ zero))
+    absurd ((refused_status c.in-Err.stopped.refusal).some (sym (ap (λ (e : Ended). e.status) c.refuse.ensures) ∙ zero))
 
 pub returns-in-Err-clause-words : goal.returns-in-Err-clause-words
 returns-in-Err-clause-words g c two =

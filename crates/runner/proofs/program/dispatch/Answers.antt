@@ -1,8 +1,6 @@
 use Rattle.std.proofs.Common.{◌≡◌, None, inr, map}
-use Rattle.runner.specs.Program.{IsRefusedFor}
-use Rattle.runner.proofs.Options.{if_ok, if_err}
-use Rattle.runner.proofs.Refusals.{not_read}
-use Rattle.runner.proofs.Taken.{if-err}
+use Rattle.runner.{specs.Program.IsRefusedFor, proofs.{Refusals.not_read, Taken.if-err}}
+use Rattle.console.proofs.Options.{if_ok, if_err}
 use Rattle.runner.proofs.program.dispatch.Goals as goal
 
 pub returns-in-Format-clause-done : goal.returns-in-Format-clause-done

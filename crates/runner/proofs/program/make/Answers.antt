@@ -1,17 +1,15 @@
-use Rattle.std.proofs.Common.{◌≡◌, ◌⊎◌, ◌↔◌, ℕ, List, Option, None, Result, Err, ap, inl, inr}
-use Rattle.std.proofs.lemmas.Result.{err_from_is_err_and}
-use Rattle.runner.specs.declared.refusal.Refusal.{Refusal}
-use Rattle.runner.specs.declared.refusal.Refusal.TheVariants.{ImageSize, File, NoMemory}
+use Rattle.std.proofs.{Common.{◌≡◌, ◌⊎◌, ◌↔◌, ℕ, List, Option, None, Result, Err, ap, inl, inr}, lemmas.Result.err_from_is_err_and}
+use Rattle.console.specs.{declared.refusal.Refusal.Refusal, declared.refusal.Refusal.TheVariants.{ImageSize, FileFailed, NoMemory}}
+use Rattle.console.proofs.Options.{if_ok, if_err}
 use Rattle.journal.specs.declared.log_format.LogFormat.{LogFormat}
-use Rattle.runner.specs.Program.{AreImageSizes, IsFormatRefused}
-use Rattle.runner.proofs.Options.{if_ok, if_err}
-use Rattle.runner.proofs.Refusals.{untouched}
+use Rattle.runner.{specs.Program.{AreImageSizes, IsFormatRefused}, proofs.Refusals.untouched}
 use Rattle.runner.proofs.program.make.Goals as goal
 
 -- why no image was made, where nothing was written
 not_made : {M : Type 0} (was : Option (List ℕ)) (path : List ℕ) (format : LogFormat) (blocks slots : ℕ) (refusal : Refusal)
     → (◌≡◌ {A = Result M Refusal} (Err refusal) (Err ImageSize)) ↔ ¬ AreImageSizes format blocks slots
-    → (refusal ≡ ImageSize) ⊎ ((refusal ≡ File) ⊎ (refusal ≡ NoMemory)) → IsFormatRefused was was None path format blocks slots refusal
+    → (refusal ≡ ImageSize) ⊎ ((refusal ≡ FileFailed) ⊎ (refusal ≡ NoMemory))
+    → IsFormatRefused was was None path format blocks slots refusal
 not_made was path format blocks slots refusal size (inl is) = inl (is, size.0 (ap Err is), untouched was)
 not_made was path format blocks slots refusal size (inr (inl is)) =
     inr (λ none. (let same = size.1 none in absurd (cc)), inr (is, inl (untouched was)))
@@ -26,16 +24,16 @@ returns-in_err-medium-clause-refused g c =
 
 pub returns-clause-done : goal.returns-clause-done
 returns-clause-done g c =
-    if_ok c.tell_of.result
+    if_ok c.say_done.result
     (λ back told. record { made = c.in_ok-medium.medium; given = told.0; is_made = c.in_ok-medium.ensures.made; written = told.1 })
-    c.tell_of.ensures.done
+    c.say_done.ensures.done
 
 pub returns-clause-refused : goal.returns-clause-refused
 returns-clause-refused g c =
     let made = c.in_ok-medium.ensures.made in
-    if_err c.tell_of.result
+    if_err c.say_done.result
     (λ stopped told. inr (
       (λ never. never made.sizes),
       inr (told.1, inr (record { made = c.in_ok-medium.medium; given = told.0; is_made = made; written = told.2 })),
     ))
-    c.tell_of.ensures.refused
+    c.say_done.ensures.refused

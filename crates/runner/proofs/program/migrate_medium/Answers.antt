@@ -1,12 +1,11 @@
-use Rattle.std.proofs.Common.{inl, inr, refl}
-use Rattle.std.proofs.KnownBytes.{Keeps-refl}
-use Rattle.runner.proofs.Options.{if_ok, if_err}
+use Rattle.std.proofs.{Common.{inl, inr, refl}, KnownBytes.Keeps-refl}
+use Rattle.console.proofs.Options.{if_ok, if_err}
 use Rattle.runner.proofs.program.migrate_medium.Goals as goal
 
 pub returns-in-Ok-clause-done : goal.returns-in-Ok-clause-done
 returns-in-Ok-clause-done g c =
     let made = c.in-Ok.ensures in
-    if_ok c.tell_of.result
+    if_ok c.say_done.result
     (λ back told. (
       c.migrate.new.m,
       told.0,
@@ -21,12 +20,12 @@ returns-in-Ok-clause-done g c =
         made.follows,
       ),
     ))
-    c.tell_of.ensures.done
+    c.say_done.ensures.done
 
 pub returns-in-Ok-clause-refused : goal.returns-in-Ok-clause-refused
 returns-in-Ok-clause-refused g c =
     let made = c.in-Ok.ensures in
-    if_err c.tell_of.result
+    if_err c.say_done.result
     (λ stopped told. (
       c.migrate.new.m,
       told.0,
@@ -44,7 +43,7 @@ returns-in-Ok-clause-refused g c =
         made.follows,
       ),
     ))
-    c.tell_of.ensures.refused
+    c.say_done.ensures.refused
 
 pub returns-in-Err-clause-refused : goal.returns-in-Err-clause-refused
 returns-in-Err-clause-refused g c =
@@ -58,7 +57,7 @@ returns-in-Err-clause-refused g c =
           fault = c.in-Err.fault;
           cause = why.err.cause;
           leaves = why.leaves;
-          told = c.from.ensures;
+          told = refl;
           kept = kept;
         }),
         why.follows,

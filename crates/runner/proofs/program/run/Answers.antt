@@ -1,7 +1,5 @@
-use Rattle.std.proofs.Common.{refl, inl, inr}
-use Rattle.std.proofs.KnownBytes.{Keeps-refl}
-use Rattle.std.proofs.lemmas.Result.{err_from_is_err_and}
-use Rattle.runner.proofs.Options.{if_ok, if_err}
+use Rattle.std.proofs.{Common.{refl, inl, inr}, KnownBytes.Keeps-refl, lemmas.Result.err_from_is_err_and}
+use Rattle.console.proofs.Options.{if_ok, if_err}
 use Rattle.runner.proofs.Refusals.{comes_back, untouched}
 use Rattle.runner.proofs.program.run.Goals as goal
 

@@ -1,8 +1,6 @@
-use Rattle.std.proofs.Common.{◌∙◌, ap, inl, refl, map, drop}
-use Rattle.std.specs.Prelude.{string_bytes}
-use Rattle.runner.specs.declared.ended.Ended.{Ended}
-use Rattle.runner.specs.declared.refusal.Refusal.TheVariants.{NoMemory}
-use Rattle.runner.proofs.Refusals.{untouched}
+use Rattle.std.{proofs.Common.{◌∙◌, ap, inl, refl, map, drop}, specs.Prelude.string_bytes}
+use Rattle.runner.{specs.declared.ended.Ended.Ended, proofs.Refusals.untouched}
+use Rattle.console.specs.declared.refusal.Refusal.TheVariants.{NoMemory}
 use Rattle.runner.proofs.program.run_program.Goals as goal
 
 pub returns-in-Ok-words_of : goal.returns-in-Ok-words_of

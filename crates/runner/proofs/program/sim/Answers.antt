@@ -1,5 +1,4 @@
-use Rattle.std.proofs.Common.{refl, inl, inr}
-use Rattle.std.proofs.lemmas.Result.{err_from_is_err_and}
+use Rattle.std.proofs.{Common.{refl, inl, inr}, lemmas.Result.err_from_is_err_and}
 use Rattle.runner.proofs.Refusals.{untouched}
 use Rattle.runner.proofs.program.sim.Goals as goal
 

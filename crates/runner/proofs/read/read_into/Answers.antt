@@ -1,9 +1,7 @@
 use Rattle.std.proofs.Common.{◌≡◌, ℕ, List, ◌++◌, Option, Some, None, take, rules, arith, length-append}
-use Rattle.std.specs.Io.KnownBytes.{Consumes, Keeps}
-use Rattle.std.proofs.KnownBytes.{Consumes-nil, Consumes-trans}
-use Rattle.runner.proofs.ServedLines.{taken-none}
+use Rattle.std.{proofs.KnownBytes.{Consumes-nil, Consumes-trans}, specs.Io.KnownBytes.{Consumes, Keeps}}
+use Rattle.runner.proofs.{ServedLines.taken-none, read.read_into.Goals.{in-Ok+else-count-limit+in-Ok-extend_from_slice, in-Err}}
 use Rattle.runner.proofs.read.read_into.Goals as goal
-use Rattle.runner.proofs.read.read_into.Goals.{in-Ok+else-count-limit+in-Ok-extend_from_slice, in-Err}
 
 -- a read that failed took nothing
 taken-kept : (was mid now : Option (List ℕ)) (read : List ℕ) → Consumes was mid read → Keeps mid now → Consumes was now read

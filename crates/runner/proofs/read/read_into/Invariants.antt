@@ -1,5 +1,4 @@
-use Rattle.std.proofs.Common.{◌≤◌, length}
-use Rattle.std.specs.Io.KnownBytes.{Consumes}
+use Rattle.std.{proofs.Common.{◌≤◌, length}, specs.Io.KnownBytes.Consumes}
 use Rattle.runner.proofs.read.read_into.Given as goal
 
 abbrev pub invariant-reads : goal.invariant-reads

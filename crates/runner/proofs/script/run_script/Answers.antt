@@ -1,33 +1,15 @@
-use Rattle.std.proofs.Common.{◌≡◌, ℕ, Bool, List, Option, ap, ap₂, ◌∙◌, refl, subst, arith}
-use Rattle.std.specs.Prelude.{All}
-use Rattle.std.proofs.KnownBytes.{Keeps-refl}
-use Rattle.std.proofs.lemmas.Result.{err_from_is_err_and}
+use Rattle.std.proofs.{Common.{◌≡◌, ℕ, Bool, List, Option, ap, ap₂, ◌∙◌, refl, subst, arith}, KnownBytes.Keeps-refl}
+use Rattle.std.{proofs.lemmas.Result.err_from_is_err_and, specs.Prelude.All}
 use Rattle.medium.specs.Medium.{State}
-use Rattle.spec.specs.Book.{opened}
-use Rattle.spec.specs.Conversation.{Conversation}
-use Rattle.spec.specs.Exchange.{Line}
-use Rattle.spec.specs.Packets.{bytes_of}
-use Rattle.spec.specs.Rules.{UnitState}
-use Rattle.spec.specs.UnitConversation.{UnitRun, on_line}
-use Rattle.spec.specs.declared.event.Event.{Event}
-use Rattle.spec.specs.declared.event.Answer.{Answer}
-use Rattle.bot_machine.specs.Starting.{blocks_of, layout_of}
-use Rattle.bot_machine.specs.Disk.{DiskValue, StepsThrough, over}
-use Rattle.bot_machine.specs.Opening.{IsOpened, StartLeaves}
-use Rattle.bot_machine.specs.UnitValue.{unit_limit}
-use Rattle.bot_machine.proofs.UnitLaws.{between_calls}
-use Rattle.runner.specs.declared.line.ScriptKind.TheVariants.{OneLife}
-use Rattle.runner.specs.declared.player.ServeFault.{ServeFault}
+use Rattle.spec.specs.{Book.opened, Conversation.Conversation, Exchange.Line, Packets.bytes_of, Rules.UnitState}
+use Rattle.spec.specs.{UnitConversation.{UnitRun, on_line}, declared.event.Event.Event, declared.event.Answer.Answer}
+use Rattle.bot_machine.specs.{Starting.{blocks_of, layout_of}, Disk.{DiskValue, StepsThrough, over}, Opening.{IsOpened, StartLeaves}}
+use Rattle.bot_machine.{specs.UnitValue.unit_limit, proofs.UnitLaws.between_calls}
+use Rattle.runner.specs.{declared.line.ScriptKind.TheVariants.OneLife, declared.player.ServeFault.ServeFault, Line.IsScriptLine}
+use Rattle.runner.specs.{Lines.lines_of, Outcome.{IsRead, IsPlayed, IsCutShort}, Played.{StepsOn, HasNoAnswer, packets_of}}
+use Rattle.runner.specs.{Script.{IsLife, IsLeftBy, device, started}, Served.{AreAnswered, StopsIn}}
+use Rattle.runner.proofs.{InTurn.of_all, NoScript.unplayed, Runs.answers_of}
 use Rattle.runner.specs.declared.player.ServeFault.TheVariants as serve
-use Rattle.runner.specs.Line.{IsScriptLine}
-use Rattle.runner.specs.Lines.{lines_of}
-use Rattle.runner.specs.Outcome.{IsRead, IsPlayed, IsCutShort}
-use Rattle.runner.specs.Played.{StepsOn, HasNoAnswer, packets_of}
-use Rattle.runner.specs.Script.{IsLife, IsLeftBy, device, started}
-use Rattle.runner.specs.Served.{AreAnswered, StopsIn}
-use Rattle.runner.proofs.InTurn.{of_all}
-use Rattle.runner.proofs.NoScript.{unplayed}
-use Rattle.runner.proofs.Runs.{answers_of}
 use Rattle.runner.proofs.script.run_script.Goals as goal
 
 -- a disk that has started, and then played events, lived a life

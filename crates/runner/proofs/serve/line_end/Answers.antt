@@ -1,9 +1,6 @@
 use Rattle.std.proofs.Common.{◌≡◌, ◌==◌, ◌<◌, ◌≤◌, ℕ, Bool, true, List, Option, Some, None, MatchOption, length, sym, arith, ◌∙◌, ap}
-use Rattle.std.proofs.lemmas.Bool.Decides.{nat_tests}
-use Rattle.std.proofs.lemmas.List.{get_or-take, length-take}
-use Rattle.std.proofs.lemmas.List.Quantifiers.{position-Some}
-use Rattle.std.proofs.lemmas.List.Sums.{fails_before_first}
-use Rattle.std.specs.List.{position, position_or_len}
+use Rattle.std.proofs.{lemmas.Bool.Decides.nat_tests, lemmas.List.{get_or-take, length-take}, lemmas.List.Quantifiers.position-Some}
+use Rattle.std.{proofs.lemmas.List.Sums.fails_before_first, specs.List.{position, position_or_len}}
 use Rattle.runner.specs.Served.{IsUnended, IsLineEnd}
 use Rattle.runner.proofs.serve.line_end.Goals as goal
 

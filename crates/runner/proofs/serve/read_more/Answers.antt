@@ -1,5 +1,4 @@
-use Rattle.std.proofs.Common.{[], take}
-use Rattle.std.proofs.KnownBytes.{Consumes-nil, Consumes-trans}
+use Rattle.std.proofs.{Common.{[], take}, KnownBytes.{Consumes-nil, Consumes-trans}}
 use Rattle.runner.proofs.serve.read_more.Goals as goal
 
 pub reads-init : goal.reads-init

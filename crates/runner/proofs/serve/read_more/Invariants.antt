@@ -1,5 +1,4 @@
-use Rattle.std.proofs.Common.{[]}
-use Rattle.std.specs.Io.KnownBytes.{Consumes}
+use Rattle.std.{proofs.Common.[], specs.Io.KnownBytes.Consumes}
 use Rattle.runner.proofs.serve.read_more.Given as goal
 
 -- no byte was taken

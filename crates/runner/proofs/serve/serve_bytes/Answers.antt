@@ -7,7 +7,7 @@ use Rattle.std.proofs.lemmas.Result.{err_from_is_err_and, on_ok_weaker}
 use Rattle.spec.specs.Packets.{bytes_of}
 use Rattle.spec.specs.declared.packet_size.PacketSize.{PacketSize}
 use Rattle.spec.specs.declared.packet_size.PacketSize.TheVariants.{Full64, High512}
-use Rattle.runner.proofs.Options.{if_err}
+use Rattle.console.proofs.Options.{if_err}
 use Rattle.runner.proofs.ServedLines.{served-packets, served-part, served-line, stops-ended, stops-long}
 use Rattle.runner.proofs.serve.serve_bytes.Goals as goal
 

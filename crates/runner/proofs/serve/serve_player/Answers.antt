@@ -1,10 +1,7 @@
-use Rattle.std.proofs.Common.{◌++◌, [], take, rules}
-use Rattle.std.proofs.KnownBytes.{Consumes-nil, Consumes-trans}
-use Rattle.std.proofs.lemmas.Result.{err_from_is_err_and, on_ok_weaker}
-use Rattle.std.specs.Io.KnownBytes.{IsAtEnd}
-use Rattle.runner.proofs.Options.{if_err}
-use Rattle.runner.proofs.ServedLines.{taken-none, taken-nothing, served-none}
-use Rattle.runner.proofs.ServedLines.{served-all, served-unread, stopped-last, stopped-in}
+use Rattle.std.proofs.{Common.{◌++◌, [], take, rules}, KnownBytes.{Consumes-nil, Consumes-trans}}
+use Rattle.std.{proofs.lemmas.Result.{err_from_is_err_and, on_ok_weaker}, specs.Io.KnownBytes.IsAtEnd}
+use Rattle.console.proofs.Options.{if_err}
+use Rattle.runner.proofs.ServedLines.{taken-none, taken-nothing, served-none, served-all, served-unread, stopped-last, stopped-in}
 use Rattle.runner.proofs.serve.serve_player.Goals as goal
 
 pub reads-init : goal.reads-init

@@ -1,5 +1,4 @@
-use Rattle.std.proofs.Common.{ℕ, List}
-use Rattle.std.specs.Io.KnownBytes.{Consumes}
+use Rattle.std.{proofs.Common.{ℕ, List}, specs.Io.KnownBytes.Consumes}
 use Rattle.runner.specs.Served.{HasServed}
 use Rattle.runner.proofs.serve.serve_player.Given as goal
 

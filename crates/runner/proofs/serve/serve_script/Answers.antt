@@ -1,6 +1,5 @@
-use Rattle.std.proofs.Common.{[], append-nil}
-use Rattle.std.proofs.lemmas.Result.{err_from_is_err_and, on_ok_weaker}
-use Rattle.runner.proofs.Options.{if_err}
+use Rattle.std.proofs.{Common.{[], append-nil}, lemmas.Result.{err_from_is_err_and, on_ok_weaker}}
+use Rattle.console.proofs.Options.{if_err}
 use Rattle.runner.proofs.ServedLines.{served-none, answered-last, stops-last}
 use Rattle.runner.proofs.serve.serve_script.Goals as goal
 

@@ -2,9 +2,8 @@ use Rattle.std.proofs.Common.{◌≡◌, ap, inl}
 use Rattle.spec.specs.Packets.{bytes_of}
 use Rattle.bot_machine.specs.LivesValue.{LivesValue}
 use Rattle.runner.specs.declared.line.ScriptKind.TheVariants.{Lives}
-use Rattle.runner.proofs.NoScript.{unplayed}
-use Rattle.runner.proofs.Options.{if_ok, if_err, match_result}
-use Rattle.runner.proofs.SeveralLives.{first_over, are_played, are_refused, taken_up_to}
+use Rattle.runner.proofs.{NoScript.unplayed, SeveralLives.{first_over, are_played, are_refused, taken_up_to}}
+use Rattle.console.proofs.Options.{if_ok, if_err, match_result}
 use Rattle.runner.proofs.sim.sim_script.Goals as goal
 
 pub play_lives-requires : goal.play_lives-requires

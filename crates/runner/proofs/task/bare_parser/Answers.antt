@@ -1,8 +1,5 @@
 use Rattle.std.proofs.Common.{◌∙◌, ap, true}
-use Rattle.clap.specs.Words.{App}
-use Rattle.clap.specs.Simple.{app_of_fields}
-use Rattle.clap.specs.declared.builder.command.Command.{Command}
-use Rattle.clap.specs.declared.builder.command.Command.{Command-F}
+use Rattle.clap.specs.{Words.App, Simple.app_of_fields, declared.builder.command.Command.{Command, Command-F}}
 use Rattle.runner.proofs.task.bare_parser.Goals as goal
 
 pub returns : goal.returns

@@ -1,10 +1,7 @@
-use Rattle.std.proofs.Common.{◌≡◌, ◌≤◌, ◌-◌, ℕ, List, ◌∷◌, ap, sym, subst, map, take, drop, length, arith}
-use Rattle.std.specs.Prelude.{get_or}
-use Rattle.std.specs.Borrow.{Bor}
-use Rattle.std.proofs.lemmas.List.{take_all}
-use Rattle.std.specs.Prelude.{IfSome}
+use Rattle.std.proofs.{Common.{◌≡◌, ◌≤◌, ◌-◌, ℕ, List, ◌∷◌, ap, sym, subst, map, take, drop, length, arith}, lemmas.List.take_all}
+use Rattle.std.specs.{Prelude.{get_or, IfSome}, Borrow.Bor}
 use Rattle.runner.specs.Task.{IsCommandLine, SpellsTask}
-use Rattle.runner.proofs.Options.{none_weaker}
+use Rattle.console.proofs.Options.{none_weaker}
 use Rattle.runner.proofs.task.exactly.Goals as goal
 
 abbrev Word : Type 0

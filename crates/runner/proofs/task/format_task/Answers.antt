@@ -1,8 +1,7 @@
 use Rattle.std.proofs.Common.{◌≤◌, ℕ, List, ◌∷◌, ap, inl, inr, map, drop, length, arith}
 use Rattle.journal.specs.declared.log_format.LogFormat.{LogFormat}
 use Rattle.spec.specs.declared.packet_size.PacketSize.{PacketSize}
-use Rattle.runner.specs.declared.task.Task.{Task}
-use Rattle.runner.specs.declared.task.Task.TheVariants.{Format, Migrate, Run, Sim}
+use Rattle.runner.specs.{declared.task.Task.Task, declared.task.Task.TheVariants.{Format, Migrate, Run, Sim}}
 use Rattle.runner.specs.Task.{SpellsTask, IsFormatEnding, IsPacketEnding}
 use Rattle.runner.proofs.task.format_task.Goals as goal
 

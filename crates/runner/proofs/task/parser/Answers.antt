@@ -1,5 +1,4 @@
-use Rattle.std.proofs.Common.{◌∙◌, ap, codes}
-use Rattle.std.proofs.lemmas.Result.{IfOk-weaker}
+use Rattle.std.proofs.{Common.{◌∙◌, ap, codes}, lemmas.Result.IfOk-weaker}
 use Rattle.clap.specs.Words.{App, with_subcommand}
 use Rattle.runner.specs.Parser.{format_app, migrate_app, script_app}
 use Rattle.runner.proofs.task.parser.Goals as goal

@@ -1,8 +1,6 @@
-use Rattle.std.proofs.Common.{◌≤◌, ℕ, List, ◌∷◌, ap, map, drop, length, arith}
-use Rattle.std.proofs.lemmas.List.{length-map}
+use Rattle.std.proofs.{Common.{◌≤◌, ℕ, List, ◌∷◌, ap, map, drop, length, arith}, lemmas.List.length-map}
 use Rattle.spec.specs.declared.packet_size.PacketSize.{PacketSize}
-use Rattle.runner.specs.declared.task.Task.{Task}
-use Rattle.runner.specs.declared.task.Task.TheVariants.{Format, Migrate, Run, Sim}
+use Rattle.runner.specs.{declared.task.Task.Task, declared.task.Task.TheVariants.{Format, Migrate, Run, Sim}}
 use Rattle.runner.specs.Task.{SpellsTask, IsPacketEnding}
 use Rattle.runner.proofs.task.script_task.Goals as goal
 

@@ -1,9 +1,5 @@
-use Rattle.std.proofs.Common.{◌≡◌, ◌∙◌, ap₂}
-use Rattle.std.proofs.lemmas.Result.{IfOk-weaker}
-use Rattle.std.specs.Prelude.{◌||◌, Bool, false, Result, IfOk}
-use Rattle.clap.specs.Words.{AddsArg, App, Rule, with_rule}
-use Rattle.clap.specs.declared.builder.arg.Arg.{Arg}
-use Rattle.clap.specs.declared.builder.command.Command.{Command}
+use Rattle.std.{proofs.{Common.{◌≡◌, ◌∙◌, ap₂}, lemmas.Result.IfOk-weaker}, specs.Prelude.{◌||◌, Bool, false, Result, IfOk}}
+use Rattle.clap.specs.{Words.{AddsArg, App, Rule, with_rule}, declared.builder.arg.Arg.Arg, declared.builder.command.Command.Command}
 use Rattle.runner.specs.Parser.{IsArgOf, IsParserOf}
 use Rattle.runner.proofs.task.with_arg.Goals as goal
 

@@ -1,8 +1,5 @@
-use Rattle.std.proofs.Common.{◌≡◌, ◌∙◌, ap}
-use Rattle.std.proofs.lemmas.Result.{IfOk-weaker}
-use Rattle.std.specs.Prelude.{Result, IfOk}
-use Rattle.clap.specs.Words.{AddsSubcommand, App, app_of, with_subcommand}
-use Rattle.clap.specs.declared.builder.command.Command.{Command}
+use Rattle.std.{proofs.{Common.{◌≡◌, ◌∙◌, ap}, lemmas.Result.IfOk-weaker}, specs.Prelude.{Result, IfOk}}
+use Rattle.clap.specs.{Words.{AddsSubcommand, App, app_of, with_subcommand}, declared.builder.command.Command.Command}
 use Rattle.runner.specs.Parser.{IsParserOf}
 use Rattle.runner.proofs.task.with_parser.Goals as goal
 

@@ -1,6 +1,5 @@
-use Rattle.std.proofs.Common.{sym, ◌∙◌}
-use Rattle.std.proofs.lemmas.List.{append_cancel_left}
-use Rattle.runner.proofs.Options.{none_weaker}
+use Rattle.std.proofs.{Common.{sym, ◌∙◌}, lemmas.List.append_cancel_left}
+use Rattle.console.proofs.Options.{none_weaker}
 use Rattle.runner.proofs.words.read_count.Goals as goal
 
 pub returns-clause-refused : goal.returns-clause-refused

@@ -1,11 +1,10 @@
 use Rattle.std.proofs.Common.{◌≡◌, ◌≤◌, ℕ, List, [], ◌∷◌, ◌++◌, length, take, drop, slice_index, codes, Ok, sym, ◌∙◌, refl, arith}
 use Rattle.std.proofs.lemmas.List.{append_cancel_left, take_rest}
-use Rattle.hex.specs.Hex.{decode_of}
-use Rattle.hex.proofs.HexLemmas.{decode_of-ok}
+use Rattle.hex.{specs.Hex.decode_of, proofs.HexLemmas.decode_of-ok}
 use Rattle.console.specs.Numbers.{SpellsNumber}
 use Rattle.runner.specs.Line.{SpellsFill}
-use Rattle.runner.proofs.words.read_fill.Goals as goal
 use Rattle.runner.proofs.words.read_fill.Goals.{then-fill-lt3-via-then-fill-lt3, then-fill-lt3-via-else-fill-lt3+then-fill-ne32}
+use Rattle.runner.proofs.words.read_fill.Goals as goal
 
 -- two digits, a space and a number
 record AreParts (fill : List ℕ) (byte count : ℕ) : Type 0 where

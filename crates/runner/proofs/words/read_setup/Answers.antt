@@ -1,5 +1,4 @@
-use Rattle.std.proofs.Common.{◌∙◌, sym, codes}
-use Rattle.std.proofs.lemmas.List.{append_cancel_left}
+use Rattle.std.proofs.{Common.{◌∙◌, sym, codes}, lemmas.List.append_cancel_left}
 use Rattle.runner.proofs.Packets.{sized}
 use Rattle.runner.proofs.words.read_setup.Goals as goal
 

@@ -1,6 +1,5 @@
 use Rattle.std.proofs.Common.{◌∙◌, ap, refl, sym}
-use Rattle.live.specs.declared.file.FileWindow.{FileWindow}
-use Rattle.live.proofs.Ready.{plays_prepared}
+use Rattle.live.{specs.declared.file.FileWindow.FileWindow, proofs.Ready.plays_prepared}
 use Rattle.live.proofs.player.FileDiskPlayer.play.Goals as goal
 
 pub returns-in-Some-clause-stopped : goal.returns-in-Some-clause-stopped
