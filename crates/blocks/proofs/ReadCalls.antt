@@ -1,16 +1,19 @@
 -- What a read gives, and how many calls of the medium it makes.
-use Rattle.std.proofs.Common.{rules, ◌≡◌, ℕ, zero, suc, ◌+◌, ◌*◌, ◌≤◌, ◌<◌, List, [], ◌∷◌, ◌++◌, length, take, drop, None, ◌∙◌}
+use Rattle.std.proofs.Common.{rules, ◌≡◌, ℕ, zero, suc, ◌+◌, ◌-◌, ◌*◌, ◌≤◌, ◌<◌, List, [], ◌∷◌, ◌++◌, length, take, drop, None, ◌∙◌}
 use Rattle.std.{proofs.Common.{arith, inl, inr, ◌⊎◌, append_assoc, append-nil, add-zero, Result, false, refl}, specs.Prelude.{Ok, Err}}
 use Rattle.std.{specs.Prelude.{OnOk, IsOk, Contains, true, get_or}, proofs.lemmas.List.{length-drop, length-take-le}}
 use Rattle.std.proofs.lemmas.{Slice.take-put_mid, Bool.{cases_Bool, false≢true, cases_eq, Decides.nat_tests}}
 use borrow.Rule.Slice.PartMut.{put_mid}
 use Rattle.medium.specs.{Medium.{State, Passes, IsSound, LooksOnly, Stays, Within}, declared.fault.MediumFault.MediumFault}
-use Rattle.medium.{specs.declared.fault.MediumFault.TheVariants.Read, proofs.{CallsSent.read_sends, Moments.{quiet_joined, quiet_call}}}
-use Rattle.medium.proofs.{Moments.quiet_start, SectorsRead.{one_look, looks_wider}}
+use Rattle.medium.specs.{declared.fault.MediumFault.TheVariants.Read, Medium.Image, Range.{held_from, ReadsAtOnce}}
+use Rattle.medium.proofs.{CallsSent.{read_sends, none_sent}, Moments.{quiet_joined, quiet_call, quiet_start}}
+use Rattle.medium.proofs.SectorsRead.{one_look, looks_wider}
 use Rattle.journal.specs.Places.{first_home}
+use Rattle.redo_log.proofs.StoreFacts.{home_is}
 use Rattle.redo_log.specs.{Steps.{KeepsLog, ReadsCopy}, Value.{LogValue, IsNewestCopy, HasNoCopy}}
 use Rattle.spec.specs.{Blocks.Array, Book.{Book, array_of, blocks_at}}
 use Rattle.cache.{specs.{Blocks.{is_listed, Listed, unlisted}, Entries.{map_of, Entries}}, proofs.{Maps.listed_is, Arrays.unlisted_most}}
+use Rattle.blocks.specs.{Reads.{AreReadable, AreAtHome, IsAtHome}}
 use Rattle.blocks.specs.{Reads.{IsInBatch, IsInNone, ReadsBlocks, told}, Looks.IsReadFor, StoreValue.{Cached, blocks_of, layout_of}}
 use Rattle.blocks.specs.{StoreValue.{FitsBook, StoreValue}, Calls.{block_reads, reads_of, is_logged, log_reads}, Passing.KeepsStore}
 use Rattle.blocks.specs.declared.fault.StoreFault.{StoreFault}
@@ -188,3 +191,52 @@ module _ {M : Type 0} {state : M → State} {Follows : M → M → Type 0} {addr
         let all = reads_more one in
         let looks = fewer_read (state old.medium) (state new.medium) old.cached address (i + 1) count more all.keeps.looks in
         grind (arith, all, looks, reads_within old.cached address (i + 1) count more)
+
+-- ---- blocks at home alone are read at once
+
+-- each of a range is at home alone
+pub at_home : (s : Cached) (address count b : ℕ) → AreAtHome s address count → address ≤ b → b < address + count → IsAtHome s b
+at_home s address count b home from to =
+    let is : b ≡ address + (b - address) = omega arith in
+    rw is (grind (arith, none_at, home))
+
+home_reads : (s : Cached) (address count : ℕ) → ((b : ℕ) → address ≤ b → b < address + count → IsAtHome s b)
+    → reads_of s address count ≡ count
+home_reads s address zero home = refl
+home_reads s address (suc count) home =
+    let here = home address (omega arith) (omega arith) in
+    grind (
+      arith,
+      reads_copy s address here.none.0 here.none.1,
+      unlogged_reads s.log address here.log,
+      home_reads s (address + 1) count (λ b from to. home b (omega arith) (omega arith)),
+    )
+
+held_blocks : (image : Image) (array : Array) (home address count first : ℕ) → ((b : ℕ) → address ≤ b → b < address + count
+    → image (home + b) ≡ array b) → first ≡ home + address → held_from image first count ≡ blocks_at array address count
+held_blocks image array home address zero first each is = refl
+held_blocks image array home address (suc count) first each is =
+    let here : image first ≡ array address = rw is (each address (omega arith) (omega arith)) in
+    let rest = held_blocks image array home (address + 1) count (first + 1) (λ b from to. each b (omega arith) (omega arith)) (omega arith)
+    in
+    rw (here, rest) refl
+
+module _ {M : Type 0} {state : M → State} {Follows : M → M → Type 0} {n : M} {old : StoreValue M} {address count size sector : ℕ}
+    (sound : IsSound (state old.medium)) (readable : AreReadable old.cached address count size)
+    (home : AreAtHome old.cached address count) (is : sector ≡ first_home (layout_of old.cached) + address) where
+  pub home_at_once : {bytes : List ℕ} → ReadsAtOnce state Follows true sector count bytes old.medium n
+      → ReadsBlocks state Follows (Ok tt) address count bytes old (record old { medium = n })
+  home_at_once {bytes} read =
+      let passes = read.passes refl in
+      let looks = looks_wider _ (IsReadFor old.cached address count) (state old.medium) (state n)
+      (λ x among. inr (omega (arith, among), omega (arith, among))) passes.looks in
+      let turn = quiet_turn (state old.medium) (state n) old.cached sound passes.quiet in
+      let reads = home_reads old.cached address count (λ b from to. at_home old.cached address count b home from to) in
+      let sends = none_sent (state old.medium) (state n) passes.others_made in
+      let newest = λ (book : Book) (fits : FitsBook (state old.medium) old.cached book). read.holds refl ∙ held_blocks
+      (state old.medium).content (array_of book) (first_home (layout_of old.cached)) address count sector (λ b from to.
+      let alone = at_home old.cached address count b home from to in
+      let below : b < blocks_of old.cached = omega (arith, readable.inside) in
+      home_is _ _ fits.view fits.holds readable.live b below alone.log ∙ durable_is (state old.medium) old.cached book fits b below
+      alone.none.0 alone.none.1 ∙ append-nil (array_of book b)) is in
+      search (rules, arith, newest, passes, looks, turn, reads, sends, read.follows refl)

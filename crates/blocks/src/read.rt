@@ -1,5 +1,5 @@
 //! How blocks are read.
-ghost use Rattle.std.specs.Prelude.{◌≡◌, ◌+◌, ◌*◌, ◌/◌, ◌^◌, ◌≤◌, length, IsTrue, OnOk};
+ghost use Rattle.std.specs.Prelude.{◌≡◌, ◌+◌, ◌*◌, ◌/◌, ◌^◌, ◌<◌, ◌≤◌, length, IsTrue, OnOk};
 ghost use Rattle.std.specs.Prelude.{IfSome, IsNone};
 ghost use Rattle.spec.specs.Book.{Book, array_of, blocks_at};
 ghost use Rattle.blocks.specs.Book.{IsTransfer};
@@ -117,14 +117,18 @@ impl<M: Medium> Store<M> {
             && self.frozen.is_disjoint(address, count)
     }
 
-    // Reads blocks that are at home alone.
+    // Reads blocks that are at home alone: at once where the medium can, and else one by one.
     fn read_home(&mut self, address: u64, to: &mut [u8]) -> Result<(), StoreFault>
         requires readable { AreReadable self.old.cached address (length to.old / 512)
             (length to.old) }
+        requires some { address < blocks_of self.old.cached }
         requires home { AreAtHome self.old.cached address (length to.old / 512) }
         ensures { ReadsBlocks M.state M.follows result address (length to.old / 512) to.new
             self.old self.new }
     {
+        if self.medium.read_at_once(self.sizes.home_of(address), to) {
+            return Ok(());
+        }
         for i in 0..to.len() / BLOCK {
             let at = i * BLOCK;
             self.read_at_home(address + i as u64, &mut to[at..at + BLOCK])?;

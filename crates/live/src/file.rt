@@ -79,8 +79,9 @@ impl<D: DeviceFile> FileWindow<D> {
 }
 
 impl<D: DeviceFile> Medium for FileWindow<D> {
-    ghost use Rattle.std.specs.Prelude.{◌≡◌, ◌⊎◌, ◌<◌, OnOk, OnErr};
+    ghost use Rattle.std.specs.Prelude.{◌≡◌, ◌⊎◌, ◌<◌, ◌/◌, length, OnOk, OnErr};
     ghost use Rattle.medium.specs.Medium.{Stays, Holds, Within, Gains, Only, Passes, LooksOnly};
+    ghost use Rattle.medium.specs.Range.{AreSectors, ReadsAtOnce};
     ghost use Rattle.medium.specs.declared.fault.MediumFault.TheVariants.{Read, Write, Flush};
     ghost use Rattle.live.specs.FileWindows.{state_of, GoesOn};
     ghost use Rattle.live.specs.FileWindowLaws.{is_sound, goes_on_itself, goes_on_through};
@@ -101,6 +102,10 @@ impl<D: DeviceFile> Medium for FileWindow<D> {
 
     fn read(&mut self, sector: u64, to: &mut [u8; 512]) -> Result<(), MediumFault> {
         self.window.read(sector, to)
+    }
+
+    fn read_at_once(&mut self, sector: u64, to: &mut [u8]) -> bool {
+        self.window.read_at_once(sector, to)
     }
 
     fn write(&mut self, sector: u64, from: &[u8; 512]) -> Result<(), MediumFault> {

@@ -1,5 +1,5 @@
 -- Calls leave the sizes of a medium in memory.
-use Rattle.std.proofs.Common.{◌≡◌, Bool, true, false, List, [], ◌∷◌, ◌∙◌, refl, arith}
+use Rattle.std.proofs.Common.{Bool, true, false, List, [], ◌∷◌, ◌∙◌, refl, arith}
 use Rattle.std.proofs.lemmas.Bool.{cases_Bool}
 use Rattle.medium.specs.Arming.{KeepsSizes, SizesStay}
 use Rattle.medium.specs.Power.{admits}

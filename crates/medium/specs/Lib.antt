@@ -14,6 +14,7 @@ pub mod Moments
 pub mod OpenedView
 pub mod Performed
 pub mod Power
+pub mod Range
 pub mod Sent
 pub mod Sim
 pub mod SimLaws

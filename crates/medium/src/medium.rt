@@ -1,8 +1,9 @@
 //! Sectors that can be read, written and flushed.
-ghost use Rattle.std.specs.Prelude.{◌≡◌, ◌⊎◌, ◌<◌, ℕ, OnOk, OnErr};
+ghost use Rattle.std.specs.Prelude.{◌≡◌, ◌⊎◌, ◌<◌, ◌/◌, ℕ, length, OnOk, OnErr};
 ghost use Rattle.medium.specs.declared.fault.MediumFault.TheVariants.{Read, Write, Flush};
 ghost use Rattle.medium.specs.Medium.{State, Stays, Holds, Within, Gains, Only, Passes};
 ghost use Rattle.medium.specs.Medium.{LooksOnly, IsSound};
+ghost use Rattle.medium.specs.Range.{AreSectors, ReadsAtOnce};
 
 use crate::fault::MediumFault;
 
@@ -31,6 +32,16 @@ pub trait Medium {
         ensures passes { Passes Read result (state self.old) (state self.new) }
         ensures follows { follows self.old self.new
             × LooksOnly (λ s. s ≡ sector) (state self.old) (state self.new) };
+
+    /// Reads neighbouring sectors at once, where the medium has them all at hand: a read of each,
+    /// of which none is refused. Otherwise it answers false, and makes no call.
+    fn read_at_once(&mut self, sector: u64, to: &mut [u8]) -> bool
+        requires { AreSectors sector (length to.old) (state self.old).size }
+        ensures { ReadsAtOnce state follows result sector (length to.old / 512) to.new
+            self.old self.new }
+    {
+        false
+    }
 
     /// Writes one sector. A cut may lose the write until a good flush.
     ///

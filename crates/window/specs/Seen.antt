@@ -38,6 +38,11 @@ begun size near holds = record { told = story.begun (opened size near holds); lo
 abbrev pub read : Seen → ℕ → Seen
 read t s = record { told = story.read t.told; looked = t.looked ++ s ∷ [] }
 
+-- neighbouring sectors were read, from the first on
+abbrev pub read_from : Seen → ℕ → ℕ → Seen
+read_from t first zero = t
+read_from t first (suc count) = read_from (read t first) (first + 1) count
+
 abbrev pub missed : Seen → ℕ → Seen
 missed t s = record {
   told = record (story.read t.told) { refused = one_more t.told.refused fault.Read };

@@ -42,6 +42,10 @@ state_of w = record (mirror.state_of (mirror_of w)) { looked = w.seen.looked }
 abbrev pub is_in_sight : Window → ℕ → Bool
 is_in_sight w s = nat_lt s w.near || lies_in w.from w.held s
 
+-- all of these sectors are among those that were shown
+abbrev pub AreShown : Window → ℕ → ℕ → Type 0
+AreShown w first count = (w.from ≤ first) × (first + count ≤ w.from + w.held)
+
 abbrev pub fits : Window → Bool
 fits w = nat_lt (length w.outbox) w.room
 
@@ -59,6 +63,9 @@ fresh size near holds span room = record {
 
 abbrev pub reads : Window → ℕ → Window
 reads w s = record w { seen = seen.read w.seen s }
+
+abbrev pub reads_from : Window → ℕ → ℕ → Window
+reads_from w first count = record w { seen = seen.read_from w.seen first count }
 
 abbrev pub misses : Window → ℕ → Window
 misses w s = record w { seen = seen.missed w.seen s }

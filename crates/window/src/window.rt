@@ -208,11 +208,13 @@ impl WindowMedium {
 }
 
 impl Medium for WindowMedium {
-    ghost use Rattle.std.specs.Prelude.{◌≡◌, ◌⊎◌, ◌<◌, IsOk, is_ok, OnOk, OnErr};
+    ghost use Rattle.std.specs.Prelude.{◌≡◌, ◌⊎◌, ◌<◌, ◌/◌, ◌↔◌, true, length, IsTrue};
+    ghost use Rattle.std.specs.Prelude.{IsOk, is_ok, OnOk, OnErr};
     ghost use Rattle.medium.specs.Medium.{Stays, Holds, Within, Gains, Only, Passes, LooksOnly};
+    ghost use Rattle.medium.specs.Range.{AreSectors, ReadsAtOnce};
     ghost use Rattle.medium.specs.declared.fault.MediumFault.TheVariants.{Read, Write, Flush};
     ghost use Rattle.window.specs.Window.{state_of, fits, reads, misses, gives, refuses};
-    ghost use Rattle.window.specs.Window.{ComesAfter, is_in_sight};
+    ghost use Rattle.window.specs.Window.{ComesAfter, AreShown, is_in_sight, reads_from};
     ghost use Rattle.window.specs.WindowLaws.{is_sound, comes_after_itself, comes_after_through};
     ghost use Rattle.window.specs.declared.call.DeviceCall.TheVariants as call;
 
@@ -249,6 +251,23 @@ impl Medium for WindowMedium {
         self.story = Story::of(&Event::Read(&self.story, sector));
         load(&self.near, &self.pane, sector, to);
         Ok(())
+    }
+
+    fn read_at_once(&mut self, sector: u64, to: &mut [u8]) -> bool
+        requires { AreSectors sector (length to.old) (state_of self.old).size }
+        ensures exact { result ≡ true
+            → self.new ≡ reads_from self.old sector (length to.old / 512) }
+        ensures happens { IsTrue result ↔ AreShown self.old sector (length to.old / 512) }
+        ensures reads { ReadsAtOnce state_of ComesAfter result sector (length to.old / 512) to.new
+            self.old self.new }
+    {
+        let count = (to.len() / SECTOR) as u64;
+        if !self.pane.has_from(sector, count) {
+            return false;
+        }
+        self.story = Story::of(&Event::ReadFrom(&self.story, sector, count));
+        self.pane.load(sector, to);
+        true
     }
 
     #[inline]
