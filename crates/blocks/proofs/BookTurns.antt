@@ -1,18 +1,14 @@
 -- How the books that a store fits go on from turn to turn.
-use Rattle.std.proofs.Common.{rules, ◌≡◌, ◌≤◌, ◌<◌, ℕ, ◌+◌, ◌*◌, ◌-◌, ⊎_elim, arith, ◌∙◌, sym, ap, refl, List, [], ◌∷◌, ◌++◌, length, drop}
-use Rattle.std.{proofs.Common.{length-append, zero, suc, get_or}, specs.Prelude.{if◌then◌else◌, nat_le, get_or, unwrap_or}}
-use Rattle.std.proofs.{lemmas.{List.{take-append-le, drop-drop}, Bool.Decides.nat_tests}, Math.Seq.take-length}
+use Rattle.std.proofs.Common.{rules, ◌≡◌, ◌≤◌, ◌<◌, ℕ, ◌+◌, ◌*◌, ◌-◌, ⊎_elim, arith, ◌∙◌, ap, refl, List, [], ◌∷◌, ◌++◌, length, drop}
+use Rattle.std.proofs.{Common.{length-append, zero, suc, get_or}, lemmas.{List.{take-append-le, drop-drop}, Bool.Decides.nat_tests}}
+use Rattle.std.{specs.Prelude.{if◌then◌else◌, nat_le, get_or}, proofs.Math.Seq.take-length}
 use Rattle.medium.specs.Medium.{State, Image}
-use Rattle.spec.specs.{Blocks.{Array, Write, apply, after, chunks}, Book.{Book, after_first, array_of, with_write, promised}}
-use Rattle.journal.specs.{Places.Shape, Record.with_blocks, Standing.IsOurs}
-use Rattle.cache.{specs.{Blocks.{Blocks, blocks_of, over, with_range, Listed}, Entries.{Entries, map_of}}, proofs.Arrays.over_put}
+use Rattle.spec.specs.{Book.{Book, after_first, with_write, promised}, Blocks.{Array, Write, apply, after, chunks}}
+use Rattle.journal.specs.{Record.with_blocks, Standing.IsOurs, Places.Shape}
+use Rattle.cache.{specs.{Blocks.{blocks_of, over, with_range, Listed}, Entries.{Entries, map_of}}, proofs.Arrays.over_put}
 use Rattle.redo_log.specs.{Value.{LogValue, IsBatch, entries_from, entries_of}, Held.{View, HoldsView, MayLeave, with_record}}
-use Rattle.redo_log.proofs.{HeldLog.many, StoreFacts.may_leave_ours}
-use Rattle.blocks.specs.{Book.Same, Finding.{StandsAs, MayFind}, Kept.IsBatchOf, StoreValue.{Cached, FitsBook, ShowsBook, wants}}
-
--- blocks over two arrays that have the same block
-pub over_same : (blocks : Blocks) (a c : Array) (b : ℕ) → a b ≡ c b → over blocks a b ≡ over blocks c b
-over_same blocks a c b same = ap (λ (x : List ℕ). unwrap_or (blocks b) x) same
+use Rattle.redo_log.proofs.{StoreFacts.may_leave_ours, HeldLog.many}
+use Rattle.blocks.specs.{StoreValue.{Cached, FitsBook, ShowsBook, wants}, Finding.{StandsAs, MayFind}, Kept.IsBatchOf, Book.Same}
 
 -- a write over two arrays that have the same block
 pub apply_same : (w : Write) (a c : Array) (b : ℕ) → a b ≡ c b → apply a w b ≡ apply c w b
@@ -27,10 +23,6 @@ after_last a (v ∷ writes) w = after_last (apply a v) writes w
 pub first_same : (book : Book) (w : Write) (k : ℕ) → k ≤ length book.writes → after_first k (with_write book w) ≡ after_first k book
 first_same book w k le = ap (after book.opening) (take-append-le k book.writes (w ∷ []) le)
 
--- all writes are all writes
-pub first_all : (book : Book) → after_first (length book.writes) book ≡ array_of book
-first_all book = ap (after book.opening) (take-length book.writes)
-
 -- the blocks of a batch, as a record has them from the i-th on
 entries_over : (i : ℕ) (numbers bytes : List ℕ) (a : Array) (b : ℕ)
     → with_blocks (entries_from i numbers bytes) a b ≡ over (blocks_of numbers (drop (512 * i) bytes)) a b
@@ -40,18 +32,9 @@ entries_over i (n ∷ numbers) bytes a b =
     let next : 512 * i + 512 ≡ 512 * (i + 1) = omega arith in
     grind (arith, entries_over (i + 1) numbers bytes a b, drop-drop 512 (512 * i) bytes, size, next)
 
--- a record's blocks laid over an array are the batch over it
-pub with_entries : (numbers bytes : List ℕ) (a : Array) (b : ℕ)
-    → with_blocks (entries_of numbers bytes) a b ≡ over (blocks_of numbers bytes) a b
-with_entries numbers bytes a b = entries_over 0 numbers bytes a b
-
 -- an empty batch changes no array
 pub over_none : (numbers bytes : List ℕ) → numbers ≡ [] → (a : Array) (b : ℕ) → over (blocks_of numbers bytes) a b ≡ a b
 over_none numbers bytes e a b = rw e refl
-
--- a batch wants a stamp
-pub wants_some : (numbers : List ℕ) → 0 < length numbers → wants numbers ≡ 1
-wants_some numbers some = grind arith
 
 -- an image that is ours for an array stands so for one with the same blocks
 pub stands_as : (size blocks : ℕ) (shape : Shape) (image : Image) (a c : Array) (next : ℕ) → shape.blocks ≡ blocks → Same blocks a c
@@ -65,13 +48,13 @@ pub moves : {m m' : State} {s : Cached} {book : Book} {log' : LogValue} {view' :
     → log'.head + length log'.waiting ≡ s.log.head + length s.log.waiting → FitsBook m' (record s { log = log' }) book
 moves {view' = view'} f holds array under_way some ours shape stamp = grind (arith, nat_tests)
 
--- another batch takes writes, or the book is another
-pub shows_book : {m : State} {s : Cached} {book book' : Book} {k n : ℕ} (f : FitsBook m s book) (active : Entries)
-    → book.blocks ≡ book'.blocks → book.ours ≡ book'.ours → ShowsBook book' k n f.view.array
-    (over (map_of s.frozen) f.view.array) (over (map_of active) (over (map_of s.frozen) f.view.array))
-    → s.log.head + length s.log.waiting + wants s.frozen.numbers + wants active.numbers ≤ book'.stamp + length book'.writes
-    → FitsBook m (record s { active = active }) book'
-shows_book {k = k} {n = n} f active blocks ours arrays stamps = grind (arith, nat_tests)
+-- other batches, or the book is another
+pub shows_book : {m : State} {s : Cached} {book book' : Book} {k n : ℕ} (f : FitsBook m s book) (active frozen : Entries)
+    → (0 < s.log.steps_left → frozen ≡ s.frozen) → book.blocks ≡ book'.blocks → book.ours ≡ book'.ours → ShowsBook book' k n f.view.array
+    (over (map_of frozen) f.view.array) (over (map_of active) (over (map_of frozen) f.view.array))
+    → s.log.head + length s.log.waiting + wants frozen.numbers + wants active.numbers ≤ book'.stamp + length book'.writes
+    → FitsBook m (record s { active = active; frozen = frozen }) book'
+shows_book {k = k} {n = n} f active frozen same blocks ours arrays stamps = grind (arith, nat_tests)
 
 -- the record under way becomes durable, and the frozen batch is emptied
 pub becomes_durable : {m m' : State} {s : Cached} {book : Book} {log' : LogValue} {none : Entries} (f : FitsBook m s book)
@@ -79,26 +62,15 @@ pub becomes_durable : {m m' : State} {s : Cached} {book : Book} {log' : LogValue
     → length log'.waiting ≡ length s.log.waiting + 1 → log'.steps_left ≡ 0
     → FitsBook m' (record { log = log'; active = s.active; frozen = none }) book
 becomes_durable {s = s} {none = none} f some empty holds shape head longer done =
-    grind (arith, nat_tests, ℕ, over, map_of, with_entries, over_none, over_same)
+    grind (arith, nat_tests, ℕ, over, map_of, entries_over 0 s.frozen.numbers s.frozen.bytes, over_none)
 
 -- the active batch is frozen in place of an empty one
 pub freezes : {m : State} {s : Cached} {book : Book} → s.log.steps_left ≡ 0 → s.frozen.numbers ≡ [] → FitsBook m s book
     → FitsBook m (record s { active = s.frozen; frozen = s.active }) book
 freezes {s = s} {book = book} idle empty f =
     let none : (a : Array) (b : ℕ) → over (map_of s.frozen) a b ≡ a b = over_none s.frozen.numbers s.frozen.bytes empty in
-    let now = λ (b : ℕ). over_same (map_of s.active) f.view.array (over (map_of s.frozen) f.view.array) b (sym (none f.view.array b)) in
-    record {
-      view = f.view;
-      holds = f.holds;
-      under_way = λ more. absurd (omega (arith, more, idle));
-      some = λ more. absurd (omega (arith, more, idle));
-      blocks = f.blocks;
-      floor_count = f.floor_count;
-      middle_count = length book.writes;
-      arrays = grind (arith, f.arrays, none, now, first_all book);
-      stamps = omega (arith, f.stamps);
-      ours = f.ours;
-    }
+    shows_book {k = f.floor_count} {n = length book.writes} f s.frozen s.active (λ more. absurd (omega (arith, more, idle))) refl refl
+    (grind (arith, f.arrays, none, over, take-length book.writes)) (omega (arith, f.stamps))
 
 -- the active batch takes a write
 pub appends : {m : State} {s : Cached} {book : Book} (more : Entries) (address : ℕ) (bytes : List ℕ) (count : ℕ)
@@ -110,7 +82,7 @@ appends {s = s} {book = book} more address bytes count put f =
 -- with both batches empty everything is durable
 pub settles : {m : State} {s : Cached} {book : Book} → s.frozen.numbers ≡ [] → s.active.numbers ≡ [] → FitsBook m s book
     → FitsBook m s (promised book)
-settles {s = s} {book = book} no_frozen no_active f = grind (arith, nat_tests, over_none, over, map_of, shows_book, first_all)
+settles {s = s} {book = book} no_frozen no_active f = grind (arith, nat_tests, over_none, over, map_of, shows_book, take-length book.writes)
 
 -- an image that is ours for the blocks after some of the first writes may be found
 pub may_find : {size : ℕ} {book : Book} {shape : Shape} {image : Image} {a : Array} {next : ℕ} (k : ℕ) → book.mark ≤ k
@@ -128,7 +100,7 @@ finds m s book f image left =
     (λ durable. may_find f.floor_count a.promises (omega (arith, a.rises, a.accepted)) f.blocks a.floor_is durable
     (omega (arith, f.stamps, as_many)))
     (λ whole. may_find f.middle_count (omega (arith, a.promises, a.rises)) a.accepted f.blocks
-    (λ b below. rw (f.under_way whole.0) (with_entries s.frozen.numbers s.frozen.bytes f.view.array b) ∙ a.middle_is b below) whole.1
+    (λ b below. rw (f.under_way whole.0) (entries_over 0 s.frozen.numbers s.frozen.bytes f.view.array b) ∙ a.middle_is b below) whole.1
     (omega (arith, f.stamps, as_many, f.some whole.0)))
     (may_leave_ours m.size s.log f.view image left)
 

@@ -1,14 +1,14 @@
 -- A store whose batches are empty: what fits, what is sent, how many steps are left else, and that at rest everything is at home.
-use Rattle.std.{specs.Prelude.false, proofs.{lemmas.{List.nil_from_length, Bool.{cases_lt, cases_Bool, Decides.nat_tests}}, Common.◌≡◌}}
-use Rattle.std.proofs.Common.{◌+◌, ◌<◌, ◌≤◌, ℕ, ◌∙◌, sym, ap, arith, true, false, List, [], length, ◌⊎◌, Bool, refl, inl, inr}
+use Rattle.std.proofs.Common.{rules, ◌≡◌, ◌+◌, ◌<◌, ◌≤◌, ℕ, ◌∙◌, sym, ap, arith, true, false, List, [], length, ◌⊎◌, Bool, refl, inl, inr}
+use Rattle.std.{proofs.lemmas.{Bool.{cases_lt, cases_Bool, Decides.nat_tests}, List.nil_from_length}, specs.Prelude.false}
 use Rattle.medium.specs.{Medium.{State, IsSound}, Moments.EachCut, Sent.SendsUpTo}
 use Rattle.spec.specs.Book.{Book, array_of}
-use Rattle.cache.{specs.{Blocks.over, Entries.{map_of, Entries}}, proofs.Arrays.unlisted_empty}
-use Rattle.redo_log.{specs.Value.{LogValue, Owes, CanPass, IsAway}, proofs.{HeldLog.many, StoreFacts.{home_is, blocks_guarded}}}
-use Rattle.blocks.specs.{Settled.{IsAtHome, IsSettled}, OneBatch.SendsOneBatch, Written.IsWritten, Ahead.is_covered, Prepared.RestsAhead}
-use Rattle.blocks.specs.{Work.{IsAheadStep, GoesOnAhead}, StoreValue.{Cached, layout_of, is_dead, steps_left, FitsBook, FitsBeside}}
-use Rattle.blocks.{specs.StoreValue.{active_of, transfer_limit, unwritten}, proofs.BookTurns.{over_none, settles}}
-use Rattle.blocks.{specs.Background.with_counted, proofs.TurnsJoined.nothing_left}
+use Rattle.cache.{specs.{Entries.{map_of, Entries}, Blocks.over}, proofs.Arrays.unlisted_empty}
+use Rattle.redo_log.{specs.Value.{LogValue, Owes, CanPass, IsAway}, proofs.{StoreFacts.{home_is, blocks_guarded}, HeldLog.many}}
+use Rattle.blocks.specs.StoreValue.{Cached, layout_of, is_dead, steps_left, FitsBook, FitsBeside, active_of, transfer_limit, unwritten}
+use Rattle.blocks.{specs.{Work.{IsAheadStep, GoesOnAhead}, Settled.{IsAtHome, IsSettled}}, proofs.BookTurns.{over_none, settles}}
+use Rattle.blocks.{proofs.TurnsJoined.nothing_left, specs.{Background.with_counted, OneBatch.SendsOneBatch, Prepared.RestsAhead}}
+use Rattle.blocks.specs.{Written.IsWritten, Ahead.is_covered}
 
 -- a list without elements is empty
 pub none_of : {A : Type 0} (l : List A) → length l ≤ 0 → l ≡ []
@@ -31,21 +31,13 @@ module _ (m : State) (sound : IsSound m) (s : Cached) (owes : Owes s.log) (under
   cut_home book f ours image cut b below =
       let g = blocks_guarded s.log m f.view sound f.holds live (f.ours ∙ ours) image cut in
       let keeps = g.0.stored.keeps in
-      let records = none_of f.view.records (grind (arith, many f.holds, empty)) in
+      let records = nil_from_length f.view.records (grind (arith, many f.holds, empty)) in
       sym (g.1 (s.log.shape.home + b) (λ e. omega (arith, e, keeps.super.home_is.0)))
       ∙ (rw records at (keeps.blocks b (omega (arith, below, f.blocks)))) ∙ durable book f b below
 
   -- a store without steps is at rest
   pub settled : IsSettled m s
-  settled = record {
-    none_waits = empty;
-    none_under_way = under_way;
-    active = (nothing_left s none).1;
-    frozen = (nothing_left s none).0;
-    durable = λ book f. settles (nothing_left s none).0 (nothing_left s none).1 f;
-    home = at_home;
-    cuts = cut_home;
-  }
+  settled = let left = nothing_left s none in search (rules, empty, left, settles, at_home, cut_home)
 
 -- no step is left where no record is under way, none waits, and both batches are empty
 pub none_left : (s : Cached) → Owes s.log → s.log.under_way ≡ [] → s.log.waiting ≡ [] → s.log.steps_left ≡ 0 → s.frozen.numbers ≡ []
@@ -77,10 +69,6 @@ frozen_as old new same none = ap (λ (batch : Entries). batch.numbers) same ∙ 
 pub step_sent : (ahead : Bool) (before after : State) (log : LogValue) → SendsUpTo 2 before after → SendsOneBatch ahead before after log
 step_sent ahead before after log two = grind (arith, two)
 
--- where no flush is counted, and something is to be done ahead, a step ahead does it
-does_some : (log : LogValue) → is_covered log ≡ false → ¬ RestsAhead log → CanPass log ⊎ IsAway log
-does_some log not some = grind (arith, nat_tests, not, some)
-
 -- a step ahead that does something leaves fewer
 pub go_falls : (before after : State) (old new : Cached) → GoesOnAhead before after old new → CanPass old.log ⊎ IsAway old.log
     → is_dead new ≡ false → steps_left new < steps_left old
@@ -100,5 +88,5 @@ ahead_fewer before after old new step live idle some lives =
     let goes = step.goes refl live idle in
     elim (cases_Bool (is_covered old.log)) [
       | inl covered ↦ grind (arith, nat_tests, covered, idle, no_more_ahead before after (with_counted old) new goes lives)
-      | inr not ↦ go_falls before after old new (rw not at goes) (does_some old.log not some) lives
+      | inr not ↦ go_falls before after old new (rw not at goes) (grind (arith, nat_tests, not, some)) lives
     ]

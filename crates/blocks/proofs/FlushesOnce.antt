@@ -1,21 +1,17 @@
 -- One step ahead, or one that writes back, keeps headroom, and each record makes one flush, whatever calls come between.
-use Rattle.std.{proofs.Common.{rules, ◌≡◌, ◌⊎◌, ◌<◌, inl, inr, refl, arith, length-append, ◌+◌}, specs.Prelude.{ℕ, List, [], ◌∷◌, length}}
-use Rattle.std.{specs.Prelude.{true, false, Bool}, proofs.lemmas.{Bool.{cases_Bool, cases_lt, Decides.nat_tests}, List.nil_from_length}}
+use Rattle.std.proofs.{Common.{rules, ◌≡◌, ◌⊎◌, ◌<◌, inl, inr, refl, arith, length-append, ◌+◌}, lemmas.Bool.{cases_Bool, cases_lt}}
+use Rattle.std.{proofs.lemmas.{Bool.Decides.nat_tests, List.nil_from_length}, specs.Prelude.{ℕ, List, [], ◌∷◌, length, true, false, Bool}}
 use Rattle.medium.specs.{Medium.State, declared.fault.MediumFault.TheVariants.Flush}
 use Rattle.cache.specs.Entries.{Entries}
 use Rattle.redo_log.specs.Value.{LogValue, CanPass, IsAway, IsStepped, IsRetireStepped, next_step_flushes}
 use Rattle.redo_log.specs.declared.progress.Progress.{Progress}
 use Rattle.blocks.specs.{Ahead.counted, Background.{IsBackgroundStep, with_counted}, Written.IsWritten, declared.work.Work.Work}
-use Rattle.blocks.specs.{Retiring.{finished_with, finished}, Headroom.{IsInOrder, RestsWithRoom, HasHeadroom, next_durable, IsSparing}}
-use Rattle.blocks.specs.{Headroom.AreSparing, StoreValue.{Cached, is_dead, steps_left, unwritten, StoreValue, firsts_in, wants}}
-use Rattle.blocks.specs.Work.{GoesOnAhead, IsAheadStep, IsWriteBackStep, MayWrite, SparesSlots, RetiresNone, WorksBy, DoesWork}
-use Rattle.blocks.{specs.declared.work.Work.TheVariants.{Settle}, proofs.EmptyBatches.{written_live, steps_to_write}}
-use Rattle.blocks.proofs.{Steady.{writes_on, steps_once, behind_more, with_more, finished_is}, Headroom.{order_more, headroom_finished}}
-use Rattle.blocks.proofs.Headroom.{two_with_headroom, rests_finished, rests_stepped, landed_stepped, landed_begun, headroom_stepped}
-
--- whether a record is left to write
-written_or_not : (s : Cached) → IsWritten s ⊎ (IsWritten s → ⊥)
-written_or_not s = grind (arith, cases_Bool (is_dead s), written_live s)
+use Rattle.blocks.specs.{Retiring.{finished_with, finished}, Headroom.{RestsWithRoom, HasHeadroom, next_durable, IsSparing, AreSparing}}
+use Rattle.blocks.specs.{StoreValue.{Cached, is_dead, steps_left, unwritten, StoreValue, firsts_in, wants}, Work.{GoesOnAhead, IsAheadStep}}
+use Rattle.blocks.specs.Work.{IsWriteBackStep, MayWrite, SparesSlots, RetiresNone, WorksBy, DoesWork}
+use Rattle.blocks.{specs.declared.work.Work.TheVariants.Settle, proofs.{EmptyBatches.{written_live, steps_to_write}, Steady.writes_on}}
+use Rattle.blocks.proofs.{Steady.{steps_once, finished_is}, Headroom.{ready_more, headroom_finished, rests_finished, rests_stepped}}
+use Rattle.blocks.proofs.Headroom.{landed_stepped, landed_begun, headroom_stepped}
 
 pub to_write : (s : Cached) → ¬ IsWritten s → (is_dead s ≡ false) × (0 < steps_left s) × (0 < unwritten s)
 to_write s left = grind (arith, cases_Bool (is_dead s), cases_lt 0 (unwritten s), left, steps_to_write s)
@@ -24,13 +20,6 @@ to_write s left = grind (arith, cases_Bool (is_dead s), cases_lt 0 (unwritten s)
 may_or_goes : (log : LogValue) → RestsWithRoom log → (MayWrite true log × SparesSlots log)
     ⊎ ((MayWrite true log → ⊥) × (CanPass (counted log) ⊎ IsAway (counted log)))
 may_or_goes log r = grind (arith, nat_tests, r)
-
--- a record that is begun where slots are spared
-pub rests_spared : (numbers : List ℕ) (firsts : List (List ℕ)) (copy : List ℕ) (log : LogValue) → IsInOrder log → 0 < length numbers
-    → SparesSlots log → RestsWithRoom (with_more numbers firsts copy log)
-rests_spared numbers firsts copy log r some spare =
-    let longer = length-append log.waiting (numbers ∷ []) in
-    grind (arith, nat_tests, r, spare, order_more numbers firsts copy log r some, behind_more log.waiting numbers, longer)
 
 -- one step ahead
 rests_ahead : (before after : State) (old new : Cached) → GoesOnAhead before after old new → is_dead new ≡ false
@@ -56,10 +45,6 @@ spared_ahead : (before after : State) (old new : Cached) → IsAheadStep true be
     → is_dead new ≡ false → Spared before after old new
 spared_ahead before after old new step head live = grind (arith, nat_tests, steps_ahead)
 
--- no flush is counted where no step is left
-pub none_counted : (s : Cached) → steps_left s ≡ 0 → counted s.log ≡ s.log
-none_counted s none = grind (arith, nat_tests)
-
 -- a batch becomes durable: its record is one more, and an empty one has none
 pub one_durable : (numbers : List ℕ) (firsts : List (List ℕ)) (copy : List ℕ) (log : LogValue) → HasHeadroom log
     → (0 < log.steps_left → 0 < length numbers)
@@ -74,7 +59,7 @@ both_durable frozen active log head under_way = grind (arith, one_durable, headr
 -- the last step of a record is its one flush
 step_once : (progress : Progress) (old new : LogValue) → HasHeadroom old → 0 < old.steps_left → IsStepped progress old new
     → next_step_flushes old + next_durable old ≡ next_durable new
-step_once progress old new head some stepped = grind (arith, nat_tests, two_with_headroom, steps_once, writes_on, length-append)
+step_once progress old new head some stepped = grind (arith, nat_tests, head, steps_once, writes_on, length-append)
 
 settles_once : (ahead : Bool) (before after : State) (old new : Cached) → IsBackgroundStep ahead before after old new
     → RetiresNone Settle ahead old → HasHeadroom old.log → is_dead new ≡ false
@@ -83,25 +68,27 @@ settles_once ahead before after old new order kind head live = grind (arith, nat
 
 spared_back : (before after : State) (old new : Cached) → IsWriteBackStep true before after old new → HasHeadroom old.log
     → is_dead new ≡ false → Spared before after old new
-spared_back before after old new step head live = elim (written_or_not old) [
-  | inl done ↦ grind (arith, step.written done, head)
-  | inr left ↦ elim (cases_lt 0 old.log.steps_left) [
-    | inl some ↦ grind (arith, step.goes_on left some, live, head, step_once, landed_stepped)
-    | inr few ↦
-        let r : RestsWithRoom old.log = grind (arith, head) in
-        let more = to_write old left in
-        elim (may_or_goes old.log r) [
-          | inl may ↦
-              let b = step.begins left may.0 in
-              let some : 0 < length new.frozen.numbers = grind (arith, b.next, more, nil_from_length old.frozen.numbers) in
-              let rests = rests_spared new.frozen.numbers (firsts_in new.frozen) new.frozen.bytes old.log r.order some may.1 in
-              grind (arith, b, live, rests, landed_begun new.frozen.numbers (firsts_in new.frozen) new.frozen.bytes old.log)
-          | inr not ↦
-              let goes = (step.makes_way left (omega (arith, few)) not.0).goes not.1 in
-              spared_ahead before after old new (grind (arith, more, few, goes)) head live
-        ]
-  ]
-]
+spared_back before after old new step head live =
+    let written : IsWritten old ⊎ (IsWritten old → ⊥) = grind (arith, cases_Bool (is_dead old), written_live old) in
+    elim written [
+      | inl done ↦ grind (arith, step.written done, head)
+      | inr left ↦ elim (cases_lt 0 old.log.steps_left) [
+        | inl some ↦ grind (arith, step.goes_on left some, live, head, step_once, landed_stepped)
+        | inr few ↦
+            let r : RestsWithRoom old.log = grind (arith, head) in
+            let more = to_write old left in
+            elim (may_or_goes old.log r) [
+              | inl may ↦
+                  let b = step.begins left may.0 in
+                  let some : 0 < length new.frozen.numbers = grind (arith, b.next, more, nil_from_length old.frozen.numbers) in
+                  let rests = ready_more new.frozen.numbers (firsts_in new.frozen) new.frozen.bytes old.log (r.order, may.1) some in
+                  grind (arith, b, live, rests, landed_begun new.frozen.numbers (firsts_in new.frozen) new.frozen.bytes old.log)
+              | inr not ↦
+                  let goes = (step.makes_way left (omega (arith, few)) not.0).goes not.1 in
+                  spared_ahead before after old new (grind (arith, more, few, goes)) head live
+            ]
+      ]
+    ]
 
 -- a step of the work leaves headroom
 pub does_work : {M : Type 0} {state : M → State} {Follows : M → M → Type 0} {work : Work} {old new : StoreValue M}
@@ -111,11 +98,8 @@ does_work {state = state} {work = Settle} {old = old} {new = new} made =
 does_work {old = old} {new = new} made = grind (arith, made, spared_ahead, spared_back)
 
 -- one call after another
-sparing_both : {M : Type 0} (state : M → State) (old mid new : StoreValue M) → IsSparing state old mid → IsSparing state mid new
-    → IsSparing state old new
-sparing_both state old mid new first last = grind (arith, first, last, cases_Bool (is_dead mid.cached))
-
 pub sparing_all : {M : Type 0} (state : M → State) (old new : StoreValue M) (between : List (StoreValue M))
     → AreSparing state old between new → IsSparing state old new
 sparing_all state old new [] one = one
-sparing_all state old new (mid ∷ rest) calls = sparing_both state old mid new calls.0 (sparing_all state mid new rest calls.1)
+sparing_all state old new (mid ∷ rest) calls =
+    let last = sparing_all state mid new rest calls.1 in grind (arith, calls, last, cases_Bool (is_dead mid.cached))

@@ -1,34 +1,28 @@
 -- A store that goes ahead keeps headroom, turn by turn, and its records flush once each.
-use Rattle.std.{proofs.Common.{rules, ◌≡◌, ◌⊎◌, ◌<◌, ◌≤◌, ◌+◌, arith, length-append, inl, inr}, specs.Prelude.{ℕ, List, length, drop, true}}
-use Rattle.std.{specs.Prelude.false, proofs.lemmas.{Bool.{cases_Bool, cases_lt, Decides.nat_tests}, List.nil_from_length}}
+use Rattle.std.proofs.{Common.{rules, ◌≡◌, ◌⊎◌, ◌<◌, ◌≤◌, ◌+◌, arith, length-append, inl, inr}, lemmas.Bool.{cases_Bool, cases_lt}}
+use Rattle.std.{proofs.lemmas.{Bool.Decides.nat_tests, List.nil_from_length}, specs.Prelude.{ℕ, List, length, drop, true, false}}
 use Rattle.medium.specs.Medium.{State}
-use Rattle.journal.specs.declared.log_format.LogFormat.TheVariants.{Two}
 use Rattle.redo_log.specs.{Value.{LogValue, IsRetireStepped, IsStepped, begun, of_oldest}, declared.progress.Progress.Progress}
-use Rattle.blocks.specs.{Started.IsStartedBy, declared.start.Keeping.Keeping, Flushing.{finish_flushes, both_flushes}, Retiring.HasSlots}
-use Rattle.blocks.specs.{Retiring.finished_with, Background.{IsBackgroundStep, MayBegin}, Ahead.{oldest_retired, passed, sent_home}}
-use Rattle.blocks.specs.{Ahead.{ahead_room, may_go_by}, Headroom.{IsInOrder, RestsWithRoom, HasHeadroom, landed}, StoreValue.Cached}
-use Rattle.blocks.{specs.StoreValue.{is_dead, firsts_in, wants}, proofs.Steady.{idle_behind, steps_once, blocks_more, blocks_behind}}
-use Rattle.blocks.proofs.Steady.{behind_more, first_owed, with_more, finished_is}
+use Rattle.blocks.specs.{Started.IsStartedBy, declared.start.Keeping.Keeping, Flushing.{finish_flushes, both_flushes}}
+use Rattle.blocks.specs.{Retiring.{finished_with, HasSlots}, Background.{IsBackgroundStep, MayBegin}, Ahead.{oldest_retired, passed}}
+use Rattle.blocks.specs.{Ahead.{sent_home, ahead_room, may_go_by}, Headroom.{IsInOrder, RestsWithRoom, HasHeadroom, landed}}
+use Rattle.blocks.{specs.{StoreValue.{Cached, is_dead, firsts_in, wants}, Work.SparesSlots}, proofs.Steady.{idle_behind, steps_once}}
+use Rattle.blocks.proofs.Steady.{blocks_more, blocks_behind, behind_more, first_owed, with_more, finished_is}
 
--- of the record behind the oldest no step is made
-next_owed : (log : LogValue) → IsInOrder log → 0 < length (drop 1 log.waiting) → 3 ≤ of_oldest (oldest_retired log)
-next_owed log r some = grind (arith, nat_tests, first_owed, blocks_behind)
-
--- the oldest record is retired
+-- the oldest record is retired, and of the one behind it no step is made
 order_retired : (log : LogValue) → IsInOrder log → 0 < length log.waiting → IsInOrder (oldest_retired log)
-order_retired log r one = grind (arith, r, blocks_behind log.waiting r.blocks, next_owed log r)
+order_retired log r one = grind (arith, r, blocks_behind log.waiting r.blocks, first_owed (drop 1 log.waiting))
 
 pub rests_stepped : (old new : LogValue) → RestsWithRoom old → IsRetireStepped old new → RestsWithRoom new
 rests_stepped old new r stepped = search (rules, arith, cases_lt, order_retired)
 
--- three slots are free, or two are, and the oldest record is home
-record IsReady (log : LogValue) : Type 0 where
-  order : IsInOrder log
-  free : HasSlots 3 log ⊎ (HasSlots 2 log × (of_oldest log ≡ 2))
+-- slots are spared for one record more
+abbrev pub IsReady : LogValue → Type 0
+IsReady log = IsInOrder log × SparesSlots log
 
 -- behind a record that is retired the next one is brought home
 ready_retired : (log : LogValue) → RestsWithRoom log → 0 < length log.waiting → IsReady (sent_home (oldest_retired log))
-ready_retired log r one = grind (arith, nat_tests, order_retired, next_owed)
+ready_retired log r one = grind (arith, nat_tests, order_retired, blocks_behind, first_owed (drop 1 log.waiting))
 
 -- so the log is ready for one record more: the oldest is passed where it is home, and else none is
 passes : (log : LogValue) → RestsWithRoom log → ((passed log ≡ oldest_retired log) × (0 < length log.waiting))
@@ -42,36 +36,25 @@ ready_room : (log : LogValue) → RestsWithRoom log → IsReady (ahead_room log)
 ready_room log r = grind (arith, nat_tests, passes log r, ready_retired log r, ready_still log r.order)
 
 -- one record more
-module _ (numbers : List ℕ) (firsts : List (List ℕ)) (copy : List ℕ) (log : LogValue) where
-  pub order_more : IsInOrder log → 0 < length numbers → IsInOrder (with_more numbers firsts copy log)
-  order_more r some = grind (arith, r, blocks_more, behind_more, length-append)
+module _ (numbers : List ℕ) (firsts : List (List ℕ)) (copy : List ℕ) where
+  pub ready_more : (log : LogValue) → IsReady log → 0 < length numbers → RestsWithRoom (with_more numbers firsts copy log)
+  ready_more log r some = grind (arith, nat_tests, r, blocks_more, behind_more, length-append)
 
-  -- it is begun with three slots free, or where the log is ready for it
-  pub rests_begun : IsInOrder log → HasSlots 3 log → 0 < length numbers → RestsWithRoom (with_more numbers firsts copy log)
-  rests_begun r slots some = grind (arith, r, order_more r some)
+  pub landed_begun : (log : LogValue) → landed (begun numbers firsts copy log) ≡ with_more numbers firsts copy log
+  landed_begun log = grind arith
 
-  ready_more : IsReady log → 0 < length numbers → RestsWithRoom (with_more numbers firsts copy log)
-  ready_more r some = grind (arith, r, order_more, behind_more, length-append)
-
-  pub landed_begun : landed (begun numbers firsts copy log) ≡ with_more numbers firsts copy log
-  landed_begun = grind arith
-
-module _ (numbers : List ℕ) (firsts : List (List ℕ)) (copy : List ℕ) (log : LogValue) where
   -- it becomes durable, however many slots were free
-  pub rests_finished : RestsWithRoom log → 0 < length numbers → RestsWithRoom (finished_with true numbers firsts copy log)
-  rests_finished r some = search (rules, arith, finished_is, ready_more, ready_room)
+  pub rests_finished : (log : LogValue) → RestsWithRoom log → 0 < length numbers
+      → RestsWithRoom (finished_with true numbers firsts copy log)
+  rests_finished log r some = search (rules, arith, finished_is, ready_more, ready_room)
 
-  pub headroom_finished : HasHeadroom log → HasHeadroom (finished_with true numbers firsts copy log)
-  headroom_finished head = grind (arith, nat_tests, head, rests_finished)
-
--- a log with headroom is of format 2
-pub two_with_headroom : (log : LogValue) → HasHeadroom log → log.shape.format ≡ Two
-two_with_headroom log head = grind (arith, nat_tests)
+  pub headroom_finished : (log : LogValue) → HasHeadroom log → HasHeadroom (finished_with true numbers firsts copy log)
+  headroom_finished log head = grind (arith, nat_tests, head, rests_finished log)
 
 -- one batch, whose record is under way, or is to be begun
 pub one_each : (numbers : List ℕ) (log : LogValue) → HasHeadroom log → (0 < log.steps_left → 0 < length numbers)
     → finish_flushes numbers log ≡ wants numbers
-one_each numbers log head under_way = grind (arith, nat_tests, two_with_headroom log head, steps_once)
+one_each numbers log head under_way = grind (arith, nat_tests, head, steps_once)
 
 -- both batches
 pub both_each : (frozen active : List ℕ) (log : LogValue) → HasHeadroom log → (0 < log.steps_left → 0 < length frozen)
@@ -96,7 +79,7 @@ headroom_stepped before after old new order head live =
             let some : 0 < length new.frozen.numbers = grind (arith, b.next, begins, nil_from_length old.frozen.numbers) in
             let order = (idles (omega (arith, few))).order in
             rw ((b.live live).1, landed_begun new.frozen.numbers (firsts_in new.frozen) new.frozen.bytes old.log)
-            (rests_begun new.frozen.numbers (firsts_in new.frozen) new.frozen.bytes old.log order begins.0.1 some)
+            (ready_more new.frozen.numbers (firsts_in new.frozen) new.frozen.bytes old.log (order, inl begins.0.1) some)
         | inr not ↦
             let r = order.retires alive (omega (arith, few)) not in
             let empty = nil_from_length old.log.waiting in

@@ -8,29 +8,20 @@ use Rattle.spec.specs.Book.{Book}
 use Rattle.blocks.specs.{Started.StartLeaves, Limit.{Shape, limit_of, HasLimit}, StoreValue.{Cached, transfer_limit, FitsBook}}
 
 pub some_limit : (size : ℕ) (image : Image) → Stands size image → (limit : ℕ) × HasLimit size limit image
-some_limit size image there = (
-  limit_of there.0.format,
-  record { shape = there.0; array = there.1; next = there.2; stands = there.3; limit_is = refl },
-)
+some_limit size image there =
+    (limit_of there.0.format, record { shape = there.0; array = there.1; next = there.2; stands = there.3; limit_is = refl })
 
 pub one_limit : (size limit other : ℕ) (image : Image) → HasLimit size limit image → HasLimit size other image → limit ≡ other
 one_limit size limit other image has is =
     has.limit_is ∙ ap (λ (s : Shape). limit_of s.format) (StandsFor-one _ _ _ _ _ _ _ _ _ has.stands is.stands).0 ∙ sym is.limit_is
 
--- an image for which an image before stood has the limit of that one
-limit_of_one : (before : State) (limit : ℕ) → EachCut (HasLimit before.size limit) before → (image : Image) → StandsForOneOf before image
-    → HasLimit before.size limit image
-limit_of_one before limit has image is =
-    let was = has is.before is.allowed in
-    let one = StandsFor-one _ _ _ _ _ _ _ _ _ was.stands is.was.stands in
-    let limit_is : limit ≡ limit_of is.shape.format = was.limit_is ∙ ap (λ (s : Shape). limit_of s.format) one.0 in
-    grind (arith, is, limit_is)
-
--- a start, good or refused, leaves images of the limit that they had
+-- a start, good or refused, leaves images of the limit that they had: each stands for what one before it stood for
 pub start_keeps_limit : (before after : State) (limit : ℕ) → StartLeaves before after → EachCut (IsOursForSome before.size) before
     → EachCut (HasLimit before.size limit) before → LeavesOnly (HasLimit before.size limit) before after
 start_keeps_limit before after limit leaves ours has =
-    weaker (StandsForOneOf before) (HasLimit before.size limit) before after (limit_of_one before limit has) (leaves.cuts ours)
+    weaker (StandsForOneOf before) (HasLimit before.size limit) before after (λ image is.
+    let was = has is.before is.allowed in
+    let one = StandsFor-one _ _ _ _ _ _ _ _ _ was.stands is.was.stands in grind (arith, is, was.limit_is, one)) (leaves.cuts ours)
 
 -- between two calls a cut leaves what has the limit of the store
 pub cut_keeps_limit : (m : State) (cached : Cached) (book : Book) → FitsBook m cached book

@@ -1,17 +1,16 @@
 -- What is known of an image by the books for which it stands, and the store that a recovery starts.
-use Rattle.std.{specs.Prelude.{Bool, true}, proofs.Common.{◌≡◌, ◌≤◌, ◌<◌, ◌^◌, ℕ, ⊎_elim, arith, ◌∙◌, sym, ap, subst, refl, Bool, true}}
-use Rattle.std.proofs.{Common.{Option, List, [], ◌∷◌, rules}, lemmas.Bool.{false≢true, Decides.nat_tests}}
-use Rattle.medium.{specs.{Medium.{State, Image, IsSound}, Moments.{EachCut, IsFlushed, LeavesOnly}}, proofs.Moments.{at_exit, only_image}}
+use Rattle.std.proofs.Common.{◌≡◌, ◌≤◌, ◌<◌, ◌^◌, ℕ, ⊎_elim, arith, ◌∙◌, sym, ap, subst, refl, Bool, true, Option, List, [], ◌∷◌, rules}
+use Rattle.std.{proofs.lemmas.Bool.{Decides.nat_tests, false≢true}, specs.Prelude.{Bool, true}}
+use Rattle.medium.{specs.{Moments.{EachCut, IsFlushed, LeavesOnly}, Medium.{State, Image, IsSound}}, proofs.Moments.{at_exit, only_image}}
 use Rattle.spec.specs.{Blocks.{Array, Write, apply, after}, Book.{Book, opened}}
-use Rattle.journal.specs.{Places.{Shape, limit_of}, declared.log_format.LogFormat.LogFormat, Formats.shape_of, Standing.{StandsFor, Stands}}
-use Rattle.journal.{specs.Standing.{IsOurs, Keeps}, proofs.StandingLaws.{StandsFor-one, HasFault-stands}}
-use Rattle.cache.specs.Entries.{Entries}
+use Rattle.journal.{proofs.StandingLaws.{StandsFor-one, HasFault-stands}, specs.{Standing.{StandsFor, Stands, IsOurs}, Formats.shape_of}}
+use Rattle.journal.specs.Places.{Shape, limit_of}
 use Rattle.redo_log.{specs.Held.{resting_view, HoldsView}, proofs.StoreFacts.empty_holds}
-use Rattle.recovery.specs.{declared.{start_fault.StartFault.StartFault, recovered.Recovered.Recovered}, Recovered.IsOursForSome}
-use Rattle.recovery.specs.Recovered.{StandsForOneOf, IsRecoveredFrom}
-use Rattle.blocks.specs.{Book.Same, Finding.{StandsAs, MayFind, FoundWith}, Started.{IsStartCause, IsStartedBy, started_log, ring_by}}
-use Rattle.blocks.specs.{Started.keeps_by, Opening.{StandsForOpening, OpensOn, IsCauseFor}, declared.start.Keeping.Keeping}
-use Rattle.blocks.{specs.StoreValue.{Cached, layout_of, blocks_of, FitsBook}, proofs.BookTurns.{apply_same, shows_book, may_find}}
+use Rattle.recovery.specs.{Recovered.{IsOursForSome, StandsForOneOf, IsRecoveredFrom}, declared.start_fault.StartFault.StartFault}
+use Rattle.recovery.specs.declared.recovered.Recovered.{Recovered}
+use Rattle.blocks.specs.{Started.{IsStartCause, IsStartedBy, started_log, ring_by, keeps_by}, Finding.{StandsAs, MayFind, FoundWith}}
+use Rattle.blocks.specs.{StoreValue.{Cached, layout_of, blocks_of, FitsBook}, Opening.{StandsForOpening, OpensOn, IsCauseFor}, Book.Same}
+use Rattle.blocks.{proofs.BookTurns.{apply_same, shows_book, may_find}, specs.declared.start.Keeping.Keeping}
 use Rattle.journal.specs.Standing as image
 use Rattle.recovery.specs.Recovered as recovered
 
@@ -43,19 +42,13 @@ stands_for_opening size book image is = (is.0, is.1, is.2.stands)
 pub stands_for_some : (size : ℕ) (book : Book) (image : Image) → StandsForOpening size book image → Stands size image
 stands_for_some size book image there = (there.0, book.opening, book.stamp, there.2)
 
--- what fits a book fits one that opened with the same blocks
-reopened : (m : State) (s : Cached) (book : Book) (c : Array) → Same book.blocks book.opening c → FitsBook m s book
-    → FitsBook m s (record book { opening = c })
-reopened m s book c same f = grind (arith, ℕ, after_same, shows_book)
-
 -- a store that serves what the contents stood for fits each book with which a life may open over them
 pub serves : (before after : State) (s : Cached) (array : Array) (next : ℕ) → StandsFor before.size (layout_of s) before.content array next
     → ((ours : Bool) → (ours ≡ true → EachCut (IsOursForSome before.size) before) → FitsBook after s (opened (blocks_of s) array next ours))
     → (book : Book) → OpensOn before book → FitsBook after s book
 serves before after s array next stood fits book on =
     let one = StandsFor-one _ _ _ _ _ _ _ _ _ stood on.stands.2 in
-    let f = reopened after s (opened (blocks_of s) array next book.ours) book.opening one.2 (fits book.ours (each_ours before book on)) in
-    grind (arith, f, on.opens, on.stands, one)
+    let f = fits book.ours (each_ours before book on) in grind (arith, ℕ, after_same, shows_book, f, on.opens, on.stands, one)
 
 module _ (before after : State) (sound : IsSound after) (size_stays : after.size ≡ before.size) (book : Book) (on : OpensOn before book)
     (flushed : IsFlushed before) where
@@ -67,12 +60,11 @@ module _ (before after : State) (sound : IsSound after) (size_stays : after.size
       let same = StandsFor-one _ _ _ _ _ _ _ _ _ on.stands.2 (rw is at one.was).stands in
       let blocks_same : one.shape.blocks ≡ book.blocks = sym (ap (λ (x : Shape). x.blocks) same.0) ∙ on.stands.1 in
       let arrays : Same book.blocks book.opening one.array = subst (λ (n : ℕ). Same n book.opening one.array) on.stands.1 same.2 in
-      let stamps : book.stamp ≡ one.next = same.1 in
       let none = ap (λ (b : Book). b.mark) on.opens in
       let found = λ (b : ℕ) (below : b < book.blocks). sym (arrays b below) in
       rw size_stays (⊎_elim
-      (λ is. may_find 0 (omega (arith, none)) (omega arith) blocks_same found is (omega (arith, stamps)))
-      (λ is. may_find 0 (omega (arith, none)) (omega arith) blocks_same found is (omega (arith, stamps)))
+      (λ is. may_find 0 (omega (arith, none)) (omega arith) blocks_same found is (omega (arith, same.1)))
+      (λ is. may_find 0 (omega (arith, none)) (omega arith) blocks_same found is (omega (arith, same.1)))
       one.is)
 
 module _ (before after : State) (book : Book) (on : OpensOn before book) where
@@ -80,24 +72,19 @@ module _ (before after : State) (book : Book) (on : OpensOn before book) where
   no_fault fault h = grind (arith, HasFault-stands)
 
   used_up : image.HasNoStampLeft before.size before.content → 2 ^ 63 ≤ book.stamp
-  used_up (shape, array, next, stood, past) =
-      let same = StandsFor-one _ _ _ _ _ _ _ _ _ stood on.stands.2 in omega (arith, same.1, past)
+  used_up h = omega (arith, (StandsFor-one _ _ _ _ _ _ _ _ _ h.3 on.stands.2).1, h.4)
 
   -- contents that stand for a book have no fault but that their stamps may be used up
   pub is_cause_for : (fault : StartFault) → IsStartCause before after fault → IsCauseFor book before after fault
   is_cause_for fault h =
       grind (arith, h, no_fault image.BadSuper, no_fault image.BadVersion, no_fault image.BadSize, no_fault image.BadHead, used_up)
 
--- an empty batch with room for as many blocks as a record of this format
-abbrev pub empty_batch : LogFormat → Entries
-empty_batch format = record { room = limit_of format; numbers = []; bytes = [] }
-
 -- a store with nothing cached, whose first record takes this stamp
 abbrev pub started : Keeping → Shape → ℕ → Cached
 started keeping shape next = record {
   log = started_log keeping shape next;
-  active = empty_batch shape.format;
-  frozen = empty_batch shape.format;
+  active = record { room = limit_of shape.format; numbers = []; bytes = [] };
+  frozen = record { room = limit_of shape.format; numbers = []; bytes = [] };
 }
 
 -- it fits a life that opens with the array that is at home

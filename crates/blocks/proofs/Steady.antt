@@ -1,7 +1,7 @@
 -- How room is made in the ring, what a batch costs that becomes durable, and how records alone fill the ring and keep it steady.
-use Rattle.std.proofs.Common.{rules, ◌≡◌, ◌⊎◌, ◌<◌, ◌≤◌, ◌+◌, ◌-◌, ◌*◌, arith, length-append, refl, inl, inr}
-use Rattle.std.proofs.lemmas.{Bool.Decides.nat_tests, List.{Sums.{sum_by-cons, sum_by_push}, Elements.{All-append, All-cons}}}
-use Rattle.std.specs.Prelude.{ℕ, zero, suc, List, [], ◌∷◌, ◌++◌, length, drop, sum_by, All, true, false, Bool}
+use Rattle.std.proofs.{Common.{rules, ◌≡◌, ◌⊎◌, ◌<◌, ◌≤◌, ◌+◌, ◌-◌, ◌*◌, arith, length-append, refl, inl}, lemmas.Bool.cases_Bool}
+use Rattle.std.proofs.lemmas.{Bool.Decides.nat_tests, List.{Sums.{sum_by-cons, sum_by_push}, Elements.{All-push, All-drop}}}
+use Rattle.std.specs.Prelude.{ℕ, zero, suc, List, [], ◌∷◌, ◌++◌, length, drop, sum_by, All, true, Bool}
 use Rattle.medium.specs.{Medium.State, Sent.sent, declared.fault.MediumFault.TheVariants.Flush}
 use Rattle.cache.specs.Entries.{Entries}
 use Rattle.redo_log.specs.Value.{LogValue, behind_oldest, of_oldest, ahead_of, home_calls, retire_steps_of, settled, begun, turns_calls}
@@ -15,8 +15,6 @@ use Rattle.blocks.specs.{Retiring.{HasSlots, made_ready, record_calls, calls_fro
 use Rattle.blocks.specs.{Steady.{IsFilling, IsFuller, finished_each, ReachesSteady, second_of, steady_calls}, Prepared.NeedsNoneAhead}
 use Rattle.blocks.specs.Flushing.{left_flushes, room_flushes, finish_flushes, both_flushes}
 use Rattle.journal.specs.{declared.log_format.LogFormat.TheVariants.Two, Places.limit_of}
-
--- ---- a count of calls, by how many each step makes
 
 -- between two moments calls, writes and flushes were made as for these steps: all but so many that are left
 pub record Spends (keeps : Bool) (left all : ℕ) (before after : State) : Type 0 where
@@ -41,17 +39,16 @@ pub record IsFull (old mid : LogValue) : Type 0 where
   pub ring : old.next ≤ old.head + old.ring
   pub some : 1 ≤ old.ring
 
-module _ {old mid : LogValue} {before between : State} (f : IsFull old mid) (made : Retires old mid before between) where
-  -- one step more, good or refused
-  pub retires_more : {new : LogValue} {after : State} → IsRetireStepped mid new
-      → after.calls ≡ between.calls + turn_calls mid.keeps (of_oldest mid)
-      → sent after ≤ sent between + turn_sends (of_oldest mid) → after.made Flush ≡ between.made Flush + turn_flushes (of_oldest mid)
-      → Retires old new before after
-  retires_more {after = after} stepped calls sends flushes = grind (arith, nat_tests, stepped, calls, sends, flushes)
+-- one step more, refused or good
+pub retires_refused : {old mid : LogValue} {before between : State} → IsFull old mid → Retires old mid before between → (after : State)
+    → sent after ≤ sent between + turn_sends (of_oldest mid) → sent after ≤ sent before + turns_sends (of_oldest old)
+retires_refused full made after sends = grind (arith, full, made, sends)
 
-  pub retires_refused : (after : State) → sent after ≤ sent between + turn_sends (of_oldest mid)
-      → sent after ≤ sent before + turns_sends (of_oldest old)
-  retires_refused after sends = grind (arith, sends)
+pub retires_more : {old mid new : LogValue} {before between after : State} → IsFull old mid → Retires old mid before between
+    → IsRetireStepped mid new → after.calls ≡ between.calls + turn_calls mid.keeps (of_oldest mid)
+    → sent after ≤ sent between + turn_sends (of_oldest mid) → after.made Flush ≡ between.made Flush + turn_flushes (of_oldest mid)
+    → Retires old new before after
+retires_more full made stepped calls sends flushes = grind (arith, nat_tests, full, made, stepped, calls, sends, flushes)
 
 -- then there is room for one record: none is retired where a slot was free, and else the oldest
 pub retires_room : {old new : LogValue} {before after : State} → (HasRoom old → (new ≡ old) × (after ≡ before)) → HasRoom new
@@ -72,21 +69,15 @@ steps_once zero some = absurd (omega (arith, some))
 steps_once (suc zero) some = refl
 steps_once (suc (suc left)) some = grind (arith, nat_tests, steps_once (suc left))
 
--- its record was under way, or it is empty
-pub finishes_under_way : (ahead : Bool) (numbers : List ℕ) (firsts : List (List ℕ)) (copy : List ℕ) (log : LogValue) → 0 < log.steps_left
-    → written_out log ≡ finished_with ahead numbers firsts copy log
-finishes_under_way ahead numbers firsts copy log some = grind (arith, nat_tests)
+module _ (ahead : Bool) (frozen active : List ℕ) (log : LogValue) where
+  -- where a slot is free a sync of one batch flushes once
+  pub once : log.shape.format ≡ Two → HasRoom log → frozen ≡ [] → 0 < length active → both_flushes ahead frozen active log ≡ 1
+  once two room none some = grind (arith, nat_tests, steps_once)
 
--- what that of a batch costs whose record is to be begun
-pub begun_costs : (ahead : Bool) (numbers : List ℕ) (log : LogValue) → log.steps_left ≡ 0 → 0 < length numbers
-    → (finish_calls ahead numbers log ≡ ready_calls ahead log + steps_of log.shape.format numbers)
-    × (finish_flushes numbers log ≡ room_flushes log + steps_flushes log.shape.format (steps_of log.shape.format numbers))
-begun_costs ahead numbers log idle some = grind (arith, nat_tests)
-
--- where a slot is free a sync of one batch flushes once
-pub once : (ahead : Bool) (frozen active : List ℕ) (log : LogValue) → log.shape.format ≡ Two → HasRoom log → frozen ≡ []
-    → 0 < length active → both_flushes ahead frozen active log ≡ 1
-once ahead frozen active log two room none some = grind (arith, nat_tests, steps_once)
+  -- where a slot is free for each record that is to be begun, a sync makes the calls of the records
+  pub roomy_both : HasSlots (with_spare ahead (to_begin frozen log + wants active)) log
+      → both_calls ahead frozen active log ≡ record_calls frozen log + calls_from 0 log.shape.format active
+  roomy_both slots = grind (arith, nat_tests)
 
 -- what a batch costs does not depend on the bytes of the one before it
 calls_one : (numbers : List ℕ) (log : LogValue) (k : AllFirsts) (c : List (List ℕ))
@@ -98,40 +89,34 @@ pub costs_behind : (ahead : Bool) (steps : ℕ) (frozen active : List ℕ) (firs
     ≡ finish_calls ahead active (finished_from ahead steps frozen [] [] log))
     × (finish_flushes active (finished_from ahead steps frozen firsts copy log)
     ≡ finish_flushes active (finished_from ahead steps frozen [] [] log))
-costs_behind true zero (n ∷ frozen) (m ∷ active) firsts copy log =
-    (calls_one (m ∷ active) (finished_from true 0 (n ∷ frozen) [] [] log) _ _, refl)
-costs_behind false zero (n ∷ frozen) (m ∷ active) firsts copy log = (refl, refl)
-costs_behind ahead steps frozen active firsts copy log = (refl, refl)
+costs_behind ahead steps frozen active firsts copy log = grind (arith, nat_tests, calls_one)
 
--- the record of a batch is written behind a log that has room
-pub made_finished : (ahead : Bool) (numbers : List ℕ) (firsts : List (List ℕ)) (copy : List ℕ) (old mid new : LogValue) → old.steps_left ≡ 0
-    → 0 < length numbers → mid ≡ made_ready ahead old → new ≡ written_out (begun numbers firsts copy mid)
-    → new ≡ finished_with ahead numbers firsts copy old
-made_finished ahead numbers firsts copy old mid new idle some ready is = grind (arith, nat_tests)
+module _ (ahead : Bool) (numbers : List ℕ) where
+  -- what a batch costs whose record is to be begun
+  pub begun_costs : (log : LogValue) → log.steps_left ≡ 0 → 0 < length numbers
+      → (finish_calls ahead numbers log ≡ ready_calls ahead log + steps_of log.shape.format numbers)
+      × (finish_flushes numbers log ≡ room_flushes log + steps_flushes log.shape.format (steps_of log.shape.format numbers))
+  begun_costs log idle some = grind (arith, nat_tests)
 
--- no step is left of a batch that is durable
-pub idle_behind : (ahead : Bool) (numbers : List ℕ) (log : LogValue) → (finished_with ahead numbers [] [] log).steps_left ≡ 0
-idle_behind ahead numbers log = grind (arith, nat_tests)
+  -- no step is left of a batch that is durable
+  pub idle_behind : (log : LogValue) → (finished_with ahead numbers [] [] log).steps_left ≡ 0
+  idle_behind log = grind (arith, nat_tests)
 
--- where a slot is free for each record that is to be begun, a sync makes the calls of the records
-pub roomy_both : (ahead : Bool) (frozen active : List ℕ) (log : LogValue)
-    → HasSlots (with_spare ahead (to_begin frozen log + wants active)) log
-    → both_calls ahead frozen active log ≡ record_calls frozen log + calls_from 0 log.shape.format active
-roomy_both ahead frozen active log slots = grind (arith, nat_tests)
+  module _ (firsts : List (List ℕ)) (copy : List ℕ) where
+    -- its record was under way, or it is written behind a log that has room
+    pub finishes_under_way : (log : LogValue) → 0 < log.steps_left → written_out log ≡ finished_with ahead numbers firsts copy log
+    finishes_under_way log some = grind (arith, nat_tests)
 
--- a slot is free, and so still, or none is
+    pub made_finished : (old mid new : LogValue) → old.steps_left ≡ 0 → 0 < length numbers → mid ≡ made_ready ahead old
+        → new ≡ written_out (begun numbers firsts copy mid) → new ≡ finished_with ahead numbers firsts copy old
+    made_finished old mid new idle some ready is = grind (arith, nat_tests)
+
+-- a slot is free, and so still
 pub free_is : (log : LogValue) → HasRoom log → HasRoom (sent_home (passed log)) × (ahead_room log ≡ sent_home (passed log))
     × (ahead_room_calls log ≡ passed_calls log + sent_calls (passed log)) × (room_flushes log ≡ 0)
 free_is log room = grind (arith, nat_tests)
 
-pub full_is : (log : LogValue) → (log.next - log.head < log.ring → ⊥) → (with_room log ≡ ahead_room log)
-    × (room_calls log ≡ ahead_room_calls log)
-full_is log full = grind (arith, nat_tests)
-
--- ---- how the oldest record goes home ahead, turn by turn, and what that costs
-
--- A block is away still, or none was; or the blocks that were away are home. With the calls of the steps that are left they are those of
--- all steps, and with the writes and flushes of these no more than all.
+-- A block is away still, or none was; or all are home. What the steps that are left cost is added to what was made so far.
 pub record GoesHome (old new : LogValue) (calls calls' sends sends' : ℕ) : Type 0 where
   pub home : ((new ≡ record old { retire_steps_left = new.retire_steps_left }) × (2 < of_oldest old → 2 < of_oldest new)
       × (of_oldest old ≤ 2 → new ≡ old))
@@ -155,28 +140,18 @@ module _ {old mid : LogValue} {calls calls' sends sends' : ℕ} (so_far : GoesHo
   goes_on_home away sent made few = grind (arith, nat_tests)
 
   -- no block is away any more
-  pub all_home : (IsAway mid → ⊥) → mid ≡ gone_home old
-  all_home home = grind (arith, nat_tests)
-
-  pub all_costs : (IsAway mid → ⊥) → calls' ≡ calls + going_calls old
-  all_costs home = grind (arith, nat_tests, rest)
-
-  pub home_stays_head : mid.head ≡ old.head
-  home_stays_head = grind (arith, nat_tests)
+  pub all_home : (IsAway mid → ⊥) → (mid ≡ gone_home old) × (calls' ≡ calls + going_calls old)
+  all_home home = grind (arith, nat_tests, rest)
 
   -- one more turn, good or refused, and all that were made
-  pub few_home : {made : ℕ} → IsAway mid → made ≤ sends' + next_sends mid → sends_of_oldest old ≤ most_retire_sends old.shape.format
-      → made ≤ sends + limit_of old.shape.format
-  few_home away more few = grind (arith, nat_tests, rest old.keeps (of_oldest mid - 1))
-
-  pub all_sends : sends_of_oldest old ≤ most_retire_sends old.shape.format → sends' ≤ sends + limit_of old.shape.format
-  all_sends few = grind (arith, nat_tests, rest)
+  pub few_home : {made : ℕ} → (made ≤ sends') ⊎ (IsAway mid × (made ≤ sends' + next_sends mid))
+      → sends_of_oldest old ≤ most_retire_sends old.shape.format → made ≤ sends + limit_of old.shape.format
+  few_home more few = grind (arith, nat_tests, more, rest old.keeps (of_oldest mid), rest old.keeps (of_oldest mid - 1))
 
 -- where nothing is to be done ahead nothing is done, by no call
 pub none_ahead : (log : LogValue) → NeedsNoneAhead log
     → (sent_home (passed log) ≡ log) × (passed_calls log ≡ 0) × (sent_calls (passed log) ≡ 0)
-none_ahead log (inl slots) = grind (arith, nat_tests, slots)
-none_ahead log (inr rests) = grind (arith, nat_tests, rests.counted, rests.past, rests.home)
+none_ahead log rests = grind (arith, nat_tests, rests)
 
 -- each of these records has blocks
 abbrev pub HaveBlocks : List (List ℕ) → Type 0
@@ -185,23 +160,19 @@ HaveBlocks records = All (λ numbers. 0 < length numbers) records
 -- a record behind the others has blocks too
 pub blocks_more : (records : List (List ℕ)) (numbers : List ℕ) → HaveBlocks records → 0 < length numbers
     → HaveBlocks (records ++ numbers ∷ [])
-blocks_more records numbers each some = All-append (λ r. 0 < length r) records (numbers ∷ []) each
-    (All-cons (λ r. 0 < length r) numbers [] some (λ j d below. absurd (omega arith)))
+blocks_more records numbers each some = All-push (λ r. 0 < length r) records numbers each some
 
 pub blocks_behind : (records : List (List ℕ)) → HaveBlocks records → HaveBlocks (drop 1 records)
-blocks_behind [] each = each
-blocks_behind (r ∷ records) each = λ j d below. each (suc j) d (omega arith)
+blocks_behind records each = All-drop (λ r. 0 < length r) 1 records each
 
 -- the steps of a ring are those of its oldest record, which are three at least, and of those behind it
 pub first_owed : (w : List (List ℕ)) → 0 < length w → HaveBlocks w → 3 + sum_by retire_steps_of (drop 1 w) ≤ sum_by retire_steps_of w
-first_owed [] some each = absurd (omega (arith, some))
-first_owed (a ∷ rest) some each = grind (arith, sum_by-cons retire_steps_of a rest, each 0 [])
+first_owed w some each = grind (arith, sum_by-cons retire_steps_of, each 0 [])
 
 -- those behind the oldest, and one more
 pub behind_more : (w : List (List ℕ)) (numbers : List ℕ) → 0 < length w
     → sum_by retire_steps_of (drop 1 (w ++ numbers ∷ [])) ≡ sum_by retire_steps_of (drop 1 w) + retire_steps_of numbers
-behind_more [] numbers some = absurd (omega (arith, some))
-behind_more (a ∷ rest) numbers some = sum_by_push retire_steps_of rest numbers
+behind_more w numbers some = grind (arith, sum_by_push retire_steps_of)
 
 -- the log with one record more, and the same log whose oldest record is home
 abbrev pub with_more : List ℕ → List (List ℕ) → List ℕ → LogValue → LogValue
@@ -209,10 +180,6 @@ with_more numbers firsts copy log = written_out (begun numbers firsts copy log)
 
 abbrev pub home_of : LogValue → LogValue
 home_of log = record log { retire_steps_left = behind_oldest log + 2; ahead = ahead_of log }
-
-pub finished_is : (numbers : List ℕ) (firsts : List (List ℕ)) (copy : List ℕ) (log : LogValue) → log.steps_left ≡ 0 → 0 < length numbers
-    → finished_with true numbers firsts copy log ≡ with_more numbers firsts copy (ahead_room log)
-finished_is numbers firsts copy log idle some = grind (arith, nat_tests)
 
 -- Where its oldest record is home, and one slot is free once the next one is written, the ring is steady then.
 then_steady : (numbers : List ℕ) (firsts : List (List ℕ)) (copy : List ℕ) (log : LogValue) → log.under_way ≡ [] → 0 < length log.waiting
@@ -225,66 +192,55 @@ fills_room : (log : LogValue) → IsFilling log → HaveBlocks log.waiting → (
     ⊎ ((ahead_room log ≡ home_of log) × (length log.waiting + 2 ≡ log.ring))
 fills_room log f each = grind (arith, nat_tests, first_owed log.waiting)
 
--- a ring that fills comes by one record more, and is steady where only one slot is left then
-pub fills : (numbers : List ℕ) (firsts : List (List ℕ)) (copy : List ℕ) (log : LogValue) → IsFilling log → HaveBlocks log.waiting
-    → 0 < length numbers → IsFuller log (finished_with true numbers firsts copy log)
-    × HaveBlocks (finished_with true numbers firsts copy log).waiting × ((finished_with true numbers firsts copy log).ring ≡ log.ring)
-fills numbers firsts copy log f each some =
-    search (rules, arith, length-append, fills_room, then_steady, finished_is, blocks_more, sum_by_push)
-
--- ---- a steady ring
-
 -- how many steps the next record still needs, once the oldest one is passed
 steady_left : (log : LogValue) → IsSteady log → of_oldest (oldest_retired (settled log)) ≡ length (second_of log) + 2
 steady_left log s = grind (arith, sum_by-cons retire_steps_of)
 
-pub keeps_on : (numbers : List ℕ) (firsts : List (List ℕ)) (copy : List ℕ) (log : LogValue) → IsSteady log → HaveBlocks log.waiting
-    → 0 < length numbers
-    → IsSteady (finished_with true numbers firsts copy log) × HaveBlocks (finished_with true numbers firsts copy log).waiting
-keeps_on numbers firsts copy log s each some =
-    let rest = blocks_behind log.waiting each in
-    let is : ahead_room log ≡ home_of (oldest_retired (settled log)) = grind (arith, nat_tests, steady_left log s) in
-    let steady = then_steady numbers firsts copy (oldest_retired (settled log)) s.none_under_way (grind (arith, s)) rest some
-    (omega (arith, s.one_free)) in
-    rw (finished_is numbers firsts copy log s.idle some, is) (steady, blocks_more (drop 1 log.waiting) numbers rest some)
+module _ (numbers : List ℕ) (firsts : List (List ℕ)) (copy : List ℕ) (log : LogValue) where
+  pub finished_is : log.steps_left ≡ 0 → 0 < length numbers
+      → finished_with true numbers firsts copy log ≡ with_more numbers firsts copy (ahead_room log)
+  finished_is idle some = grind (arith, nat_tests)
+
+  -- a ring that fills comes by one record more, and is steady where only one slot is left then
+  pub fills : IsFilling log → HaveBlocks log.waiting → 0 < length numbers → IsFuller log (finished_with true numbers firsts copy log)
+      × HaveBlocks (finished_with true numbers firsts copy log).waiting × ((finished_with true numbers firsts copy log).ring ≡ log.ring)
+  fills f each some = search (rules, arith, length-append, fills_room, then_steady, finished_is, blocks_more, sum_by_push)
+
+  -- a steady one stays
+  pub keeps_on : IsSteady log → HaveBlocks log.waiting → 0 < length numbers
+      → IsSteady (finished_with true numbers firsts copy log) × HaveBlocks (finished_with true numbers firsts copy log).waiting
+  keeps_on s each some =
+      let is : ahead_room log ≡ home_of (oldest_retired (settled log)) = grind (arith, nat_tests, steady_left log s) in
+      let rest = blocks_behind log.waiting each in
+      let steady = then_steady numbers firsts copy (oldest_retired (settled log)) s.none_under_way (grind (arith, s)) rest some
+      (omega (arith, s.one_free)) in
+      rw (finished_is s.idle some, is) (steady, blocks_more (drop 1 log.waiting) numbers rest some)
 
 -- all steps of a record of count blocks
 all_calls : (keeps : Bool) (count : ℕ) → turns_calls keeps (count + 2) ≡ home_calls keeps * count + 3
 all_calls keeps zero = omega arith
-all_calls false (suc count) = grind (arith, all_calls false count)
-all_calls true (suc count) = grind (arith, all_calls true count)
+all_calls keeps (suc count) = grind (arith, cases_Bool keeps, all_calls keeps count)
 
--- room for the next record: the head, and one record's way home
-steady_room : (log : LogValue) → IsSteady log → ahead_room_calls log ≡ 1 + home_calls log.keeps * length (second_of log)
-steady_room log s = grind (arith, nat_tests, steady_left, all_calls)
-
--- a sync of one batch
+-- a sync of one batch: room for its record is the head, and one record's way home
 pub steady_sync : (numbers active : List ℕ) (log : LogValue) → IsSteady log → numbers ≡ [] → 0 < length active
     → both_calls true numbers active log ≡ steady_calls active log
-steady_sync numbers active log s none some = grind (arith, nat_tests, begun_costs true active log, steady_room log)
+steady_sync numbers active log s none some = grind (arith, nat_tests, begun_costs true active log, steady_left log s, all_calls)
 
--- each of these batches has blocks
-abbrev pub ListBlocks : List Entries → Type 0
-ListBlocks batches = All (λ batch. 0 < length batch.numbers) batches
-
-keeps_each : (batches : List Entries) (log : LogValue) → IsSteady log → HaveBlocks log.waiting → ListBlocks batches
+keeps_each : (batches : List Entries) (log : LogValue) → IsSteady log → HaveBlocks log.waiting → All (λ b. 0 < length b.numbers) batches
     → IsSteady (finished_each batches log)
 keeps_each [] log s each blocks = s
 keeps_each (batch ∷ batches) log s each blocks =
     let one = keeps_on batch.numbers (firsts_in batch) batch.bytes log s each (blocks 0 batch (omega arith)) in
     keeps_each batches (finished true batch log) one.0 one.1 (λ j d below. blocks (suc j) d (omega arith))
 
-fills_each : (batches : List Entries) (log : LogValue) → IsFilling log → HaveBlocks log.waiting → ListBlocks batches
+fills_each : (batches : List Entries) (log : LogValue) → IsFilling log → HaveBlocks log.waiting → All (λ b. 0 < length b.numbers) batches
     → log.ring ≤ length log.waiting + length batches + 1 → IsSteady (finished_each batches log)
 fills_each [] log f each blocks enough = absurd (omega (arith, f.two_free, enough))
 fills_each (batch ∷ batches) log f each blocks enough =
     let one = fills batch.numbers (firsts_in batch) batch.bytes log f each (blocks 0 batch (omega arith)) in
-    let rest : ListBlocks batches = λ j d below. blocks (suc j) d (omega arith) in
-    let fill = λ (three : length log.waiting + 3 ≤ log.ring).
-    fills_each batches (finished true batch log) (one.0.on three) one.1 rest in
-    let keep = λ (two : length log.waiting + 2 ≡ log.ring).
-    keeps_each batches (finished true batch log) (one.0.full two) one.1 rest in
-    grind (arith, f.two_free, fill, keep, one.0.one_more, one.2)
+    let rest : All (λ b. 0 < length b.numbers) batches = λ j d below. blocks (suc j) d (omega arith) in
+    let more = finished true batch log in
+    grind (arith, f.two_free, one, rest, enough, keeps_each batches more, fills_each batches more)
 
 -- a store that starts
 pub starts_filling : {keeping : Keeping} {before after : State} {s : Cached} → IsStartedBy keeping before after s

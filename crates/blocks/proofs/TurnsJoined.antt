@@ -1,47 +1,57 @@
 -- Turns of a store follow one another, what its calls pass on of them, and its own turns, from what the log's calls do.
 use Rattle.std.proofs.Common.{rules, ◌≡◌, ℕ, inl, arith, ◌∙◌, refl, subst, Bool, true, false, ◌<◌, ◌+◌, ◌≤◌, ◌*◌, ap, ◌-◌, ◌^◌, inr, List}
-use Rattle.std.{proofs.{Common.{[], ◌∷◌, length, length-append}, lemmas.Bool.{cases_Bool, cases_lt}}, specs.Prelude.{Result, Ok, Err}}
-use Rattle.std.proofs.lemmas.{Bool.Decides.nat_tests, List.nil_from_length}
-use Rattle.medium.specs.{Medium.{State, IsSound}, Sent.{sent, SendsUpTo}, Moments.{EachCut, LeavesOnly, IsQuiet, IsUnchanged}}
-use Rattle.medium.proofs.{Moments.{joined_same, weaker, quiet_leaves, quiet_start, unchanged_quiet, started}, SparedSectors.spared_joined}
-use Rattle.medium.proofs.SparedSectors.{spared_quiet, spared_start}
+use Rattle.std.proofs.{Common.{[], ◌∷◌, length, length-append}, lemmas.Bool.{cases_Bool, cases_lt, Decides.nat_tests}}
+use Rattle.std.{proofs.lemmas.List.nil_from_length, specs.Prelude.{Result, Ok, Err}}
+use Rattle.medium.{proofs.Moments.{joined_same, weaker, quiet_leaves, quiet_start, unchanged_quiet, started}, specs.Medium.{State, IsSound}}
+use Rattle.medium.{proofs.SparedSectors.{spared_joined, spared_quiet, spared_start}, specs.Sent.{sent, SendsUpTo}}
+use Rattle.medium.specs.Moments.{EachCut, LeavesOnly, IsQuiet, IsUnchanged}
 use Rattle.spec.specs.{Blocks.{Write, chunks}, Book.Book}
-use Rattle.journal.specs.{Places.sectors_of, declared.super_sector.Super.Super}
-use Rattle.redo_log.{proofs.StoreFacts.{quiet_held, died_holds, settled_holds, begun_holds}, specs.Held.{View, HoldsView, stamps_of}}
-use Rattle.redo_log.specs.{declared.{fault.LogFault.LogFault, progress.Progress.Progress}, Value.{LogValue, Owes, CanPass, IsAway}}
-use Rattle.redo_log.specs.Value.{IsSentHome, HasRoom, begun, died, IsRetireStepped, IsBatch, entries_of, pass_calls, ahead_calls}
-use Rattle.redo_log.specs.{Value.{next_calls, next_sends, next_turn_flushes}, Steps.{MakesTurns, MakesStep, CountsStep, LeavesLog}}
-use Rattle.redo_log.{specs.declared.progress.Progress.TheVariants.{More, Durable}, proofs.HeldLog.many}
-use Rattle.blocks.specs.{Finding.{MayFind, Found}, Turns.{GoesOn, IsTurn, IsWriteTurn}, Passing.{IsUntouched, PassesOn, PassesPaid}}
-use Rattle.blocks.specs.{Passing.KeepsMedium, StoreValue.{Cached, layout_of, is_dead, FitsBook, steps_left, StoreValue, firsts_in}}
-use Rattle.blocks.proofs.{BookTurns.{moves, finds, wants_some, becomes_durable, freezes, appends}, SectorsRead.{none, looks_on}}
-use Rattle.blocks.specs.{Ahead.{counted, is_covered}, Kept.Invariant, Background.{PassesHead, BringsHome, IsRetiring}}
-use Rattle.cache.specs.{Blocks.with_range, Entries.{Entries, map_of}}
+use Rattle.journal.specs.{declared.super_sector.Super.Super, Places.sectors_of}
+use Rattle.redo_log.specs.Value.{LogValue, Owes, CanPass, IsAway, IsSentHome, HasRoom, begun, died, IsRetireStepped, IsBatch, entries_of}
+use Rattle.redo_log.{specs.Value.pass_calls, proofs.{StoreFacts.{quiet_held, died_holds, settled_holds, begun_holds}, HeldLog.many}}
+use Rattle.redo_log.specs.Steps.{MakesTurns, MakesStep, CountsStep, LeavesLog, MakesHeadAhead, MakesHomeAhead, MakesRetireStep}
+use Rattle.redo_log.specs.{declared.progress.Progress.{TheVariants.{More, Durable}, Progress}, Held.{View, HoldsView, stamps_of}}
+use Rattle.redo_log.specs.declared.fault.LogFault.{LogFault}
+use Rattle.blocks.specs.{StoreValue.{Cached, layout_of, is_dead, FitsBook, steps_left, StoreValue, firsts_in}, Ahead.{counted, is_covered}}
+use Rattle.blocks.{proofs.BookTurns.{moves, finds, becomes_durable, freezes, appends}, specs.Turns.{GoesOn, IsTurn, IsWriteTurn}}
+use Rattle.blocks.specs.{Passing.{IsUntouched, PassesOn, PassesPaid, KeepsMedium}, Background.{PassesHead, BringsHome, IsRetiring}}
+use Rattle.blocks.{proofs.SectorsRead.{none, looks_on}, specs.{Finding.{MayFind, Found}, Kept.Invariant}}
+use Rattle.cache.specs.{Entries.{Entries, map_of}, Blocks.with_range}
 
 -- what a cut leaves between two calls may be found
 pub exits : (m : State) (s : Cached) (book : Book) → FitsBook m s book → book.ours ≡ true → EachCut (MayFind m.size book) m
 exits m s book f ours image cut = finds m s book f image (f.holds.leaves (f.ours ∙ ours) image cut)
 
--- what goes on twice goes on
-pub went_on : (before mid after : State) (old then new : Cached) → ((book : Book) → FitsBook before old book → FitsBook mid then book)
-    → GoesOn before mid old then → GoesOn mid after then new → GoesOn before after old new
-went_on before mid after old then new fits first second = grind (arith, spared_joined, cases_Bool)
-
--- one turn after another
-pub turns : (before mid after : State) (old then new : Cached) → IsTurn before mid old then → IsTurn mid after then new
-    → IsTurn before after old new
-turns before mid after old then new first second = record {
-  fits = λ book f. second.fits book (first.fits book f);
-  cuts = λ book f ours. joined_same (MayFind before.size book) before mid after (first.cuts book f ours)
-      (subst (λ (n : ℕ). LeavesOnly (MayFind n book) mid after) first.goes_on.size_stays (second.cuts book (first.fits book f) ours));
-  goes_on = went_on before mid after old then new first.fits first.goes_on second.goes_on;
+-- a turn accepts none of a write
+refuses : (w : Write) {before after : State} {old new : Cached} → IsTurn before after old new → IsWriteTurn w false before after old new
+refuses w turn = record {
+  fits = turn.fits;
+  cuts = λ book f ours. weaker _ (Found _ book w) _ _ (λ image found. inl found) (turn.cuts book f ours);
+  goes_on = turn.goes_on;
 }
+
+module _ (before mid after : State) (old then new : Cached) (first : IsTurn before mid old then) where
+  -- one turn after another, and one that accepts a write
+  pub turns : IsTurn mid after then new → IsTurn before after old new
+  turns second = record {
+    fits = λ book f. second.fits book (first.fits book f);
+    cuts = λ book f ours. joined_same (MayFind before.size book) before mid after (first.cuts book f ours)
+        (subst (λ (n : ℕ). LeavesOnly (MayFind n book) mid after) first.goes_on.size_stays (second.cuts book (first.fits book f) ours));
+    goes_on = grind (arith, spared_joined, cases_Bool, first, second.goes_on);
+  }
+
+  pub then_written : (w : Write) → IsWriteTurn w true mid after then new → IsWriteTurn w true before after old new
+  then_written w second = record {
+    fits = λ book f. second.fits book (first.fits book f);
+    cuts = λ book f ours. joined_same (Found before.size book w) before mid after ((refuses w first).cuts book f ours)
+        (subst (λ (n : ℕ). LeavesOnly (Found n book w) mid after) first.goes_on.size_stays (second.cuts book (first.fits book f) ours));
+    goes_on = grind (arith, spared_joined, cases_Bool, first, second.goes_on);
+  }
 
 -- calls that wrote nothing, and changed nothing that the store keeps
 pub quiet_turn : (before after : State) (s : Cached) → IsSound before → IsQuiet before after → IsTurn before after s s
 quiet_turn before after s sound quiet = record {
-  fits = λ book f.
-      moves f (quiet_held s.log f.view before after quiet f.holds) refl f.under_way f.some refl refl refl;
+  fits = λ book f. moves f (quiet_held s.log f.view before after quiet f.holds) refl f.under_way f.some refl refl refl;
   cuts = λ book f ours. quiet_leaves (MayFind before.size book) before after sound (exits before s book f ours) quiet;
   goes_on = let spares = spared_quiet (sectors_of (layout_of s)) before after sound quiet in grind (arith, quiet, spares);
 }
@@ -56,22 +66,7 @@ pub untouched : {M : Type 0} {state : M → State} {m n : M} {s : Cached} {ahead
     (record { medium = n; cached = s; goes_ahead = ahead })
 untouched sound same = search (rules, arith, quiet_turn, unchanged_quiet)
 
--- a turn, and then one that accepts a write
-pub then_written : (w : Write) (before mid after : State) (old then new : Cached) → IsTurn before mid old then
-    → IsWriteTurn w true mid after then new → IsWriteTurn w true before after old new
-then_written w before mid after old then new first second = record {
-  fits = λ book f. second.fits book (first.fits book f);
-  cuts = λ book f ours. joined_same (Found before.size book w) before mid after
-      (weaker (MayFind before.size book) (Found before.size book w) before mid (λ image found. inl found) (first.cuts book f ours))
-      (subst (λ (n : ℕ). LeavesOnly (Found n book w) mid after) first.goes_on.size_stays (second.cuts book (first.fits book f) ours));
-  goes_on = went_on before mid after old then new first.fits first.goes_on second.goes_on;
-}
-
 -- ---- what the calls of a store pass on, one after another
-
--- nothing was done
-pub rested : {M : Type 0} {state : M → State} {old : StoreValue M} → IsSound (state old.medium) → KeepsMedium state IsTurn old old
-rested sound = record { turn = stays _ _ sound; medium = refl; policy = refl }
 
 -- one turn without a call, and then one that accepts a write
 pub written_on : {M : Type 0} {state : M → State} {w : Write} {old mid new : StoreValue M} → KeepsMedium state IsTurn old mid
@@ -93,18 +88,17 @@ module _ {M : Type 0} {state : M → State} {Follows : M → M → Type 0} where
   pub kept_then : {most sends : ℕ} {old mid new : StoreValue M} → KeepsMedium state IsTurn old mid
       → PassesOn state Follows IsTurn most sends mid new → PassesOn state Follows IsTurn most sends old new
   kept_then {old = old} {mid = mid} {new = new} keeps made =
-      let looks = looks_on (state old.medium) (state mid.medium) (state new.medium) old.cached mid.cached keeps.turn.goes_on
-      (none (state old.medium) (state mid.medium) old.cached (ap (λ m. (state m).looked) keeps.medium)) made.looks in
+      let looks = looks_on _ _ _ _ _ keeps.turn.goes_on (none _ _ old.cached (ap (λ m. (state m).looked) keeps.medium)) made.looks in
       grind (arith, keeps.policy, turns _ _ _ _ _ _ keeps.turn made.turn, looks, (rw keeps.medium at made))
 
   -- nothing was done, as a record of each kind tells it
   pub rested_on : {most sends : ℕ} (old : StoreValue M) → ((m : M) → Follows m m) → ((m : M) → IsSound (state m))
       → PassesOn state Follows IsTurn most sends old old
-  rested_on old itself sound = kept_on itself (rested (sound old.medium))
+  rested_on old itself sound = kept_on itself (record { turn = stays _ _ (sound old.medium); medium = refl; policy = refl })
 
   pub rested_paid : {sends : ℕ} {old : StoreValue M} → ((m : M) → Follows m m) → ((m : M) → IsSound (state m))
       → PassesPaid state Follows sends old old
-  rested_paid {old = old} itself sound = kept_paid itself (rested (sound old.medium)) (λ live. omega arith)
+  rested_paid {old = old} itself sound = search (rules, arith, kept_paid, stays)
 
   -- one call after another, with so many writes and flushes in all
   pub paid_then : {first last all : ℕ} {old mid new : StoreValue M} → ((m n k : M) → Follows m n → Follows n k → Follows m k)
@@ -115,21 +109,13 @@ module _ {M : Type 0} {state : M → State} {Follows : M → M → Type 0} where
   -- as a write that is refused tells it, and one that takes place without a call
   pub paid_refused : {w : Write} {sends : ℕ} {old new : StoreValue M} → PassesPaid state Follows sends old new
       → PassesOn state Follows (IsWriteTurn w false) (2 * steps_left old.cached) sends old new
-  paid_refused {w = w} {old = old} {new = new} paid =
-      let before = state old.medium in
-      let after = state new.medium in
-      let wider = λ (book : Book). weaker (MayFind before.size book) (Found before.size book w) before after (λ image found. inl found) in
-      let turn : IsWriteTurn w false before after old.cached new.cached = record {
-        fits = paid.turn.fits;
-        cuts = λ book f ours. wider book (paid.turn.cuts book f ours);
-        goes_on = paid.turn.goes_on;
-      } in grind (arith, paid, turn)
+  paid_refused {w = w} paid = grind (arith, paid, refuses w paid.turn)
 
   pub paid_written : {w : Write} {sends : ℕ} {old mid new : StoreValue M} → PassesPaid state Follows sends old mid
       → is_dead mid.cached ≡ false → KeepsMedium state (IsWriteTurn w true) mid new
       → PassesOn state Follows (IsWriteTurn w true) (2 * steps_left old.cached) sends old new
-  paid_written {w = w} {old = old} {mid = mid} {new = new} paid live keeps =
-      grind (arith, paid, live, keeps.medium, keeps.policy, then_written w _ _ _ old.cached mid.cached new.cached paid.turn keeps.turn)
+  paid_written {w = w} paid live keeps =
+      grind (arith, paid, live, keeps.medium, keeps.policy, then_written _ _ _ _ _ _ paid.turn w keeps.turn)
 
   -- a step of at most two calls, where one was left
   pub on_paid : {most sends : ℕ} {old new : StoreValue M} → 0 < steps_left old.cached
@@ -271,16 +257,16 @@ passes_step ahead result s log' none empty some called =
 -- ---- where no call is made
 
 module _ (m : State) (sound : IsSound m) (s : Cached) where
-  -- nothing has happened to the medium
-  here : (new : Cached) → new.log.shape ≡ s.log.shape → new.log.keeps ≡ s.log.keeps → new.log.dead ≡ s.log.dead → GoesOn m m s new
-  here new shape keeps dead = let spares = spared_start (sectors_of (layout_of s)) m sound in grind (arith, shape, keeps, dead, spares)
-
   still_found : (book : Book) → FitsBook m s book → book.ours ≡ true → LeavesOnly (MayFind m.size book) m m
   still_found book f ours = started (MayFind m.size book) m sound (exits m s book f ours)
 
   in_place : {new : Cached} → new.log.shape ≡ s.log.shape → new.log.keeps ≡ s.log.keeps → new.log.dead ≡ s.log.dead
       → ((book : Book) → FitsBook m s book → FitsBook m new book) → IsTurn m m s new
-  in_place {new} shape keeps dead fits = record { fits = fits; cuts = still_found; goes_on = here new shape keeps dead }
+  in_place {new} shape keeps dead fits = record {
+    fits = fits;
+    cuts = still_found;
+    goes_on = let spares = spared_start (sectors_of (layout_of s)) m sound in grind (arith, shape, keeps, dead, spares);
+  }
 
   -- a flush is counted, or none is
   pub counts_turn : (log' : LogValue) → log' ≡ counted s.log → IsTurn m m s (record s { log = log' })
@@ -294,18 +280,15 @@ module _ (m : State) (sound : IsSound m) (s : Cached) where
   pub begins_record : HasRoom s.log → IsBatch s.log.shape s.frozen.numbers s.frozen.bytes → IsTurn m m s
       (record s { log = begun s.frozen.numbers (firsts_in s.frozen) s.frozen.bytes s.log })
   begins_record room batch = in_place refl refl refl
-      (λ book f. moves f (begun_holds _ _ _ _ _ f.holds room batch) refl (λ some. refl) (λ some. wants_some _ batch.some) refl refl refl)
+      (λ book f. moves f (begun_holds _ _ _ _ _ f.holds room batch) refl (λ some. refl) (λ some. grind (arith, batch.some)) refl refl refl)
 
   -- no stamp is left for it, and the log is dead
   pub begins_nothing : HasRoom s.log → 0 < length s.frozen.numbers → s.log.next ≡ 2 ^ 63 - 1 → IsTurn m m s (record s { log = died s.log })
   begins_nothing room some last =
       let out : (book : Book) → FitsBook m s book → 2 ^ 63 - 1 ≤ book.stamp + length book.writes = λ book f.
       omega (arith, f.stamps, f.holds.next, many f.holds, last, ap (λ (l : List ℕ). stamps_of l) room.none_under_way) in
-      record {
-        fits = λ book f. moves f (died_holds s.log m f.view f.holds) refl f.under_way f.some refl refl refl;
-        cuts = still_found;
-        goes_on = grind (arith, spared_start (sectors_of (layout_of s)) m sound, out);
-      }
+      let spares = spared_start (sectors_of (layout_of s)) m sound in
+      search (rules, arith, out, spares, still_found, moves, died_holds)
 
   -- the active batch is frozen in place of an empty one
   pub freezes_active : s.log.steps_left ≡ 0 → s.frozen.numbers ≡ [] → IsTurn m m s (record s { active = s.frozen; frozen = s.active })
@@ -318,7 +301,7 @@ module _ (m : State) (sound : IsSound m) (s : Cached) where
   appends_write more address bytes count put = let w : Write = record { address = address; blocks = chunks count bytes } in record {
     fits = λ book f. appends more address bytes count put f;
     cuts = λ book f ours. weaker (MayFind m.size book) (Found m.size book w) m m (λ image found. inl found) (still_found book f ours);
-    goes_on = here (record s { active = more }) refl refl refl;
+    goes_on = let spares = spared_start (sectors_of (layout_of s)) m sound in grind (arith, spares);
   }
 
 -- where no step is left both batches are empty, and every write is durable
@@ -335,16 +318,15 @@ past_fewer s log' none some = grind (arith, nat_tests)
 pub home_fewer : (s : Cached) (log' : LogValue) → IsAway s.log → IsSentHome s.log log' → steps_left (record s { log = log' }) < steps_left s
 home_fewer s log' away sent = grind (arith, nat_tests)
 
-module _ {M : Type 0} {state : M → State} {Follows : M → M → Type 0} {after : View → View} {m n : M} {s : Cached} {log' : LogValue}
+module _ {M : Type 0} {state : M → State} {Follows : M → M → Type 0} {m n : M} {s : Cached} {log' : LogValue}
     (live : is_dead s ≡ false) (result : Result (Unit {0}) LogFault) where
-  pub passes_head : Made state Follows (CanPass s.log → ⊥) (CanPass s.log → IsRetireStepped s.log log') (pass_calls s.log)
-      (pass_calls s.log) 0 after result s.log log' m n → s.log.steps_left ≡ 0 → PassesHead (state m) (state n) s (record s { log = log' })
+  pub passes_head : MakesHeadAhead state Follows result s.log log' m n → s.log.steps_left ≡ 0
+      → PassesHead (state m) (state n) s (record s { log = log' })
   passes_head called idle = grind (arith, nat_tests, called.answers, called.none, called.passes)
 
-  pub brings_home : Made state Follows (IsAway s.log → ⊥) (IsAway s.log → IsSentHome s.log log') (ahead_calls s.log) (next_sends s.log) 0
-      after result s.log log' m n → IsAway s.log → s.log.steps_left ≡ 0 → BringsHome (state m) (state n) s (record s { log = log' })
+  pub brings_home : MakesHomeAhead state Follows result s.log log' m n → IsAway s.log → s.log.steps_left ≡ 0
+      → BringsHome (state m) (state n) s (record s { log = log' })
   brings_home called away idle = grind (arith, nat_tests, called.answers, called.passes)
 
-  pub is_retiring : Made state Follows (s.log.waiting ≡ []) (0 < length s.log.waiting → IsRetireStepped s.log log') (next_calls s.log)
-      (next_sends s.log) (next_turn_flushes s.log) after result s.log log' m n → IsRetiring (state m) (state n) s (record s { log = log' })
+  pub is_retiring : MakesRetireStep state Follows result s.log log' m n → IsRetiring (state m) (state n) s (record s { log = log' })
   is_retiring called = grind (arith, called.answers, called.none, called.passes)

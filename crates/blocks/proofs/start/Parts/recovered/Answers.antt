@@ -1,7 +1,5 @@
-use Rattle.std.proofs.{Common.{◌≤◌, inl, inr, refl, sym, subst, arith, rules}, lemmas.Result.{err_from_is_err_and, IfOk-weaker}}
-use Rattle.std.proofs.lemmas.Result.{IfErr-weaker}
-use Rattle.journal.specs.{Places.sectors_of, Formats.shape_of}
-use Rattle.blocks.{specs.Started.MakesParts, proofs.KnownImages.{started, starts}}
+use Rattle.std.proofs.{lemmas.Result.{err_from_is_err_and, IfOk-weaker, IfErr-weaker}, Common.{inl, inr, refl, arith, rules}}
+use Rattle.blocks.proofs.KnownImages.{starts}
 use Rattle.blocks.proofs.start.Parts.recovered.Goals as goal
 
 pub returns-in_err-recovered-clause-refused : goal.returns-in_err-recovered-clause-refused
@@ -16,21 +14,13 @@ returns-in_err-recovered-clause-refused g c =
 
 pub returns-clause-ok : goal.returns-clause-ok
 returns-clause-ok g c =
-    let before = g.M.Medium.state c.args.medium.now in
-    let after = g.M.Medium.state c.recover.new.m in
-    let recovered = c.in_ok-recovered.recovered in
-    let sizes = recovered.sizes in
     let found = c.in_ok-recovered.ensures.ok in
     let size = c.recover.ensures.leaves.moments.size_stays in
-    let fits : sectors_of (shape_of sizes) ≤ after.size = omega (arith, found.stood.fits, size) in
-    let made : MakesParts c.args.keeping before after sizes (started c.args.keeping (shape_of sizes) recovered.next) = record {
-      started = starts c.args.keeping before after recovered found (g.met.M.Medium.sound c.args.medium.now) size
+    IfOk-weaker c.new.result _ _ (λ parts is. rw is (record {
+      started = starts c.args.keeping (g.M.Medium.state c.args.medium.now) _ _ found (g.met.M.Medium.sound c.args.medium.now) size
           c.in_ok-recovered.ensures.fresh;
-      kept = grind (arith, fits);
-    } in
-    IfOk-weaker c.new.result _ _
-    (λ parts is. subst (λ p. MakesParts c.args.keeping before after p.sizes
-    (record { log = p.log; active = p.active; frozen = p.frozen })) (sym is) made) c.new.ensures.ok
+      kept = grind (arith, found.stood.fits, size);
+    })) c.new.ensures.ok
 
 pub returns-clause-refused : goal.returns-clause-refused
 returns-clause-refused g c = IfErr-weaker c.new.result _ _ (λ fault is. rw is (record {

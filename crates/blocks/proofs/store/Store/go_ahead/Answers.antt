@@ -1,4 +1,4 @@
-use Rattle.std.proofs.{Common.{◌≡◌, ◌+◌, ◌∙◌, ap, arith, inl}, lemmas.Bool.Decides.nat_tests}
+use Rattle.std.proofs.{Common.{◌≡◌, ◌+◌, ◌∙◌, ap, arith, inl, rules}, lemmas.Bool.Decides.nat_tests}
 use Rattle.journal.specs.Places.{Shape, limit_of}
 use Rattle.medium.specs.{Sent.sent, declared.fault.MediumFault.TheVariants.Flush}
 use Rattle.blocks.specs.{Ahead.{passed, passed_calls}, Passing.PassesPaid, Prepared.NeedsNoneAhead, Retiring.HasSlots}
@@ -28,13 +28,11 @@ gone_past g c short =
     let passing = rw c.count_flush.ensures.keeps.medium at c.pass_head.ensures.way in
     grind (arith, nat_tests, passing, c.in_ok-pass_head.ensures.answer, c.count_flush.ensures.is, short)
 
-pub returns-then-needs_none_ahead-clause-passes : goal.returns-then-needs_none_ahead-clause-passes
-returns-then-needs_none_ahead-clause-passes g c = rested_paid g.met.M.Medium.follows_itself g.met.M.Medium.sound
-
-pub returns-then-needs_none_ahead-clause-going : goal.returns-then-needs_none_ahead-clause-going
-returns-then-needs_none_ahead-clause-going g c =
+pub returns-then-needs_none_ahead : goal.returns-then-needs_none_ahead
+returns-then-needs_none_ahead g c =
     let none = none_ahead c.args.self.now.cached.log (c.needs_none_ahead.ensures.0 c.if-needs_none_ahead.true) in
-    grind (arith, none, c.requires.idle, c.requires.live)
+    let m = g.met.M.Medium in
+    record { passes = rested_paid m.follows_itself m.sound; going = grind (arith, none, c.requires); rests = search rules }
 
 pub returns-in_err-pass_head : goal.returns-in_err-pass_head
 returns-in_err-pass_head g c =

@@ -1,7 +1,7 @@
-use Rattle.std.proofs.Common.{arith, rules}
+use Rattle.std.proofs.{Common.{arith, inr, rules}, lemmas.Bool.Decides.nat_tests}
 use Rattle.medium.specs.Sent.{sent}
 use Rattle.redo_log.specs.Value.{IsAway}
-use Rattle.blocks.proofs.Steady.{begins_home, goes_on_home, all_home, all_costs, all_sends, few_home, home_stays_head}
+use Rattle.blocks.proofs.Steady.{begins_home, goes_on_home, all_home, few_home}
 use Rattle.blocks.proofs.{TurnsJoined.{paid_then, paid_more, rested_paid}, store.Store.go_home.Goals.After-bring_home}
 use Rattle.blocks.proofs.store.Store.go_home.Goals as goal
 
@@ -26,14 +26,14 @@ pub returns-in_err-bring_home : goal.returns-in_err-bring_home
 returns-in_err-bring_home g c =
     let so_far = c.loop-self.invariant in
     let brings = c.bring_home.ensures.way in
-    let few = few_home so_far.home (away g (goal.at.returns-in_err-bring_home g c).After-bring_home) brings.sent
+    let few = few_home so_far.home (inr (away g (goal.at.returns-in_err-bring_home g c).After-bring_home, brings.sent))
     (rw (← c.self.view_is) c.has_room-few.ensures.few) in
     let passes = paid_then g.met.M.Medium.follows_through so_far.passes so_far.live c.bring_home.ensures.passes few in
-    grind (arith, passes, c.in_err-bring_home.ensures.answer, brings, home_stays_head so_far.home, so_far.stays, so_far.flushed)
+    grind (arith, passes, c.in_err-bring_home.ensures.answer, brings, so_far)
 
 pub returns : goal.returns
 returns g c =
     let few = c.has_room-few.ensures.few in
     let view = c.self-in-loop-self.view_is in
     let home = c.is_away.ensures.1 in
-    grind (arith, paid_more, all_sends, all_home, all_costs, home_stays_head, c.self.view_is, c.loop-self.invariant, c.loop-self-test.false)
+    grind (arith, nat_tests, paid_more, few_home, all_home, c.self.view_is, c.loop-self.invariant, c.loop-self-test.false)

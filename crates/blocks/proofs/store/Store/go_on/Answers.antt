@@ -1,16 +1,11 @@
-use Rattle.std.proofs.{Common.{◌<◌, arith, Bool, true, false}}
-use Rattle.blocks.{specs.{StoreValue.Cached, Background.MayBegin}, proofs.TurnsJoined.kept_on}
+use Rattle.std.proofs.{Common.arith, lemmas.Bool.cases_Bool}
+use Rattle.blocks.proofs.TurnsJoined.{kept_on}
 use Rattle.blocks.proofs.store.Store.go_on.Goals as goal
-
--- none is begun beside the record under way
-none_begins : (ahead : Bool) (s : Cached) → 0 < s.log.steps_left → MayBegin ahead s → ⊥
-none_begins false s some may = omega (arith, some, may.0.no_steps)
-none_begins true s some may = omega (arith, some, may.0.0.no_steps)
 
 pub returns-then-is_writing : goal.returns-then-is_writing
 returns-then-is_writing g c =
     let begun = c.is_writing.ensures.begun c.requires.live c.if-is_writing.true in
-    grind (arith, begun, none_begins, c.requires.live, c.step.ensures)
+    grind (arith, begun, cases_Bool c.args.self.now.goes_ahead, c.requires.live, c.step.ensures)
 
 pub returns-then-may_begin : goal.returns-then-may_begin
 returns-then-may_begin g c =

@@ -1,4 +1,4 @@
-use Rattle.std.proofs.{Common.{false, ◌≤◌, ◌<◌, ℕ, length, ◌∙◌, ap, sym, arith, rules}, lemmas.Bool.false≢true}
+use Rattle.std.proofs.Common.{false, ◌≤◌, ◌<◌, ℕ, length, arith, rules}
 use Rattle.medium.specs.Sent.{sent, SendsUpTo}
 use Rattle.redo_log.specs.Value.{HasRoom, sends_of_oldest, most_retire_sends}
 use Rattle.blocks.{specs.{StoreValue.steps_left, Passing.PassesPaid, Retiring.RetiresForRoom}, proofs.Steady.{IsFull, retires_none}}
@@ -6,52 +6,43 @@ use Rattle.blocks.proofs.{Steady.{retires_more, retires_refused, retires_room}, 
 use Rattle.blocks.proofs.store.Store.make_room.Goals.{After-retire}
 use Rattle.blocks.proofs.store.Store.make_room.Goals as goal
 
--- a record waits, and one of its steps is made
-must_step : (g : _) (c : After-retire g) → (0 < length c.loop-self.self.cached.log.waiting) × (0 < steps_left c.loop-self.self.cached)
-must_step g c =
+-- the log had no room, and has none, and a record waits, of which one step is made
+at_work : (g : _) (c : After-retire g) → IsFull c.args.self.now.cached.log c.loop-self.self.cached.log
+    × (HasRoom c.args.self.now.cached.log → ⊥) × (0 < length c.loop-self.self.cached.log.waiting) × (0 < steps_left c.loop-self.self.cached)
+at_work g c =
+    let live = rw (← c.self-in-loop-self.view_is) at c.loop-self.invariant.live in
     let idle = rw (← c.self-in-loop-self.view_is) at c.loop-self.invariant.idle in
-    rw (← c.self-in-loop-self.view_is) (grind (arith, idle, c.loop-self-test.true, c.has_room.ensures.full, c.has_room.ensures.always))
+    let under_way = c.self-in-loop-self.invariant.none_under_way live idle in
+    grind (arith, under_way, idle, c.self-in-loop-self.view_is, c.loop-self-test.true, c.has_room.ensures, c.self, c.loop-self.invariant)
+
+was_full : (g : _) (c : After-retire g) → HasRoom c.args.self.now.cached.log → ⊥
+was_full g c = (at_work g c).1
 
 step_passes : (g : _) (c : After-retire g) → {sends : ℕ}
     → SendsUpTo sends (g.M.Medium.state c.args.self.now.medium) (g.M.Medium.state c.retire.new.self.medium)
     → PassesPaid g.M.Medium.state g.M.Medium.follows sends c.args.self.now c.retire.new.self
 step_passes g c few =
-    let left = must_step g c in
+    let left = at_work g c in
     paid_then g.met.M.Medium.follows_through c.loop-self.invariant.passes c.loop-self.invariant.live
-    (on_paid left.1 (c.retire.ensures.falls left.0) c.retire.ensures.passes.calls c.retire.ensures.passes) few
-
-is_full : (g : _) (c : After-retire g) → IsFull c.args.self.now.cached.log c.loop-self.self.cached.log
-is_full g c =
-    let live = rw (← c.self-in-loop-self.view_is) at c.loop-self.invariant.live in
-    let idle = rw (← c.self-in-loop-self.view_is) at c.loop-self.invariant.idle in
-    record {
-      full = λ room. false≢true (sym c.loop-self-test.true ∙ c.has_room.ensures.room.1 (rw (← c.self-in-loop-self.view_is) at room));
-      under_way = rw (← c.self-in-loop-self.view_is) (c.self-in-loop-self.invariant.none_under_way live idle);
-      idle = c.loop-self.invariant.idle;
-      ring = rw (← c.self.view_is) c.self.invariant.ring;
-      some = rw (← c.self.view_is) c.self.invariant.some_ring;
-    }
-
--- the log had no room
-was_full : (g : _) (c : After-retire g) → HasRoom c.args.self.now.cached.log → ⊥
-was_full g c room = let same = ap (λ v. v.cached.log) (c.loop-self.invariant.stays room) in (is_full g c).full (rw same room)
+    (on_paid left.3 (c.retire.ensures.falls left.2) c.retire.ensures.passes.calls c.retire.ensures.passes) few
 
 pub loop-self-init : goal.loop-self-init
 loop-self-init g c = search (rules, arith, rested_paid, g.met.M.Medium.follows_itself, g.met.M.Medium.sound, retires_none)
 
 pub loop-self-smaller : goal.loop-self-smaller
 loop-self-smaller g c =
-    c.in_ok-retire.ensures.falls (must_step g (goal.at.loop-self-smaller g c).After-retire).0 c.in_ok-retire.ensures.answer
+    c.in_ok-retire.ensures.falls (at_work g (goal.at.loop-self-smaller g c).After-retire).2 c.in_ok-retire.ensures.answer
 
 pub loop-self-preserved : goal.loop-self-preserved
 loop-self-preserved g c =
     let at = (goal.at.loop-self-preserved g c).After-retire in
     let live = c.in_ok-retire.ensures.answer in
+    let full = at_work g at in
     let retiring = c.retire.ensures.retiring in
-    let retires = retires_more (is_full g at) c.loop-self.invariant.retires {after = g.M.Medium.state c.retire.new.self.medium}
-    (retiring.live (must_step g at).0 live).1 (retiring.counted live) retiring.sent (retiring.flushed live) in
+    let retires = retires_more {after = g.M.Medium.state c.retire.new.self.medium} full.0 c.loop-self.invariant.retires
+    (retiring.live full.2 live).1 (retiring.counted live) retiring.sent (retiring.flushed live) in
     let passes = step_passes g at {sends = sent (g.M.Medium.state c.retire.new.self.medium)} (omega arith) in
-    grind (arith, passes, was_full g at, retires, live, c.retire.ensures.idle, retiring, c.loop-self.invariant)
+    grind (arith, passes, full.1, retires, live, c.retire.ensures.idle, retiring, c.loop-self.invariant)
 
 pub returns-in_err-retire : goal.returns-in_err-retire
 returns-in_err-retire g c =
@@ -59,7 +50,7 @@ returns-in_err-retire g c =
     let old = c.args.self.now.cached.log in
     let few : sends_of_oldest old ≤ most_retire_sends old.shape.format = rw (← c.self.view_is) c.has_room-few.ensures.few in
     let after = g.M.Medium.state c.retire.new.self.medium in
-    let all = retires_refused (is_full g at) c.loop-self.invariant.retires after c.retire.ensures.retiring.sent in
+    let all = retires_refused (at_work g at).0 c.loop-self.invariant.retires after c.retire.ensures.retiring.sent in
     let died = c.retire.ensures.retiring.dies c.in_err-retire.ensures.answer.1 in
     let so_far = c.loop-self.invariant in
     let retiring = c.retire.ensures.retiring in

@@ -13,13 +13,11 @@ returns g c =
     let i = c.self.inside in
     let s : Cached = record { log = i.log; active = i.active; frozen = i.frozen } in
     let called = c.head_ahead.ensures in
+    let stays = past_stays _ _ c.is_retired.ensures.owes (λ none. (called.none none).1) in
     record {
-      passes = rw (← c.self.view_is) (paid_turn i.goes_ahead c.head_ahead.result called (λ view. (refl, refl, refl))
-          (past_stays _ _ c.is_retired.ensures.owes (λ none. (called.none none).1))
+      passes = rw (← c.self.view_is) (paid_turn i.goes_ahead c.head_ahead.result called (λ view. (refl, refl, refl)) stays
           (grind (arith, nat_tests)) (grind (arith, nat_tests)) (past_fewer s c.head_ahead.new.self (λ none. (called.none none).1)));
       way = rw (← c.self.view_is) (passes_head (rw (← c.self.view_is) at c.requires.live) c.head_ahead.result called
           (rw (← c.self.view_is) at c.requires.idle));
-      answer =
-          let stays = past_stays _ _ c.is_retired.ensures.owes (λ none. (called.none none).1) in
-          grind (arith, c.match-head_ahead.branch, called.answers, stays, c.requires.live, c.self.view_is);
+      answer = grind (arith, c.match-head_ahead.branch, called.answers, stays, c.requires.live, c.self.view_is);
     }

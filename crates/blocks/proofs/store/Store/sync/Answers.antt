@@ -1,13 +1,10 @@
-use Rattle.std.{specs.Prelude.OnOk, proofs.{Common.{◌≡◌, ◌∙◌, ◌+◌, ap, arith, [], true, rules}, lemmas.Result.on_ok_weaker}}
-use Rattle.medium.specs.{Sent.sent, declared.fault.MediumFault.TheVariants.Flush}
+use Rattle.std.{proofs.{Common.{◌≡◌, ◌∙◌, ◌+◌, ap, arith, [], true, rules}, lemmas.Result.on_ok_weaker}, specs.Prelude.OnOk}
+use Rattle.medium.specs.{declared.fault.MediumFault.TheVariants.Flush, Sent.sent}
 use Rattle.journal.specs.Places.{Shape}
-use Rattle.blocks.specs.{Flushing.both_flushes, Retiring.{finished, both_calls}, Sent.{most_sent, batch_sends}, StoreValue.firsts_in}
-use Rattle.blocks.proofs.{EmptyBatches.none_of, BookTurns.settles, FlushesOnce.both_durable, Headroom.{both_each, headroom_finished}}
-use Rattle.blocks.proofs.{Steady.{steady_sync, costs_behind, roomy_both, once}, TurnsJoined.{kept_paid, paid_then, paid_more}}
+use Rattle.blocks.proofs.{Steady.{steady_sync, costs_behind, roomy_both, once}, Headroom.{both_each, headroom_finished}, BookTurns.settles}
+use Rattle.blocks.{proofs.TurnsJoined.{kept_paid, paid_then}, specs.{Retiring.{finished, both_calls}, Sent.{most_sent, batch_sends}}}
+use Rattle.blocks.{proofs.{FlushesOnce.both_durable, EmptyBatches.none_of}, specs.{Flushing.both_flushes, StoreValue.firsts_in}}
 use Rattle.blocks.proofs.store.Store.sync.Goals as goal
-
-pub returns-in_err-finish-clause-passes : goal.returns-in_err-finish-clause-passes
-returns-in_err-finish-clause-passes g c = paid_more c.finish.ensures.passes (omega (arith, c.finish.ensures.passes.sent))
 
 pub returns-clause-passes : goal.returns-clause-passes
 returns-clause-passes g c =
@@ -17,11 +14,10 @@ returns-clause-passes g c =
     let live = c.in_ok-finish.ensures.batch.answers.answer in
     let quiet = ap (λ m. sent (g.M.Medium.state m)) keeps.medium in
     let same = ap (λ (shape : Shape). most_sent shape.format) (keeps.turn.goes_on.layout_stays ∙ first.turn.goes_on.layout_stays) in
-    let swap = kept_paid {Follows = g.M.Medium.follows} {sends = 0} g.met.M.Medium.follows_itself keeps
-    (grind (arith, c.freeze.ensures.is, c.in_ok-finish.ensures.batch.done)) in
-    paid_then {last = batch_sends c.freeze.new.self.cached} g.met.M.Medium.follows_through first live
-    (paid_then g.met.M.Medium.follows_through swap (rw c.freeze.ensures.is live) last (omega (arith, quiet, last.sent)))
-    (omega (arith, first.sent, last.sent, quiet, same))
+    let swap = paid_then {last = 0} {all = batch_sends c.args.self.now.cached} g.met.M.Medium.follows_through first live
+    (kept_paid g.met.M.Medium.follows_itself keeps (grind (arith, c.freeze.ensures.is, c.in_ok-finish.ensures.batch.done)))
+    (omega (arith, first.sent, quiet)) in
+    paid_then g.met.M.Medium.follows_through swap (rw c.freeze.ensures.is live) last (omega (arith, first.sent, last.sent, quiet, same))
 
 pub returns-clause-ok : goal.returns-clause-ok
 returns-clause-ok g c book fits =
@@ -57,9 +53,6 @@ returns-clause-batches g c =
           let both = headroom_finished old.active.numbers (firsts_in old.active) old.active.bytes (finished true old.frozen old.log) in
           grind (arith, finishes, last.answers.answer, one, both);
     }
-
-pub returns-in_err-finish-clause-cost : goal.returns-in_err-finish-clause-cost
-returns-in_err-finish-clause-cost g c = let one_batch = c.finish.ensures.one_batch in search rules
 
 pub returns-clause-cost : goal.returns-clause-cost
 returns-clause-cost g c =

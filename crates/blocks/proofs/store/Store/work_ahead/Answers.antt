@@ -1,6 +1,6 @@
-use Rattle.std.proofs.Common.{◌≡◌, false, true, sym, ◌∙◌, arith}
+use Rattle.std.proofs.{Common.{◌≡◌, false, true, sym, ◌∙◌, arith}, lemmas.Bool.Decides.nat_tests}
 use Rattle.medium.proofs.Moments.{unchanged}
-use Rattle.blocks.{specs.StoreValue.is_dead, proofs.{FlushesOnce.none_counted, TurnsJoined.{kept_then, rested_on}}}
+use Rattle.blocks.{specs.StoreValue.is_dead, proofs.TurnsJoined.{kept_then, rested_on}}
 use Rattle.blocks.proofs.store.Store.work_ahead.Goals as goal
 
 pub returns-then-not-self : goal.returns-then-not-self
@@ -18,4 +18,4 @@ returns g c =
     let is = c.count_flush.ensures.is in
     let goes = rw is at c.step_ahead.ensures.goes in
     let passes = kept_then c.count_flush.ensures.keeps c.step_ahead.ensures.passes in
-    grind (arith, live, on, goes, idle, passes, c.step_ahead.ensures, c.count_flush.ensures.fewer, is, none_counted old.cached)
+    grind (arith, nat_tests, live, on, goes, idle, passes, c.step_ahead.ensures, c.count_flush.ensures.fewer, is)

@@ -1,4 +1,4 @@
-use Rattle.std.proofs.{Common.{arith, rules, ◌/◌, length}, lemmas.Result.err_from_is_err_and}
+use Rattle.std.proofs.{Common.{arith, rules}, lemmas.Result.err_from_is_err_and}
 use Rattle.cache.proofs.Arrays.{unlisted_empty}
 use Rattle.spec.specs.Book.{write_of}
 use Rattle.blocks.{specs.{StoreValue.firsts_in, Headroom.HasHeadroom}, proofs.Headroom.{headroom_finished, one_each}}
@@ -8,8 +8,7 @@ use Rattle.blocks.proofs.store.Store.write_alone.Goals as goal
 pub append-requires : goal.append-requires
 append-requires g c =
     let shape = c.finish.ensures.passes.turn.goes_on.layout_stays in
-    let none = unlisted_empty c.args.address (length c.args.bytes.now / 512) in
-    rw c.freeze.ensures.is (grind (arith, shape, c.requires.range, c.in_ok-finish.ensures.batch.done, none))
+    rw c.freeze.ensures.is (grind (arith, shape, c.requires.range, c.in_ok-finish.ensures.batch.done, unlisted_empty))
 
 pub returns-in_err-finish : goal.returns-in_err-finish
 returns-in_err-finish g c =
