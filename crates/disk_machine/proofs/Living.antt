@@ -8,7 +8,7 @@ use Rattle.spec.specs.{Book.Book, Conversation.Conversation, Rules.UnitState, Bl
 use Rattle.spec.specs.{declared.event.Event.Event, declared.event.Answer.Answer}
 use Rattle.spec.specs.declared.event.Event.TheVariants as event
 use Rattle.spec.specs.declared.event.Answer.TheVariants as answer
-use Rattle.bot_machine.specs.{Disk.over, Faulting.faulted_over}
+use Rattle.bot_machine.specs.{Disk.over, Faulting.faulted_over, PacketRuns.packet_of}
 use Rattle.scsi_unit.specs.Background.{Work, Settle, Ahead, WriteBack}
 use Rattle.disk_machine.specs.{Plays.{Disk, StepsWhile}, Asking.{AsksFor, IsDone}, Machine.{Machine, Serves, has_refused}, Turns.Turn}
 use Rattle.disk_machine.specs.{Turns.{played, refusal, TurnsRun, TurnsAreRun, turns_done, ticks, turns_one, turns_in, turns_ahead}}
@@ -17,7 +17,7 @@ use Rattle.disk_machine.specs.{Turns.{turns_last, turns_of_sending, turns_into},
 use Rattle.disk_machine.specs.{Lives.{Call, next, done, bulk_out, bulk_in, take_transfer, send_transfer, setup, idle, work_ahead}}
 use Rattle.disk_machine.specs.{Lives.{look_ahead, IsMade, turns_of, ServesLater, ServesThroughout}, Moves.{ServesOn, ServesEvent}}
 use Rattle.disk_machine.specs.{Moves.ServesToken, Packets.{TakesOne, SendsIn}, PuttingOff.{WaitsForSteps, WaitsForCalls}}
-use Rattle.disk_machine.specs.{Transfers.{packet_at, TakesFirst, EndsTaking, TakesTransfer, SendsAt, SendsFirst, EndsSending}}
+use Rattle.disk_machine.specs.{Transfers.{TakesFirst, EndsTaking, TakesTransfer, SendsAt, SendsFirst, EndsSending}}
 use Rattle.disk_machine.specs.{Transfers.{SendsTransfer, SendsInto}}
 use Rattle.window.specs.declared.asked.Asked.TheVariants as asked
 use Rattle.disk_machine.proofs.{Playing.{with_disk, steps_go_on, tick_serves}, Events.{opening_stays, some_since, writes_grow}}
@@ -196,14 +196,14 @@ taken_first : (most : ℕ) (bytes : List ℕ) (count : ℕ) (old new : Machine) 
     → LivesOn old (turns_taken most bytes count old new first) new
 taken_first most bytes zero old new same = nothing_changes old new same
 taken_first most bytes (suc number) old new (mid, first, has, takes) =
-    through (taken_first most bytes number old mid first) (taken_one mid new (packet_at most bytes number) 0 takes.one)
+    through (taken_first most bytes number old mid first) (taken_one mid new (packet_of most bytes number) 0 takes.one)
 
 not_taken : (most : ℕ) (bytes : List ℕ) (count : ℕ) (mid new : Machine) (taken code : ℕ)
     (ends : EndsTaking most bytes count mid new taken code)
     → LivesOn mid (turns_not_taken most bytes count mid new taken code ends) new
 not_taken most bytes count mid new taken code (inl all) = nothing_changes mid new all.1
 not_taken most bytes count mid new taken code (inr (has, takes, at, told)) =
-    taken_one mid new (packet_at most bytes count) code takes.one
+    taken_one mid new (packet_of most bytes count) code takes.one
 
 transfer_taken : (old new : Machine) (bytes : List ℕ) (taken code : ℕ) (takes : TakesTransfer old bytes new taken code)
     → LivesOn old (turns_of_taking old bytes new taken code takes) new

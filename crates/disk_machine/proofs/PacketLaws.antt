@@ -6,12 +6,12 @@ use Rattle.spec.specs.{Book.Book, Rules.checked, declared.event.Answer.Answer}
 use Rattle.spec.specs.declared.event.Event.TheVariants as event
 use Rattle.spec.specs.declared.event.Answer.TheVariants as answer
 use Rattle.scsi_unit.specs.{Background.{Work, Settle, Ahead, WriteBack, TellsWork, is_dead, steps_left}, UnitValue.IsOfSize}
-use Rattle.bot_machine.specs.{Disk.over, Promising.PromisesNone}
+use Rattle.bot_machine.specs.{Disk.over, PacketRuns.packet_of, Promising.PromisesNone}
 use Rattle.bot_machine.proofs.UnitLaws.{ahead_fewer, both_empty, plain_quiet}
 use Rattle.window.specs.Window.{state_of}
 use Rattle.disk_machine.specs.{Plays.{Disk, medium_of, PlaysBy, StepsWhile}, Refusals.{HasWritten, IsQuietPacket}, PuttingOff.MayGoOn}
 use Rattle.disk_machine.specs.{PuttingOff.{TellsNext, WritesOn}, Codes.code_of, Machine.Machine, Packets.{TakesOne, TakesOut, SendsIn}}
-use Rattle.disk_machine.specs.{Transfers.{HasPacket, packet_at, TakesFirst, SendsFirst}}
+use Rattle.disk_machine.specs.{Transfers.{HasPacket, TakesFirst, SendsFirst}}
 use Rattle.std.proofs.lemmas.List.{take_min, take_all, drop_all, append-nil, length-take}
 use Rattle.std.proofs.Math.Nat.{mul-le-mul_right, div-mul-le_self}
 use borrow.Rule.Slice.PartMut.{put_mid}
@@ -122,23 +122,23 @@ packet_is most at size bytes is =
 pub next_taken : (most result size code number : ℕ) (bytes : List ℕ) (mid new : Machine) → result ≡ most
     → size ≡ min result (length bytes - number * result)
     → TakesOut mid (take ((number * result + size) - number * result) (drop (number * result) bytes)) new code
-    → TakesOut mid (packet_at most bytes number) new code
+    → TakesOut mid (packet_of most bytes number) new code
 next_taken most result size code number bytes mid new is size_is takes =
     rw (sym is, sym (packet_is result (number * result) size bytes size_is)) takes
 
 pub taken_more : (most number code : ℕ) (bytes : List ℕ) (old mid new : Machine) → TakesFirst most bytes number old mid
-    → HasPacket most bytes number → code ≡ 0 → TakesOut mid (packet_at most bytes number) new code
+    → HasPacket most bytes number → code ≡ 0 → TakesOut mid (packet_of most bytes number) new code
     → TakesFirst most bytes (number + 1) old new
 taken_more most number code bytes old mid new first has acked takes =
     rw add-one (mid, first, has, rw (sym acked) takes)
 
 -- it is answered NAK or STALL, where not ACK
 pub refused : (most number code : ℕ) (bytes : List ℕ) (mid new : Machine) → mid.disk.line.packet_size ≡ most
-    → TakesOut mid (packet_at most bytes number) new code → (code ≡ 0 → ⊥) → (code ≡ 1) ⊎ (code ≡ 2)
+    → TakesOut mid (packet_of most bytes number) new code → (code ≡ 0 → ⊥) → (code ≡ 1) ⊎ (code ≡ 2)
 refused most number code bytes mid new size takes some =
-    let fits : length (packet_at most bytes number) ≤ mid.disk.line.packet_size =
+    let fits : length (packet_of most bytes number) ≤ mid.disk.line.packet_size =
     omega (arith, size, length-take most (drop (number * most) bytes)) in
-    let few : code ≤ 2 = answers mid new (packet_at most bytes number) code fits takes.one in
+    let few : code ≤ 2 = answers mid new (packet_of most bytes number) code fits takes.one in
     grind (arith, few, some)
 
 -- ---- from Bulk-In

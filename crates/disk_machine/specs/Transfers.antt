@@ -1,25 +1,23 @@
 -- Whole transfers of a host: the packets of an endpoint, one after the other.
 use Rattle.std.specs.Prelude.{◌≡◌, ◌≢◌, ◌⊎◌, ℕ, zero, suc, ◌+◌, ◌*◌, ◌/◌, ◌<◌, ◌≤◌, ◌==◌, ◌++◌}
 use Rattle.std.specs.Prelude.{List, length, take, drop, if◌then◌else◌}
+use Rattle.bot_machine.specs.PacketRuns.{packet_of}
 use Rattle.disk_machine.specs.{Codes.BAD_LENGTH, Plays.{Disk, SendsPacket}, Machine.Machine}
 use Rattle.disk_machine.specs.{Packets.{TakesOut, SendsIn}}
 
 -- ---- to Bulk-Out
 
--- the bytes have a packet of this number: the first one always, and each that lies in them
+-- the bytes have a packet of this number: the first one always, and each that lies in them (its
+-- bytes are as many as a packet has at most, or what is left)
 abbrev pub HasPacket : ℕ → List ℕ → ℕ → Type 0
 HasPacket most bytes number = (number ≡ 0) ⊎ (number * most < length bytes)
-
--- its bytes: as many as a packet has at most, or what is left
-abbrev pub packet_at : ℕ → List ℕ → ℕ → List ℕ
-packet_at most bytes number = take most (drop (number * most) bytes)
 
 -- the first packets are taken, one by one
 abbrev pub TakesFirst : ℕ → List ℕ → ℕ → Machine → Machine → Type 0
 TakesFirst most bytes zero old new = new ≡ old
 TakesFirst most bytes (suc number) old new = (mid : Machine)
     × TakesFirst most bytes number old mid × HasPacket most bytes number
-    × TakesOut mid (packet_at most bytes number) new 0
+    × TakesOut mid (packet_of most bytes number) new 0
 
 -- some of them, at once
 abbrev pub TakesAmid : Machine → List ℕ → Machine → ℕ → Type 0
@@ -30,7 +28,7 @@ TakesAmid old bytes new count = TakesFirst old.disk.line.packet_size bytes count
 abbrev pub EndsTaking : ℕ → List ℕ → ℕ → Machine → Machine → ℕ → ℕ → Type 0
 EndsTaking most bytes count mid new taken code =
     ((¬ HasPacket most bytes count) × (new ≡ mid) × (taken ≡ length bytes) × (code ≡ 0))
-    ⊎ (HasPacket most bytes count × TakesOut mid (packet_at most bytes count) new code
+    ⊎ (HasPacket most bytes count × TakesOut mid (packet_of most bytes count) new code
     × (taken ≡ count * most) × ((code ≡ 1) ⊎ (code ≡ 2)))
 
 pub record TakesTransfer (old : Machine) (bytes : List ℕ) (new : Machine) (taken code : ℕ)

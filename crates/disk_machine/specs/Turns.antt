@@ -7,10 +7,10 @@ use Rattle.spec.specs.{UnitConversation.UnitRun, declared.event.Event.Event}
 use Rattle.spec.specs.{declared.event.Answer.Answer}
 use Rattle.spec.specs.declared.event.Event.TheVariants as event
 use Rattle.spec.specs.declared.event.Answer.TheVariants as answer
-use Rattle.bot_machine.specs.Faulting.{faulted_over}
+use Rattle.bot_machine.specs.{Faulting.faulted_over, PacketRuns.packet_of}
 use Rattle.disk_machine.specs.{Idling.{HasGoneAhead, HasStepped, WorksAtRest}, Machine.Machine}
 use Rattle.disk_machine.specs.{Packets.{TakesOne, TakesOut, SendsIn}, Plays.Disk}
-use Rattle.disk_machine.specs.{PuttingOff.{WaitsForSteps, WaitsForCalls}, Transfers.packet_at}
+use Rattle.disk_machine.specs.{PuttingOff.{WaitsForSteps, WaitsForCalls}}
 use Rattle.disk_machine.specs.{Transfers.{TakesFirst, EndsTaking, TakesTransfer, SendsAt}}
 use Rattle.disk_machine.specs.{Transfers.{SendsFirst, EndsSending, SendsTransfer, SendsInto}}
 use Rattle.window.specs.declared.asked.Asked.{Asked}
@@ -109,13 +109,13 @@ abbrev pub turns_taken : (most : ℕ) (bytes : List ℕ) (count : ℕ) (old new 
 turns_taken most bytes zero old new first = []
 turns_taken most bytes (suc number) old new (mid, first, has, takes) =
     turns_taken most bytes number old mid first
-    ++ turns_out mid (packet_at most bytes number) new 0 takes
+    ++ turns_out mid (packet_of most bytes number) new 0 takes
 
 abbrev pub turns_not_taken : (most : ℕ) (bytes : List ℕ) (count : ℕ) (mid new : Machine)
     (taken code : ℕ) → EndsTaking most bytes count mid new taken code → List Turn
 turns_not_taken most bytes count mid new taken code (inl all) = []
 turns_not_taken most bytes count mid new taken code (inr (has, takes, at, told)) =
-    turns_out mid (packet_at most bytes count) new code takes
+    turns_out mid (packet_of most bytes count) new code takes
 
 abbrev pub turns_of_taking : (old : Machine) (bytes : List ℕ) (new : Machine) (taken code : ℕ)
     → TakesTransfer old bytes new taken code → List Turn

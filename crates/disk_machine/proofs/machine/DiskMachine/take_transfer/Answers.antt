@@ -1,12 +1,13 @@
 use Rattle.std.proofs.Common.{◌∙◌, ◌*◌, ℕ, inr, ap, sym, arith}
-use Rattle.disk_machine.specs.{Packets.TakesOut, Transfers.{HasPacket, packet_at}}
+use Rattle.bot_machine.specs.PacketRuns.{packet_of}
+use Rattle.disk_machine.specs.{Packets.TakesOut, Transfers.HasPacket}
 use Rattle.disk_machine.proofs.{PacketLaws.{size_stays, next_taken, taken_more, refused}}
 use Rattle.disk_machine.proofs.{machine.DiskMachine.take_transfer.Goals.After-take_packet-code}
 use Rattle.disk_machine.proofs.machine.DiskMachine.take_transfer.Goals as goal
 
 -- the packet of this number is taken
 taken : (c : After-take_packet-code) → TakesOut c.loop-number.self
-    (packet_at c.args.self.now.disk.line.packet_size c.args.bytes.now c.loop-number.number)
+    (packet_of c.args.self.now.disk.line.packet_size c.args.bytes.now c.loop-number.number)
     c.take_packet-code.new.self c.take_packet-code.result
 taken c = next_taken _ _ _ _ _ _ _ _ c.packet_size-most.ensures.is c.min-size.ensures (record { one = c.take_packet-code.ensures })
 
