@@ -7,12 +7,10 @@
 #include <stdio.h>
 #include <stdlib.h>
 #include <string.h>
-#include <sys/resource.h>
 #include <unistd.h>
 
-/* IDLE: after this many milliseconds without an event steps in the background are made. PRIORITY:
- * as of `nice`. */
-enum { IDLE = 20, PRIORITY = -3 };
+/* After this many milliseconds without an event steps in the background are made. */
+enum { IDLE = 20 };
 
 /* What is waited for: an event, the kernel or the other thread, and the device. */
 enum { EVENT, READY, DISK, FILES };
@@ -123,15 +121,6 @@ static int serve(struct gadget *gadget)
     return end(gadget);
 }
 
-/* The kernel's workers, which tell what is done, else take the processor before the next data of a
- * READ is handed over. Where somebody has set another priority, or the system refuses, it stays. */
-static void go_first(void)
-{
-    errno = 0;
-    if (getpriority(PRIO_PROCESS, 0) == 0 && errno == 0)
-        setpriority(PRIO_PROCESS, 0, PRIORITY);
-}
-
 /* Sets up the function, and binds it. False: said why. */
 static bool begin(struct gadget *gadget)
 {
@@ -207,7 +196,6 @@ static int run(struct gadget *gadget)
         return gadget->disk.status;
     }
     disk_name(&gadget->disk, &gadget->options.names);
-    go_first();
     if (!disk_start(&gadget->disk, 512))
         status = gadget->disk.status;
     else if (begin(gadget))
