@@ -1,14 +1,15 @@
 -- How the books that a store fits go on from turn to turn.
 use Rattle.std.proofs.Common.{rules, ◌≡◌, ◌≤◌, ◌<◌, ℕ, ◌+◌, ◌*◌, ◌-◌, ⊎_elim, arith, ◌∙◌, ap, refl, List, [], ◌∷◌, ◌++◌, length, drop}
 use Rattle.std.proofs.{Common.{length-append, zero, suc, get_or}, lemmas.{List.{take-append-le, drop-drop}, Bool.Decides.nat_tests}}
-use Rattle.std.{specs.Prelude.{if◌then◌else◌, nat_le, get_or}, proofs.Math.Seq.take-length}
+use Rattle.std.{proofs.Math.Seq.take-length, specs.Prelude.{if◌then◌else◌, nat_le, get_or}}
 use Rattle.medium.specs.Medium.{State, Image}
 use Rattle.spec.specs.{Book.{Book, after_first, with_write, promised}, Blocks.{Array, Write, apply, after, chunks}}
 use Rattle.journal.specs.{Record.with_blocks, Standing.IsOurs, Places.Shape}
-use Rattle.cache.{specs.{Blocks.{blocks_of, over, with_range, Listed}, Entries.{Entries, map_of}}, proofs.Arrays.over_put}
 use Rattle.redo_log.specs.{Value.{LogValue, IsBatch, entries_from, entries_of}, Held.{View, HoldsView, MayLeave, with_record}}
 use Rattle.redo_log.proofs.{StoreFacts.may_leave_ours, HeldLog.many}
-use Rattle.blocks.specs.{StoreValue.{Cached, FitsBook, ShowsBook, wants}, Finding.{StandsAs, MayFind}, Kept.IsBatchOf, Book.Same}
+use Rattle.theorems.specs.Retiring.{wants}
+use Rattle.cache.{specs.{Blocks.{blocks_of, over, with_range, Listed}, Entries.{Entries, map_of}}, proofs.Arrays.over_put}
+use Rattle.blocks.specs.{StoreValue.{Cached, FitsBook, ShowsBook}, Finding.{StandsAs, MayFind}, Kept.IsBatchOf, Book.Same}
 
 -- a write over two arrays that have the same block
 pub apply_same : (w : Write) (a c : Array) (b : ℕ) → a b ≡ c b → apply a w b ≡ apply c w b

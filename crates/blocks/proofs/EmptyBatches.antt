@@ -1,14 +1,14 @@
 -- A store whose batches are empty: what fits, what is sent, how many steps are left else, and that at rest everything is at home.
 use Rattle.std.proofs.Common.{rules, ◌≡◌, ◌+◌, ◌<◌, ◌≤◌, ℕ, ◌∙◌, sym, ap, arith, true, false, List, [], length, ◌⊎◌, Bool, refl, inl, inr}
-use Rattle.std.{proofs.lemmas.{Bool.{cases_lt, cases_Bool, Decides.nat_tests}, List.nil_from_length}, specs.Prelude.false}
+use Rattle.std.{proofs.lemmas.{Bool.{Decides.nat_tests, cases_lt, cases_Bool}, List.nil_from_length}, specs.Prelude.false}
 use Rattle.medium.specs.{Medium.{State, IsSound}, Moments.EachCut, Sent.SendsUpTo}
 use Rattle.spec.specs.Book.{Book, array_of}
-use Rattle.cache.{specs.{Entries.{map_of, Entries}, Blocks.over}, proofs.Arrays.unlisted_empty}
 use Rattle.redo_log.{specs.Value.{LogValue, Owes, CanPass, IsAway}, proofs.{StoreFacts.{home_is, blocks_guarded}, HeldLog.many}}
+use Rattle.theorems.specs.{Room.RestsAhead, Ahead.is_covered}
+use Rattle.cache.{specs.{Entries.{map_of, Entries}, Blocks.over}, proofs.Arrays.unlisted_empty}
 use Rattle.blocks.specs.StoreValue.{Cached, layout_of, is_dead, steps_left, FitsBook, FitsBeside, active_of, transfer_limit, unwritten}
-use Rattle.blocks.{specs.{Work.{IsAheadStep, GoesOnAhead}, Settled.{IsAtHome, IsSettled}}, proofs.BookTurns.{over_none, settles}}
-use Rattle.blocks.{proofs.TurnsJoined.nothing_left, specs.{Background.with_counted, OneBatch.SendsOneBatch, Prepared.RestsAhead}}
-use Rattle.blocks.specs.{Written.IsWritten, Ahead.is_covered}
+use Rattle.blocks.specs.{Work.{IsAheadStep, GoesOnAhead}, Settled.{IsAtHome, IsSettled}, Background.with_counted, OneBatch.SendsOneBatch}
+use Rattle.blocks.{specs.Written.IsWritten, proofs.{BookTurns.{over_none, settles}, TurnsJoined.nothing_left}}
 
 -- a list without elements is empty
 pub none_of : {A : Type 0} (l : List A) → length l ≤ 0 → l ≡ []

@@ -1,34 +1,22 @@
--- One step ahead, or one that writes back, keeps headroom, and each record makes one flush, whatever calls come between.
-use Rattle.std.proofs.{Common.{rules, ◌≡◌, ◌⊎◌, ◌<◌, inl, inr, refl, arith, length-append, ◌+◌}, lemmas.Bool.{cases_Bool, cases_lt}}
-use Rattle.std.{proofs.lemmas.{Bool.Decides.nat_tests, List.nil_from_length}, specs.Prelude.{ℕ, List, [], ◌∷◌, length, true, false, Bool}}
+-- A store that goes ahead keeps headroom, and each record makes one flush, whatever calls come between.
+use Rattle.std.proofs.{Common.{◌≡◌, ◌⊎◌, ◌<◌, inl, inr, refl, arith, ◌+◌}, lemmas.Bool.{Decides.nat_tests, cases_Bool, cases_lt}}
+use Rattle.std.{proofs.lemmas.List.nil_from_length, specs.Prelude.{List, [], ◌∷◌, length, true, false, Bool}}
 use Rattle.medium.specs.{Medium.State, declared.fault.MediumFault.TheVariants.Flush}
-use Rattle.cache.specs.Entries.{Entries}
-use Rattle.redo_log.specs.Value.{LogValue, CanPass, IsAway, IsStepped, IsRetireStepped, next_step_flushes}
-use Rattle.redo_log.specs.declared.progress.Progress.{Progress}
-use Rattle.blocks.specs.{Ahead.counted, Background.{IsBackgroundStep, with_counted}, Written.IsWritten, declared.work.Work.Work}
-use Rattle.blocks.specs.{Retiring.{finished_with, finished}, Headroom.{RestsWithRoom, HasHeadroom, next_durable, IsSparing, AreSparing}}
-use Rattle.blocks.specs.{StoreValue.{Cached, is_dead, steps_left, unwritten, StoreValue, firsts_in, wants}, Work.{GoesOnAhead, IsAheadStep}}
-use Rattle.blocks.specs.Work.{IsWriteBackStep, MayWrite, SparesSlots, RetiresNone, WorksBy, DoesWork}
-use Rattle.blocks.{specs.declared.work.Work.TheVariants.Settle, proofs.{EmptyBatches.{written_live, steps_to_write}, Steady.writes_on}}
-use Rattle.blocks.proofs.{Steady.{steps_once, finished_is}, Headroom.{ready_more, headroom_finished, rests_finished, rests_stepped}}
-use Rattle.blocks.proofs.Headroom.{landed_stepped, landed_begun, headroom_stepped}
+use Rattle.redo_log.specs.Value.{IsRetireStepped}
+use Rattle.theorems.{specs.{Headroom.{RestsWithRoom, HasHeadroom, next_durable}, Retiring.firsts_in, Ahead.counted}, proofs.Headroom.ready_more}
+use Rattle.theorems.proofs.Headroom.{rests_stepped, landed_stepped, landed_begun, may_or_goes, rests_counted, step_once}
+use Rattle.blocks.specs.{Background.{IsBackgroundStep, MayBegin, with_counted}, Written.IsWritten, declared.work.Work.TheVariants.Settle}
+use Rattle.blocks.specs.{declared.work.Work.Work, Headroom.{IsSparing, AreSparing}, StoreValue.{Cached, is_dead, steps_left, unwritten}}
+use Rattle.blocks.specs.{StoreValue.StoreValue, Work.{GoesOnAhead, IsAheadStep, IsWriteBackStep, RetiresNone, WorksBy, DoesWork}}
+use Rattle.blocks.proofs.EmptyBatches.{written_live, steps_to_write}
 
 pub to_write : (s : Cached) → ¬ IsWritten s → (is_dead s ≡ false) × (0 < steps_left s) × (0 < unwritten s)
 to_write s left = grind (arith, cases_Bool (is_dead s), cases_lt 0 (unwritten s), left, steps_to_write s)
-
--- slots are spared, or a step ahead does something
-may_or_goes : (log : LogValue) → RestsWithRoom log → (MayWrite true log × SparesSlots log)
-    ⊎ ((MayWrite true log → ⊥) × (CanPass (counted log) ⊎ IsAway (counted log)))
-may_or_goes log r = grind (arith, nat_tests, r)
 
 -- one step ahead
 rests_ahead : (before after : State) (old new : Cached) → GoesOnAhead before after old new → is_dead new ≡ false
     → IsRetireStepped old.log new.log ⊎ (new.log ≡ old.log)
 rests_ahead before after old new goes live = grind (arith, nat_tests, goes)
-
--- a step ahead of a log with room, once a flush is counted
-rests_counted : (log : LogValue) → RestsWithRoom log → RestsWithRoom (counted log) × ((counted log).next ≡ log.next)
-rests_counted log r = grind (arith, nat_tests, rests_stepped log (counted log) r)
 
 -- it leaves headroom, and its flushes are those of the records that became durable
 abbrev Spared : State → State → Cached → Cached → Type 0
@@ -45,21 +33,27 @@ spared_ahead : (before after : State) (old new : Cached) → IsAheadStep true be
     → is_dead new ≡ false → Spared before after old new
 spared_ahead before after old new step head live = grind (arith, nat_tests, steps_ahead)
 
--- a batch becomes durable: its record is one more, and an empty one has none
-pub one_durable : (numbers : List ℕ) (firsts : List (List ℕ)) (copy : List ℕ) (log : LogValue) → HasHeadroom log
-    → (0 < log.steps_left → 0 < length numbers)
-    → next_durable (finished_with true numbers firsts copy log) ≡ next_durable log + wants numbers
-one_durable numbers firsts copy log head under_way = search (rules, arith, length-append, rests_finished, finished_is)
-
--- both batches become durable
-pub both_durable : (frozen active : Entries) (log : LogValue) → HasHeadroom log → (0 < log.steps_left → 0 < length frozen.numbers)
-    → next_durable (finished true active (finished true frozen log)) ≡ next_durable log + (wants frozen.numbers + wants active.numbers)
-both_durable frozen active log head under_way = grind (arith, one_durable, headroom_finished)
-
--- the last step of a record is its one flush
-step_once : (progress : Progress) (old new : LogValue) → HasHeadroom old → 0 < old.steps_left → IsStepped progress old new
-    → next_step_flushes old + next_durable old ≡ next_durable new
-step_once progress old new head some stepped = grind (arith, nat_tests, head, steps_once, writes_on, length-append)
+pub headroom_stepped : (before after : State) (old new : Cached) → IsBackgroundStep true before after old new → HasHeadroom old.log
+    → is_dead new ≡ false → HasHeadroom new.log
+headroom_stepped before after old new order head live =
+    let may : MayBegin true old ⊎ (MayBegin true old → ⊥) = grind (arith, nat_tests) in
+    let idles : old.log.steps_left ≡ 0 → RestsWithRoom old.log = λ (idle : old.log.steps_left ≡ 0). grind (arith, head) in
+    let alive : is_dead old ≡ false = grind (arith, cases_Bool (is_dead old), order.dead, live) in
+    elim (cases_lt 0 old.log.steps_left) [
+      | inl some ↦ grind (arith, order.goes_on alive some, live, head, landed_stepped)
+      | inr few ↦ elim may [
+        | inl begins ↦
+            let b = order.begins alive begins in
+            let some : 0 < length new.frozen.numbers = grind (arith, b.next, begins, nil_from_length old.frozen.numbers) in
+            let order = (idles (omega (arith, few))).order in
+            rw ((b.live live).1, landed_begun new.frozen.numbers (firsts_in new.frozen) new.frozen.bytes old.log)
+            (ready_more new.frozen.numbers (firsts_in new.frozen) new.frozen.bytes old.log (order, inl begins.0.1) some)
+        | inr not ↦
+            let r = order.retires alive (omega (arith, few)) not in
+            let empty = nil_from_length old.log.waiting in
+            grind (arith, cases_lt 0 (length old.log.waiting), empty, r.live, r.none_waits, idles, rests_stepped old.log new.log, head)
+      ]
+    ]
 
 settles_once : (ahead : Bool) (before after : State) (old new : Cached) → IsBackgroundStep ahead before after old new
     → RetiresNone Settle ahead old → HasHeadroom old.log → is_dead new ≡ false

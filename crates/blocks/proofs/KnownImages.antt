@@ -10,7 +10,7 @@ use Rattle.recovery.specs.{Recovered.{IsOursForSome, StandsForOneOf, IsRecovered
 use Rattle.recovery.specs.declared.recovered.Recovered.{Recovered}
 use Rattle.blocks.specs.{Started.{IsStartCause, IsStartedBy, started_log, ring_by, keeps_by}, Finding.{StandsAs, MayFind, FoundWith}}
 use Rattle.blocks.specs.{StoreValue.{Cached, layout_of, blocks_of, FitsBook}, Opening.{StandsForOpening, OpensOn, IsCauseFor}, Book.Same}
-use Rattle.blocks.{proofs.BookTurns.{apply_same, shows_book, may_find}, specs.declared.start.Keeping.Keeping}
+use Rattle.blocks.{specs.declared.start.Keeping.Keeping, proofs.BookTurns.{apply_same, shows_book, may_find}}
 use Rattle.journal.specs.Standing as image
 use Rattle.recovery.specs.Recovered as recovered
 
@@ -109,11 +109,8 @@ module _ (keeping : Keeping) (before after : State) (answer : Recovered) (from :
   fits ours premise =
       opens keeping (shape_of answer.sizes) from.array answer.next ours after (empty_holds (shape_of answer.sizes) answer.next
       (ring_by keeping answer.sizes.slots) (keeps_by keeping) from.array ours after (omega (arith, from.stood.fits, size_stays))
-      (grind (arith)) (λ is image cut. search (
-        rules,
-        arith,
-        fresh (shape_of answer.sizes) from.array answer.next (was_ours (premise is)) image cut,
-      )))
+      (grind (arith)) (λ is image cut.
+      let left = fresh (shape_of answer.sizes) from.array answer.next (was_ours (premise is)) image cut in search (rules, arith, left)))
 
   pub starts : IsStartedBy keeping before after (started keeping (shape_of answer.sizes) answer.next)
   starts = record {

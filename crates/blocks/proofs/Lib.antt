@@ -4,9 +4,7 @@ pub mod ImageLimit
 pub mod Limits
 pub mod SectorsRead
 pub mod KnownImages
-pub mod Headroom
 pub mod FlushesOnce
 pub mod OneBatchSent
 pub mod EmptyBatches
-pub mod Steady
 pub mod TurnsJoined

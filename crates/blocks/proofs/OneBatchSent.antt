@@ -2,7 +2,8 @@
 use Rattle.std.proofs.Common.{◌≡◌, ◌≤◌, ◌+◌, Bool, arith}
 use Rattle.medium.specs.{Medium.State, Sent.sent}
 use Rattle.redo_log.specs.Value.{LogValue, most_steps, most_retire_sends}
-use Rattle.blocks.specs.{Prepared.IsPrepared, OneBatch.SendsOneBatch}
+use Rattle.theorems.specs.Room.{IsPrepared}
+use Rattle.blocks.specs.OneBatch.{SendsOneBatch}
 
 module _ (ahead : Bool) (before : State) (log : LogValue) where
   -- nothing was sent

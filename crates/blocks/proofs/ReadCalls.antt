@@ -1,23 +1,20 @@
 -- What a read gives, and how many calls of the medium it makes.
-use Rattle.std.proofs.Common.{rules, ◌≡◌, ℕ, zero, suc, ◌+◌, ◌-◌, ◌*◌, ◌≤◌, ◌<◌, List, [], ◌∷◌, ◌++◌, length, take, drop, None, ◌∙◌}
-use Rattle.std.{proofs.Common.{arith, inl, inr, ◌⊎◌, append_assoc, append-nil, add-zero, Result, false, refl}, specs.Prelude.{Ok, Err}}
-use Rattle.std.{specs.Prelude.{OnOk, IsOk, Contains, true, get_or}, proofs.lemmas.List.{length-drop, length-take-le}}
-use Rattle.std.proofs.lemmas.{Slice.take-put_mid, Bool.{cases_Bool, false≢true, cases_eq, Decides.nat_tests}}
-use borrow.Rule.Slice.PartMut.{put_mid}
-use Rattle.medium.specs.{Medium.{State, Passes, IsSound, LooksOnly, Stays, Within}, declared.fault.MediumFault.MediumFault}
-use Rattle.medium.specs.{declared.fault.MediumFault.TheVariants.Read, Medium.Image, Range.{held_from, ReadsAtOnce}}
-use Rattle.medium.proofs.{CallsSent.{read_sends, none_sent}, Moments.{quiet_joined, quiet_call, quiet_start}}
-use Rattle.medium.proofs.SectorsRead.{one_look, looks_wider}
-use Rattle.journal.specs.Places.{first_home}
-use Rattle.redo_log.proofs.StoreFacts.{home_is}
-use Rattle.redo_log.specs.{Steps.{KeepsLog, ReadsCopy}, Value.{LogValue, IsNewestCopy, HasNoCopy}}
+use Rattle.std.proofs.Common.{rules, ◌≡◌, ℕ, zero, suc, ◌+◌, ◌-◌, ◌*◌, ◌≤◌, ◌<◌, List, [], ◌∷◌, ◌++◌, length, take, drop, None, ◌∙◌, arith}
+use Rattle.std.proofs.{Common.{inl, inr, ◌⊎◌, append_assoc, append-nil, add-zero, Result, false, refl}, lemmas.List.length-drop}
+use Rattle.std.proofs.lemmas.{List.length-take-le, Slice.take-put_mid, Bool.{Decides.nat_tests, cases_Bool, false≢true, cases_eq}}
+use Rattle.std.specs.Prelude.{Ok, Err, OnOk, IsOk, Contains, true, get_or}
+use Rattle.medium.specs.{Medium.{State, Passes, IsSound, LooksOnly, Stays, Within, Image}, declared.fault.MediumFault.TheVariants.Read}
+use Rattle.medium.{specs.{declared.fault.MediumFault.MediumFault, Range.{held_from, ReadsAtOnce}}, proofs.CallsSent.{read_sends, none_sent}}
+use Rattle.medium.proofs.{Moments.{quiet_joined, quiet_call, quiet_start}, SectorsRead.{one_look, looks_wider}}
 use Rattle.spec.specs.{Blocks.Array, Book.{Book, array_of, blocks_at}}
+use Rattle.journal.specs.Places.{first_home}
+use Rattle.redo_log.{proofs.StoreFacts.home_is, specs.{Steps.{KeepsLog, ReadsCopy}, Value.{LogValue, IsNewestCopy, HasNoCopy}}}
 use Rattle.cache.{specs.{Blocks.{is_listed, Listed, unlisted}, Entries.{map_of, Entries}}, proofs.{Maps.listed_is, Arrays.unlisted_most}}
-use Rattle.blocks.specs.{Reads.{AreReadable, AreAtHome, IsAtHome}}
-use Rattle.blocks.specs.{Reads.{IsInBatch, IsInNone, ReadsBlocks, told}, Looks.IsReadFor, StoreValue.{Cached, blocks_of, layout_of}}
-use Rattle.blocks.specs.{StoreValue.{FitsBook, StoreValue}, Calls.{block_reads, reads_of, is_logged, log_reads}, Passing.KeepsStore}
-use Rattle.blocks.specs.declared.fault.StoreFault.{StoreFault}
-use Rattle.blocks.proofs.{SectorsRead.{one_more, fewer_read, none_read}, TurnsJoined.{quiet_turn, turns}, BookTurns.listed_at}
+use Rattle.blocks.specs.{Reads.{AreReadable, AreAtHome, IsAtHome, IsInBatch, IsInNone, ReadsBlocks, told}, Looks.IsReadFor}
+use Rattle.blocks.specs.{StoreValue.{Cached, blocks_of, layout_of, FitsBook, StoreValue}, Calls.{block_reads, reads_of, is_logged}}
+use Rattle.blocks.{specs.{Calls.log_reads, Passing.KeepsStore, declared.fault.StoreFault.StoreFault}, proofs.SectorsRead.one_more}
+use Rattle.blocks.proofs.{SectorsRead.{fewer_read, none_read}, TurnsJoined.{quiet_turn, turns}, BookTurns.listed_at}
+use borrow.Rule.Slice.PartMut.{put_mid}
 
 -- a block that no batch holds is the durable one
 pub durable_is : (m : State) (s : Cached) (book : Book) (f : FitsBook m s book) (b : ℕ) → b < blocks_of s → map_of s.active b ≡ None
@@ -205,12 +202,8 @@ home_reads : (s : Cached) (address count : ℕ) → ((b : ℕ) → address ≤ b
 home_reads s address zero home = refl
 home_reads s address (suc count) home =
     let here = home address (omega arith) (omega arith) in
-    grind (
-      arith,
-      reads_copy s address here.none.0 here.none.1,
-      unlogged_reads s.log address here.log,
-      home_reads s (address + 1) count (λ b from to. home b (omega arith) (omega arith)),
-    )
+    let rest = home_reads s (address + 1) count (λ b from to. home b (omega arith) (omega arith)) in
+    grind (arith, reads_copy s address here.none.0 here.none.1, unlogged_reads s.log address here.log, rest)
 
 held_blocks : (image : Image) (array : Array) (home address count first : ℕ) → ((b : ℕ) → address ≤ b → b < address + count
     → image (home + b) ≡ array b) → first ≡ home + address → held_from image first count ≡ blocks_at array address count

@@ -1,22 +1,23 @@
 -- Turns of a store follow one another, what its calls pass on of them, and its own turns, from what the log's calls do.
 use Rattle.std.proofs.Common.{rules, ◌≡◌, ℕ, inl, arith, ◌∙◌, refl, subst, Bool, true, false, ◌<◌, ◌+◌, ◌≤◌, ◌*◌, ap, ◌-◌, ◌^◌, inr, List}
-use Rattle.std.proofs.{Common.{[], ◌∷◌, length, length-append}, lemmas.Bool.{cases_Bool, cases_lt, Decides.nat_tests}}
+use Rattle.std.proofs.{Common.{[], ◌∷◌, length, length-append}, lemmas.Bool.{Decides.nat_tests, cases_Bool, cases_lt}}
 use Rattle.std.{proofs.lemmas.List.nil_from_length, specs.Prelude.{Result, Ok, Err}}
-use Rattle.medium.{proofs.Moments.{joined_same, weaker, quiet_leaves, quiet_start, unchanged_quiet, started}, specs.Medium.{State, IsSound}}
-use Rattle.medium.{proofs.SparedSectors.{spared_joined, spared_quiet, spared_start}, specs.Sent.{sent, SendsUpTo}}
+use Rattle.medium.proofs.{Moments.{joined_same, weaker, quiet_leaves, quiet_start, unchanged_quiet, started}, SparedSectors.spared_joined}
+use Rattle.medium.{proofs.SparedSectors.{spared_quiet, spared_start}, specs.{Medium.{State, IsSound}, Sent.{sent, SendsUpTo}}}
 use Rattle.medium.specs.Moments.{EachCut, LeavesOnly, IsQuiet, IsUnchanged}
 use Rattle.spec.specs.{Blocks.{Write, chunks}, Book.Book}
 use Rattle.journal.specs.{declared.super_sector.Super.Super, Places.sectors_of}
 use Rattle.redo_log.specs.Value.{LogValue, Owes, CanPass, IsAway, IsSentHome, HasRoom, begun, died, IsRetireStepped, IsBatch, entries_of}
-use Rattle.redo_log.{specs.Value.pass_calls, proofs.{StoreFacts.{quiet_held, died_holds, settled_holds, begun_holds}, HeldLog.many}}
-use Rattle.redo_log.specs.Steps.{MakesTurns, MakesStep, CountsStep, LeavesLog, MakesHeadAhead, MakesHomeAhead, MakesRetireStep}
-use Rattle.redo_log.specs.{declared.progress.Progress.{TheVariants.{More, Durable}, Progress}, Held.{View, HoldsView, stamps_of}}
-use Rattle.redo_log.specs.declared.fault.LogFault.{LogFault}
-use Rattle.blocks.specs.{StoreValue.{Cached, layout_of, is_dead, FitsBook, steps_left, StoreValue, firsts_in}, Ahead.{counted, is_covered}}
-use Rattle.blocks.{proofs.BookTurns.{moves, finds, becomes_durable, freezes, appends}, specs.Turns.{GoesOn, IsTurn, IsWriteTurn}}
-use Rattle.blocks.specs.{Passing.{IsUntouched, PassesOn, PassesPaid, KeepsMedium}, Background.{PassesHead, BringsHome, IsRetiring}}
-use Rattle.blocks.{proofs.SectorsRead.{none, looks_on}, specs.{Finding.{MayFind, Found}, Kept.Invariant}}
+use Rattle.redo_log.specs.{Value.pass_calls, Steps.{MakesTurns, MakesStep, CountsStep, LeavesLog, MakesHeadAhead, MakesHomeAhead}}
+use Rattle.redo_log.specs.{Steps.MakesRetireStep, declared.progress.Progress.{TheVariants.{More, Durable}, Progress}}
+use Rattle.redo_log.{specs.{declared.fault.LogFault.LogFault, Held.{View, HoldsView, stamps_of}}, proofs.StoreFacts.quiet_held}
+use Rattle.redo_log.proofs.{StoreFacts.{died_holds, settled_holds, begun_holds}, HeldLog.many}
+use Rattle.theorems.specs.{Retiring.firsts_in, Ahead.{counted, is_covered}}
 use Rattle.cache.specs.{Entries.{Entries, map_of}, Blocks.with_range}
+use Rattle.blocks.specs.{StoreValue.{Cached, layout_of, is_dead, FitsBook, steps_left, StoreValue}, Turns.{GoesOn, IsTurn, IsWriteTurn}}
+use Rattle.blocks.specs.{Passing.{IsUntouched, PassesOn, PassesPaid, KeepsMedium}, Background.{PassesHead, BringsHome, IsRetiring}}
+use Rattle.blocks.{specs.{Finding.{MayFind, Found}, Kept.Invariant}, proofs.BookTurns.{moves, finds, becomes_durable, freezes, appends}}
+use Rattle.blocks.proofs.SectorsRead.{none, looks_on}
 
 -- what a cut leaves between two calls may be found
 pub exits : (m : State) (s : Cached) (book : Book) → FitsBook m s book → book.ours ≡ true → EachCut (MayFind m.size book) m

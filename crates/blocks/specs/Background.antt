@@ -3,14 +3,14 @@ use Rattle.std.specs.Prelude.{◌≡◌, ◌⊎◌, ◌+◌, ◌-◌, ◌^◌, �
 use Rattle.std.specs.Prelude.{Ok, OnOk, Bool, ℕ}
 use Rattle.medium.specs.{Medium.State, Moments.IsUnchanged, Sent.SendsUpTo}
 use Rattle.medium.specs.declared.fault.MediumFault.TheVariants.{Flush}
-use Rattle.cache.specs.Entries.{Entries}
 use Rattle.redo_log.specs.Value.{begun, died, IsStepped, IsRetireStepped, next_calls, next_sends}
 use Rattle.redo_log.specs.Value.{next_step_flushes, next_turn_flushes, LogValue, IsSentHome}
 use Rattle.redo_log.specs.Value.{pass_calls, HasRoom, most_steps}
-use Rattle.redo_log.specs.declared.progress.Progress.{Progress, TheVariants.{More, Durable}}
-use Rattle.blocks.specs.{Retiring.IsRoomy, Turns.IsTurn, Ahead.{counted, past}}
-use Rattle.blocks.specs.{declared.fault.StoreFault.StoreFault, StoreValue.{Cached, StoreValue}}
-use Rattle.blocks.specs.StoreValue.{layout_of, is_dead, unwritten, steps_left, firsts_in}
+use Rattle.redo_log.specs.declared.progress.Progress.{TheVariants.{More, Durable}, Progress}
+use Rattle.theorems.specs.{Room.IsRoomy, Ahead.{counted, past}, Retiring.firsts_in}
+use Rattle.cache.specs.Entries.{Entries}
+use Rattle.blocks.specs.{Turns.IsTurn, declared.fault.StoreFault.StoreFault, StoreValue.Cached}
+use Rattle.blocks.specs.StoreValue.{StoreValue, layout_of, is_dead, unwritten, steps_left}
 use Rattle.blocks.specs.Passing.{PassesOn, KeepsMedium, TellsLife, PassesPaid}
 
 -- The medium refused one call, and the log is dead. The batches are as they were.

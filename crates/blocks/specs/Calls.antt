@@ -2,15 +2,16 @@
 use Rattle.std.specs.Prelude.{◌≡◌, ℕ, ◌+◌, ◌*◌, ◌/◌, zero, suc, Bool, true, false, List, [], ◌∷◌}
 use Rattle.std.specs.Prelude.{◌≤◌, if◌then◌else◌, Result, OnOk, is_ok, IsOk}
 use Rattle.medium.specs.{Medium.State, Sent.SendsUpTo, declared.fault.MediumFault.TheVariants.Flush}
-use Rattle.cache.specs.Blocks.{is_listed}
-use Rattle.blocks.specs.{Book.IsTransfer, Retiring.{finished, finish_calls}}
-use Rattle.blocks.specs.{Flushing.finish_flushes, Steady.IsSteady}
-use Rattle.blocks.specs.{declared.fault.StoreFault.StoreFault, OneBatch.SendsOneBatch}
-use Rattle.blocks.specs.{Sent.batch_sends, Turns.IsWriteTurn, Headroom.{HasHeadroom, FlushesOnce}}
-use Rattle.blocks.specs.{Passing.{PassesOn, TellsLife}, Prepared.IsTakenAtOnce}
-use Rattle.blocks.specs.StoreValue.{Cached, StoreValue, FitsBeside, TakesRange, transfer_limit}
-use Rattle.blocks.specs.StoreValue.{active_of, blocks_of, batch_steps, steps_left, is_dead, wants}
 use Rattle.spec.specs.Blocks.{Write}
+use Rattle.theorems.specs.Retiring.{finished, finish_calls, finish_flushes, wants}
+use Rattle.theorems.specs.{Steady.IsSteady, Headroom.HasHeadroom}
+use Rattle.cache.specs.Blocks.{is_listed}
+use Rattle.blocks.specs.{Book.IsTransfer, declared.fault.StoreFault.StoreFault}
+use Rattle.blocks.specs.{OneBatch.SendsOneBatch, Sent.batch_sends, Turns.IsWriteTurn}
+use Rattle.blocks.specs.{Headroom.FlushesOnce, Passing.{PassesOn, TellsLife}}
+use Rattle.blocks.specs.{Prepared.IsTakenAtOnce, StoreValue.{Cached, StoreValue, FitsBeside}}
+use Rattle.blocks.specs.StoreValue.{TakesRange, transfer_limit, active_of, blocks_of, batch_steps}
+use Rattle.blocks.specs.StoreValue.{steps_left, is_dead}
 
 -- one of these records has the block
 abbrev pub is_logged : List (List ℕ) → ℕ → Bool

@@ -1,7 +1,7 @@
 -- What a start after a loss of power may find.
 use Rattle.std.specs.Prelude.{◌≡◌, ℕ, Option}
 use Rattle.medium.specs.Medium.{Image}
-use Rattle.spec.specs.{Blocks.Array, Blocks.Write, Book.Book}
+use Rattle.spec.specs.{Blocks.{Array, Write}, Book.Book}
 use Rattle.journal.specs.{Places.Shape, Standing.IsOurs}
 use Rattle.spec.specs.Promise as promise
 

@@ -3,14 +3,15 @@ use Rattle.std.specs.Prelude.{◌≡◌, ◌+◌, ◌≤◌, ◌<◌, true, [], 
 use Rattle.medium.specs.{Medium.State, declared.fault.MediumFault.TheVariants.Flush}
 use Rattle.journal.specs.declared.log_format.LogFormat.TheVariants.{Two}
 use Rattle.redo_log.specs.Value.{HasRoom, most_retire_sends}
-use Rattle.blocks.specs.{Flushing.{left_flushes, room_flushes, both_flushes}, Headroom.HasHeadroom}
+use Rattle.theorems.specs.Retiring.{left_flushes, room_flushes, both_flushes, finished, made_ready}
+use Rattle.theorems.specs.Retiring.{written_out, with_spare, to_begin, record_calls, calls_from}
+use Rattle.theorems.specs.{Retiring.{both_calls, ready_calls, wants}, Headroom.HasHeadroom}
+use Rattle.theorems.specs.{Room.{IsPrepared, RetiresForRoom, HasSlots}, Steady.IsSteady}
+use Rattle.theorems.specs.Steady.{IsFilling, IsFuller, steady_calls}
 use Rattle.blocks.specs.{Headroom.{KeepsHeadroom, FlushesOnce, records_of}, OneBatch.SendsOneBatch}
-use Rattle.blocks.specs.{Passing.{MayEmpty, PassesPaid, TellsLife, Answers}, Prepared.IsPrepared}
-use Rattle.blocks.specs.Retiring.{RetiresForRoom, finished, made_ready, written_out, HasSlots}
-use Rattle.blocks.specs.Retiring.{with_spare, to_begin, record_calls, calls_from, both_calls}
-use Rattle.blocks.specs.{Retiring.ready_calls, Steady.{IsSteady, IsFilling, IsFuller, steady_calls}}
-use Rattle.blocks.specs.StoreValue.{Cached, StoreValue, layout_of, active_of, unwritten, wants}
-use Rattle.blocks.specs.{StoreValue.steps_left, declared.fault.StoreFault.StoreFault}
+use Rattle.blocks.specs.{Passing.{MayEmpty, PassesPaid, TellsLife, Answers}, StoreValue.Cached}
+use Rattle.blocks.specs.StoreValue.{StoreValue, layout_of, active_of, unwritten, steps_left}
+use Rattle.blocks.specs.declared.fault.StoreFault.{StoreFault}
 
 -- what a call of a store answers that gives nothing
 abbrev pub Answer : Type 0

@@ -1,10 +1,11 @@
 -- What is true of the fields of every store.
 use Rattle.std.specs.Prelude.{◌≡◌, ℕ, ◌+◌, ◌*◌, ◌≤◌, ◌<◌, Bool, true, false, [], length}
-use Rattle.journal.specs.{Formats.shape_of, declared.super_sector.Super.Super}
-use Rattle.journal.specs.Places.{Shape, limit_of, sectors_of}
-use Rattle.cache.specs.{Blocks.Listed, Entries.Entries, Entries.IsWellFormed}
+use Rattle.journal.specs.{Formats.shape_of, declared.super_sector.Super.Super, Places.Shape}
+use Rattle.journal.specs.Places.{limit_of, sectors_of}
 use Rattle.redo_log.specs.Value.{most_steps, most_retire_steps}
-use Rattle.blocks.specs.{Ahead.may_go_by, StoreValue.Cached}
+use Rattle.theorems.specs.Ahead.{may_go_by}
+use Rattle.cache.specs.{Blocks.Listed, Entries.{Entries, IsWellFormed}}
+use Rattle.blocks.specs.StoreValue.{Cached}
 
 -- a batch has room for as many blocks as a record has at most, each one of the store's
 pub record IsBatchOf (shape : Shape) (batch : Entries) : Type 0 where

@@ -1,10 +1,8 @@
-pub mod Ahead
 pub mod Background
 pub mod Book
 pub mod Calls
 pub mod Finding
 pub mod Finishing
-pub mod Flushing
 pub mod Headroom
 pub mod Kept
 pub mod Limit
@@ -14,11 +12,9 @@ pub mod Opening
 pub mod Passing
 pub mod Prepared
 pub mod Reads
-pub mod Retiring
 pub mod Sent
 pub mod Settled
 pub mod Started
-pub mod Steady
 pub mod Stopping
 pub mod StoreValue
 pub mod Turns

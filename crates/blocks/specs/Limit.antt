@@ -2,8 +2,8 @@
 use Rattle.std.specs.Prelude.{◌≡◌, ℕ}
 use Rattle.medium.specs.Medium.{Image}
 use Rattle.spec.specs.Blocks.{Array}
-pub use Rattle.journal.specs.Places.{Shape, limit_of}
 use Rattle.journal.specs.Standing.{StandsFor}
+pub use Rattle.journal.specs.Places.{Shape, limit_of}
 
 -- the image stands for something, in a shape of whose format a transfer has at most `limit` blocks
 pub record HasLimit (size limit : ℕ) (image : Image) : Type 0 where

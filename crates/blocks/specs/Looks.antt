@@ -2,8 +2,8 @@
 use Rattle.std.specs.Prelude.{◌⊎◌, ◌<◌, ◌≤◌, ◌+◌, ℕ}
 use Rattle.medium.specs.Medium.{State, LooksOnly}
 use Rattle.journal.specs.Places.{first_home}
-pub use Rattle.redo_log.specs.Value.{IsReadBack}
 use Rattle.blocks.specs.StoreValue.{Cached, layout_of}
+pub use Rattle.redo_log.specs.Value.{IsReadBack}
 
 -- each read names a sector of the log, one before home, and none where the log keeps its blocks
 abbrev pub LooksAtLog : State → State → Cached → Type 0

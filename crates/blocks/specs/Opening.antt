@@ -2,6 +2,8 @@
 -- alone, and opens none of them: what it needs of the layers below the store is handed on here.
 use Rattle.std.specs.Prelude.{◌≡◌, ◌^◌, ◌≤◌, ⊤, ℕ}
 use Rattle.medium.specs.Medium.{State, Image, CutLeaves}
+use Rattle.spec.specs.{Blocks.Array, Book.Book}
+use Rattle.blocks.specs.Finding.{StandsAs}
 use Rattle.medium.specs.declared.fault.MediumFault.TheVariants as medium
 pub use Rattle.journal.specs.Places.{Shape}
 pub use Rattle.journal.specs.Standing.{StandsFor, IsOurs, Stands}
@@ -11,9 +13,7 @@ pub use Rattle.recovery.specs.declared.start_fault.StartFault.{StartFault}
 use Rattle.recovery.specs.declared.start_fault.StartFault.TheVariants as fault
 pub use fault.{NoMemory, Read, Write, Flush, BadSuper, BadVersion, BadSize, BadHead, StampsUsedUp}
 pub use fault.{LogTooSmall}
-use Rattle.spec.specs.{Blocks.Array, Book.Book}
 use Rattle.spec.specs.Promise as promise
-use Rattle.blocks.specs.Finding.{StandsAs}
 
 -- the image of a medium of `size` sectors has `blocks` logical blocks in some shape, and stands for
 -- this array with this next stamp

@@ -2,7 +2,7 @@
 use Rattle.std.specs.Prelude.{◌≡◌, ◌⊎◌, ℕ, ◌+◌, ◌≤◌, true, false, List, [], Result, Err, IfErr}
 use Rattle.std.specs.Prelude.{MatchResult}
 use Rattle.medium.specs.{Medium.State, Moments.{IsQuiet, IsUnchanged}, Sent.SendsUpTo}
-use Rattle.blocks.specs.{declared.fault.StoreFault.{StoreFault, TheVariants.Dead}, Looks.LooksAtLog}
+use Rattle.blocks.specs.{declared.fault.StoreFault.{TheVariants.Dead, StoreFault}, Looks.LooksAtLog}
 use Rattle.blocks.specs.{Looks.LooksAtBlocks, Turns.{IsTurn, IsReadCause, IsPaid}}
 use Rattle.blocks.specs.StoreValue.{Cached, StoreValue, is_dead}
 

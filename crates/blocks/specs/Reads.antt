@@ -2,12 +2,12 @@
 use Rattle.std.specs.Prelude.{◌≡◌, ◌⊎◌, ◌≤◌, ◌+◌, ◌*◌, ◌^◌, ℕ, false, List, [], Some, None, Result}
 use Rattle.std.specs.Prelude.{Ok, Err, OnOk, IfErr}
 use Rattle.medium.specs.{Medium.State, declared.fault.MediumFault.MediumFault}
+use Rattle.spec.specs.Book.{Book, array_of, blocks_at}
 use Rattle.redo_log.specs.Value.{HasNoCopy}
 use Rattle.cache.specs.{Blocks.unlisted, Entries.map_of, Places.HasPlace}
-use Rattle.spec.specs.Book.{Book, array_of, blocks_at}
 use Rattle.blocks.specs.{Calls.{reads_of, CostsReads}, Passing.KeepsStore, StoreValue.Cached}
 use Rattle.blocks.specs.{StoreValue.{StoreValue, blocks_of, is_dead, FitsBook}, Turns.IsReadCause}
-use Rattle.blocks.specs.declared.fault.StoreFault.{StoreFault, TheVariants.ReadFault}
+use Rattle.blocks.specs.declared.fault.StoreFault.{TheVariants.ReadFault, StoreFault}
 
 -- the store is live, and has count blocks from an address on, which have so many bytes
 pub record AreReadable (s : Cached) (address count bytes : ℕ) : Type 0 where

@@ -1,8 +1,8 @@
 -- How many writes and flushes a call of a store makes at most.
 use Rattle.std.specs.Prelude.{ℕ, ◌+◌}
-pub use Rattle.journal.specs.declared.log_format.LogFormat.{LogFormat}
 use Rattle.redo_log.specs.Value.{most_steps, most_retire_sends}
 use Rattle.blocks.specs.StoreValue.{Cached, layout_of}
+pub use Rattle.journal.specs.declared.log_format.LogFormat.{LogFormat}
 
 -- those of a batch's record, each step of which is one, and before it of the oldest one's retiring
 abbrev pub most_sent : LogFormat → ℕ

@@ -1,8 +1,8 @@
 -- What is true of a store that is at rest.
 use Rattle.std.specs.Prelude.{◌≡◌, ℕ, ◌+◌, ◌<◌, true, []}
-use Rattle.medium.specs.{Medium.State, Medium.Image, Moments.EachCut}
-use Rattle.journal.specs.Places.{Shape, first_home}
+use Rattle.medium.specs.{Medium.{State, Image}, Moments.EachCut}
 use Rattle.spec.specs.Book.{Book, array_of, promised}
+use Rattle.journal.specs.Places.{Shape, first_home}
 use Rattle.blocks.specs.StoreValue.{Cached, layout_of, FitsBook}
 
 -- each block of the book stands at home in the image

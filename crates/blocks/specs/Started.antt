@@ -5,17 +5,17 @@ use Rattle.medium.specs.{Medium.{State, Image}, Moments.{EachCut, LeavesOnly, Is
 use Rattle.spec.specs.{Blocks.Array, Book.{Book, opened}}
 use Rattle.journal.specs.{Places.Shape, declared.super_sector.Super.Super, Standing.StandsFor}
 use Rattle.journal.specs.Standing.{IsOurs, HasShape}
+use Rattle.redo_log.specs.Value.{LogValue, empty_from}
+use Rattle.theorems.specs.{Ahead.may_go_by, Headroom.HasHeadroom, Steady.{IsFilling, ReachesSteady}}
 use Rattle.recovery.specs.{Causes.{IsCause, IsDeviceFault}, Calls.most_start_of}
 use Rattle.recovery.specs.Recovered.{IsRecoveredFrom, IsOursForSome, IsOursWithNext, StandsForOneOf}
 use Rattle.recovery.specs.Recovered.{RecoverySends, SparesTheRest}
 use Rattle.recovery.specs.declared.recovered.Recovered.{Recovered}
-use Rattle.recovery.specs.declared.start_fault.StartFault.{StartFault, TheVariants.NoMemory}
-use Rattle.redo_log.specs.Value.{LogValue, empty_from}
-use Rattle.blocks.specs.declared.start.Keeping.{Keeping, TheVariants.{ReadBack, Kept}}
-use Rattle.blocks.specs.{Ahead.may_go_by, Headroom.HasHeadroom, Steady.IsFilling}
-use Rattle.blocks.specs.{Steady.ReachesSteady, Finding.MayFind, Kept.Invariant, Opening.OpensOn}
-use Rattle.blocks.specs.StoreValue.{Cached, layout_of, blocks_of, is_dead, active_of, steps_left}
-use Rattle.blocks.specs.StoreValue.{FitsBook, StoreValue, slots_of}
+use Rattle.recovery.specs.declared.start_fault.StartFault.{TheVariants.NoMemory, StartFault}
+use Rattle.blocks.specs.declared.start.Keeping.{TheVariants.{ReadBack, Kept}, Keeping}
+use Rattle.blocks.specs.{Finding.MayFind, Kept.Invariant, Opening.OpensOn, StoreValue.Cached}
+use Rattle.blocks.specs.StoreValue.{layout_of, blocks_of, is_dead, active_of, steps_left, FitsBook}
+use Rattle.blocks.specs.StoreValue.{StoreValue, slots_of}
 use Rattle.recovery.specs.Calls as recovery
 
 -- how many records may stand at once in so many slots, and whether their blocks are kept

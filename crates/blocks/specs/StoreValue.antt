@@ -1,12 +1,13 @@
 -- What a caller sees of a store, and which books it fits.
-use Rattle.std.specs.Prelude.{◌≡◌, ◌⊎◌, ◌↔◌, ℕ, ◌+◌, ◌*◌, ◌^◌, ◌≤◌, ◌<◌, zero, suc, Bool, List, []}
+use Rattle.std.specs.Prelude.{◌≡◌, ◌⊎◌, ◌↔◌, ℕ, ◌+◌, ◌*◌, ◌^◌, ◌≤◌, ◌<◌, Bool, List, []}
 use Rattle.std.specs.Prelude.{◌∷◌, length}
 use Rattle.medium.specs.Medium.{State}
-use Rattle.cache.specs.{Blocks.{over, Listed, unlisted, InRange}, Entries.{Entries, map_of}}
-use Rattle.journal.specs.{Places.{Shape, limit_of}, Format2.firsts_of}
+use Rattle.spec.specs.{Blocks.Array, Book.{Book, after_first, array_of}}
+use Rattle.journal.specs.Places.{Shape, limit_of}
 use Rattle.redo_log.specs.{Value.{LogValue, most_steps, most_retire_steps, entries_of}, Held.View}
 use Rattle.redo_log.specs.Held.{HoldsView}
-use Rattle.spec.specs.{Blocks.Array, Book.{Book, after_first, array_of}}
+use Rattle.theorems.specs.Retiring.{wants, waiting}
+use Rattle.cache.specs.{Blocks.{over, Listed, unlisted, InRange}, Entries.{Entries, map_of}}
 use Rattle.blocks.specs.Book.{Same}
 
 -- what a store keeps in memory
@@ -22,10 +23,6 @@ pub record StoreValue (M : Type 0) : Type 0 where
   pub cached : Cached
   -- whether it retires ahead
   pub goes_ahead : Bool
-
--- the first 8 bytes of each block of a batch
-abbrev pub firsts_in : Entries → List (List ℕ)
-firsts_in batch = firsts_of (entries_of batch.numbers batch.bytes)
 
 -- the log's format, how many blocks and slots there are, and where block 0 is at home
 abbrev pub layout_of : Cached → Shape
@@ -58,20 +55,10 @@ active_of s = s.active.numbers
 abbrev pub unwritten : Cached → ℕ
 unwritten s = length s.active.numbers + length s.frozen.numbers
 
--- a batch that holds blocks wants a stamp
-abbrev pub wants : List ℕ → ℕ
-wants [] = 0
-wants (n ∷ numbers) = 1
-
 -- a batch that holds blocks takes `most` steps, and an empty one none
 abbrev pub steps_for : ℕ → List ℕ → ℕ
 steps_for most [] = 0
 steps_for most (n ∷ numbers) = most
-
--- a frozen batch counts as long as its record is not begun
-abbrev pub waiting : ℕ → ℕ → ℕ
-waiting zero steps = steps
-waiting (suc begun) steps = 0
 
 -- How many background steps are left at most: those of records begun, and of each batch to be one.
 abbrev pub steps_left : Cached → ℕ

@@ -1,12 +1,12 @@
 -- What the calls of a store do to the books that it fits.
 use Rattle.std.specs.Prelude.{◌≡◌, ◌⊎◌, ◌+◌, ◌*◌, ◌≤◌, ◌<◌, Bool, true, false, if◌then◌else◌}
-use Rattle.medium.specs.{Medium.State, Moments.LeavesOnly, Moments.SparesFrom}
+use Rattle.medium.specs.{Medium.State, Moments.{LeavesOnly, SparesFrom}}
 use Rattle.medium.specs.declared.fault.MediumFault.TheVariants.{Read}
-use Rattle.spec.specs.{Blocks.Write, Book.Book, Book.with_write, Book.StampsOut}
+use Rattle.spec.specs.{Blocks.Write, Book.{Book, with_write, StampsOut}}
 use Rattle.journal.specs.Places.{sectors_of}
-use Rattle.blocks.specs.{declared.fault.StoreFault.StoreFault, Finding.MayFind, Finding.Found}
-use Rattle.blocks.specs.declared.fault.StoreFault.TheVariants.{ReadFault, Dead}
-use Rattle.blocks.specs.StoreValue.{Cached, layout_of, blocks_of, is_dead, steps_left, FitsBook}
+use Rattle.blocks.specs.declared.fault.StoreFault.{TheVariants.{ReadFault, Dead}, StoreFault}
+use Rattle.blocks.specs.{Finding.{MayFind, Found}, StoreValue.{Cached, layout_of, blocks_of}}
+use Rattle.blocks.specs.StoreValue.{is_dead, steps_left, FitsBook}
 
 -- a call of the medium was refused since, or the stamps are out in each book that the store fitted
 abbrev pub HasCause : State → State → Cached → Type 0

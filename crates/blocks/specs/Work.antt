@@ -2,14 +2,15 @@
 use Rattle.std.specs.Prelude.{◌≡◌, ◌⊎◌, ◌<◌, ◌≤◌, Bool, true, false, Result, length}
 use Rattle.medium.specs.{Medium.State, Moments.IsUnchanged}
 use Rattle.medium.specs.declared.fault.MediumFault.TheVariants.{Flush}
-use Rattle.redo_log.specs.Value.{LogValue, HasRoom, CanPass, IsAway}
+use Rattle.redo_log.specs.Value.{CanPass, IsAway}
+use Rattle.theorems.specs.Room.{MayWrite}
 use Rattle.blocks.specs.Background.{with_counted, IsBackgroundStep, HasDied, LeavesFewer, MayBegin}
 use Rattle.blocks.specs.Background.{IsBeginning, IsRecordStep, IsRetiring, PassesHead, BringsHome}
 use Rattle.blocks.specs.{Headroom.{KeepsHeadroom, FlushesOnce}, Passing.{PassesOn, TellsLife}}
-use Rattle.blocks.specs.{Passing.MayEmpty, Retiring.HasSlots, StoreValue.{Cached, StoreValue}}
-use Rattle.blocks.specs.{StoreValue.{is_dead, active_of, steps_left}, Turns.IsTurn}
-use Rattle.blocks.specs.{Written.IsWritten, declared.{work.Work.Work, fault.StoreFault.StoreFault}}
-use Rattle.blocks.specs.declared.work.Work.TheVariants.{Settle, Ahead, WriteBack}
+use Rattle.blocks.specs.{Passing.MayEmpty, StoreValue.{Cached, StoreValue, is_dead, active_of}}
+use Rattle.blocks.specs.{StoreValue.steps_left, Turns.IsTurn, Written.IsWritten}
+use Rattle.blocks.specs.declared.work.Work.{TheVariants.{Settle, Ahead, WriteBack}, Work}
+use Rattle.blocks.specs.declared.fault.StoreFault.{StoreFault}
 
 -- What a step ahead does once a flush is counted, by no flush: the head goes past the oldest record
 -- where it may, or one more of its blocks goes home, or nothing is done.
@@ -29,16 +30,6 @@ pub record IsAheadStep (ahead : Bool) (before after : State) (old new : Cached) 
   pub under_way : 0 < old.log.steps_left → (new ≡ old) × IsUnchanged before after
   pub goes : ahead ≡ true → is_dead old ≡ false → old.log.steps_left ≡ 0
       → GoesOnAhead before after (with_counted old) new
-
--- Three slots are free, one for the next record and two besides; or two are, and no block of the
--- oldest record is away: the flush of the next one covers it.
-abbrev pub SparesSlots : LogValue → Type 0
-SparesSlots log = HasSlots 3 log ⊎ (HasSlots 2 log × (¬ IsAway log))
-
--- Writing back begins a record where the log has room, and a store that goes ahead spares slots.
-pub record MayWrite (ahead : Bool) (log : LogValue) : Type 0 where
-  pub room : HasRoom log
-  pub spares : ahead ≡ true → SparesSlots log
 
 -- Room is made, once a flush is counted: by a step ahead, or the oldest record is retired.
 pub record MakesWay (before after : State) (old new : Cached) : Type 0 where

@@ -5,9 +5,9 @@ ghost use Rattle.redo_log.specs.Value.{IsAway};
 ghost use Rattle.blocks.specs.StoreValue.{layout_of};
 ghost use Rattle.blocks.specs.Work.{IsIdle};
 ghost use Rattle.blocks.specs.Passing.{PassesPaid};
-ghost use Rattle.blocks.specs.Ahead.{counted, gone_home, going_calls, passed, passed_calls};
-ghost use Rattle.blocks.specs.Ahead.{sent_home, sent_calls};
-ghost use Rattle.blocks.specs.Prepared.{NeedsNoneAhead};
+ghost use Rattle.theorems.specs.Ahead.{counted, gone_home, going_calls, passed, passed_calls};
+ghost use Rattle.theorems.specs.Ahead.{sent_home, sent_calls};
+ghost use Rattle.theorems.specs.Room.{NeedsNoneAhead};
 ghost use Rattle.blocks.specs.Background.{SettlesFlush, GoesBy, PassesHead, BringsHome, GoesAhead};
 
 use crate::{Store, StoreFault};

@@ -4,7 +4,7 @@ ghost use Rattle.blocks.specs.StoreValue.{is_dead, active_of, unwritten, steps_l
 ghost use Rattle.blocks.specs.StoreValue.{layout_of};
 ghost use Rattle.redo_log.specs.Value.{most_steps};
 ghost use Rattle.blocks.specs.Headroom.{KeepsHeadroom};
-ghost use Rattle.blocks.specs.Retiring.{HasSpare};
+ghost use Rattle.theorems.specs.Room.{HasSpare};
 ghost use Rattle.blocks.specs.Turns.{IsTurn};
 ghost use Rattle.blocks.specs.Passing.{PassesOn, MayEmpty, KeepsMedium};
 ghost use Rattle.blocks.specs.Background.{IsBackgroundStep, IsBeginning};

@@ -6,7 +6,7 @@ ghost use Rattle.journal.specs.Places.{Shape, limit_of};
 ghost use Rattle.journal.specs.Standing.{StandsFor};
 ghost use Rattle.journal.specs.Formats.{shape_of};
 ghost use Rattle.recovery.specs.Causes.{IsDeviceFault};
-ghost use Rattle.blocks.specs.Ahead.{may_go_by};
+ghost use Rattle.theorems.specs.Ahead.{may_go_by};
 ghost use Rattle.blocks.specs.Started.{IsStarted, IsStartCause, LeavesMedium};
 ghost use Rattle.blocks.specs.Started.{StartsAhead, StartsKeeping, RefusesStart, MakesParts};
 ghost use Rattle.blocks.specs.Started.{started_log, ring_by, StartsBy};

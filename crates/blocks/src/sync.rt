@@ -9,8 +9,8 @@ ghost use Rattle.blocks.specs.Sent.{batch_sends};
 ghost use Rattle.blocks.specs.Passing.{PassesPaid, Answers};
 ghost use Rattle.blocks.specs.Finishing.{WritesRecord, MakesReady, FinishesFrozen};
 ghost use Rattle.blocks.specs.Finishing.{FinishesBoth, CostsSync};
-ghost use Rattle.blocks.specs.Retiring.{finish_calls};
-ghost use Rattle.blocks.specs.Flushing.{finish_flushes};
+ghost use Rattle.theorems.specs.Retiring.{finish_calls};
+ghost use Rattle.theorems.specs.Retiring.{finish_flushes};
 ghost use Rattle.blocks.specs.Work.{IsIdle};
 
 use crate::{Store, StoreFault};

@@ -1,7 +1,8 @@
 //! The steps that write back.
 ghost use Rattle.std.specs.Prelude.{◌≡◌, ◌⊎◌, ◌↔◌, ◌<◌, true, false, length, IsTrue};
 ghost use Rattle.redo_log.specs.Value.{CanPass, IsAway};
-ghost use Rattle.blocks.specs.Work.{GoesTowardsRoom, HasToRetire, MayWrite, SparesSlots};
+ghost use Rattle.theorems.specs.Room.{MayWrite, SparesSlots};
+ghost use Rattle.blocks.specs.Work.{GoesTowardsRoom, HasToRetire};
 ghost use Rattle.blocks.specs.Work.{WorksBy};
 ghost use Rattle.blocks.specs.declared.work.Work.TheVariants.{WriteBack};
 

@@ -10,3 +10,5 @@ pub mod LoggedSteps
 pub mod LoggedTurns
 pub mod Logging
 pub mod Making
+pub mod Steady
+pub mod Headroom

@@ -1,5 +1,10 @@
+pub mod Ahead
+pub mod Headroom
 pub mod Logging
 pub mod Making
 pub mod Ordering
+pub mod Retiring
+pub mod Room
+pub mod Steady
 pub mod Striking
 pub mod Transfers

@@ -1,6 +1,6 @@
 use Rattle.std.proofs.{Common.{arith, refl, rules}, lemmas.Bool.Decides.nat_tests}
-use Rattle.blocks.{specs.StoreValue.Cached, proofs.TurnsJoined.{home_fewer, brings_home, home_stays, paid_turn, turn_kept}}
 use Rattle.redo_log.proofs.RecordSteps.{few_next}
+use Rattle.blocks.{specs.StoreValue.Cached, proofs.TurnsJoined.{home_fewer, brings_home, home_stays, paid_turn, turn_kept}}
 use Rattle.blocks.proofs.store.Store.bring_home.Goals as goal
 
 pub invariant_of-self : goal.invariant_of-self

@@ -2,9 +2,10 @@ use Rattle.std.proofs.{Common.{◌≡◌, ◌<◌, ◌≤◌, ◌+◌, ◌∙◌
 use Rattle.std.specs.Prelude.{OnOk}
 use Rattle.medium.specs.{Medium.State, Sent.sent}
 use Rattle.redo_log.specs.Value.{begun, most_steps}
-use Rattle.blocks.{proofs.Steady.{fills, keeps_on, made_finished, finishes_under_way, begun_costs}, specs.StoreValue.{is_dead, firsts_in}}
-use Rattle.blocks.{proofs.{TurnsJoined.{kept_paid, paid_then, rested_paid}, OneBatchSent.room_sent}, specs.Steady.{IsFilling, IsSteady}}
-use Rattle.blocks.specs.{OneBatch.SendsOneBatch, Passing.PassesPaid, Retiring.finished, Sent.batch_sends}
+use Rattle.theorems.{proofs.Steady.{fills, keeps_on, made_finished, finishes_under_way, begun_costs}, specs.Retiring.{firsts_in, finished}}
+use Rattle.theorems.specs.Steady.{IsFilling, IsSteady}
+use Rattle.blocks.{specs.{StoreValue.is_dead, OneBatch.SendsOneBatch, Passing.PassesPaid, Sent.batch_sends}, proofs.TurnsJoined.kept_paid}
+use Rattle.blocks.proofs.{TurnsJoined.{paid_then, rested_paid}, OneBatchSent.room_sent}
 use Rattle.blocks.proofs.store.Store.finish.Goals.{After-make_ready, After-begin}
 use Rattle.blocks.proofs.store.Store.finish.Goals as goal
 
@@ -58,17 +59,8 @@ returns-in_err-begin g c =
     let one_batch = made_room g at.After-make_ready {after = g.M.Medium.state c.begin.new.self.medium}
     (omega (arith, ap (λ m. sent (g.M.Medium.state m)) c.begin.ensures.keeps.medium)) in
     let dead = c.from_residual-in_err-begin.ensures in
-    grind (
-      arith,
-      begun_passes g at.After-begin,
-      one_batch,
-      c.begin.ensures,
-      ready.retires,
-      ready.active,
-      ready.frozen,
-      dead,
-      c.if-is_dead.false,
-    )
+    let passes = begun_passes g at.After-begin in
+    grind (arith, passes, one_batch, c.begin.ensures, ready.retires, ready.active, ready.frozen, dead, c.if-is_dead.false)
 
 -- the record of the frozen batch is begun and written
 pub returns : goal.returns
@@ -79,42 +71,26 @@ returns g c =
     let live : is_dead old ≡ false = sym c.is_dead.ensures ∙ c.if-is_dead.false in
     let idle = c.is_writing.ensures.rests live c.if-is_writing.false in
     let some : 0 < length numbers = grind (arith, c.if-has_free_batch.false, c.has_free_batch.ensures) in
-    let ready = c.make_ready.ensures in
+    let r = c.make_ready.ensures in
     let room = c.in_ok-make_ready.ensures in
-    let begins = c.begin.ensures in
-    let wrote = c.write_out-2.ensures in
+    let b = c.begin.ensures in
+    let w = c.write_out-2.ensures in
     let first : c.begin.new.self.cached.log ≡ begun numbers (firsts_in old.frozen) old.frozen.bytes c.make_ready.new.self.cached.log =
-    rw (← ready.frozen) (begins.live c.in_ok-begin.ensures.answer).1 in
-    let shape = ready.passes.turn.goes_on.layout_stays in
-    let quiet = ap (λ m. sent (g.M.Medium.state m)) begins.keeps.medium in
+    rw (← r.frozen) (b.live c.in_ok-begin.ensures.answer).1 in
+    let shape = r.passes.turn.goes_on.layout_stays in
+    let quiet = ap (λ m. sent (g.M.Medium.state m)) b.keeps.medium in
     let few = rw shape at c.in_ok-begin.ensures.begun in
     let finishes : OnOk c.write_out-2.result (c.write_out-2.new.self.cached.log ≡ finished ahead old.frozen old.log) =
     on_ok_weaker c.write_out-2.result (λ written. made_finished ahead numbers (firsts_in old.frozen) old.frozen.bytes old.log _ _ idle some
-    room.made (rw first at written)) wrote.written in
-    let fill = λ (on : ahead ≡ true) (f : IsFilling old.log). fills _ (firsts_in old.frozen) old.frozen.bytes _ f (ready.blocks on) some in
-    let stay = λ (o : ahead ≡ true) (s : IsSteady old.log). keeps_on _ (firsts_in old.frozen) old.frozen.bytes _ s (ready.blocks o) some in
+    room.made (rw first at written)) w.written in
+    let fill = λ (on : ahead ≡ true) (f : IsFilling old.log). fills _ (firsts_in old.frozen) old.frozen.bytes _ f (r.blocks on) some in
+    let stay = λ (o : ahead ≡ true) (s : IsSteady old.log). keeps_on _ (firsts_in old.frozen) old.frozen.bytes _ s (r.blocks o) some in
     let costs = begun_costs ahead numbers old.log idle some in
     record {
       passes = paid_then g.met.M.Medium.follows_through (begun_passes g (goal.at.returns g c).After-begin) c.in_ok-begin.ensures.answer
-          wrote.passes (omega (arith, ready.passes.sent, wrote.passes.sent, few.1, quiet));
-      batch = grind (
-        arith,
-        live,
-        idle,
-        some,
-        wrote.answer,
-        wrote.waits,
-        wrote.head,
-        wrote.active,
-        wrote.done,
-        begins,
-        ready.retires,
-        ready.active,
-        finishes,
-        fill,
-        stay,
-      );
-      cost = grind (arith, rw (first, shape, begins.keeps.medium) at wrote.exactly, room.cost, costs);
-      flushes = grind (arith, rw (first, shape, begins.keeps.medium) at wrote.flushes, room.flushed, costs);
-      one_batch = made_room g (goal.at.returns g c).After-make_ready (omega (arith, quiet, few.1, wrote.passes.sent));
+          w.passes (omega (arith, r.passes.sent, w.passes.sent, few.1, quiet));
+      batch = grind (arith, live, idle, some, w.answer, w.waits, w.head, w.active, w.done, b, r.retires, r.active, finishes, fill, stay);
+      cost = grind (arith, rw (first, shape, b.keeps.medium) at w.exactly, room.cost, costs);
+      flushes = grind (arith, rw (first, shape, b.keeps.medium) at w.flushes, room.flushed, costs);
+      one_batch = made_room g (goal.at.returns g c).After-make_ready (omega (arith, quiet, few.1, w.passes.sent));
     }

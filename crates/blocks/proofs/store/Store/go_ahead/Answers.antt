@@ -1,8 +1,8 @@
 use Rattle.std.proofs.{Common.{◌≡◌, ◌+◌, ◌∙◌, ap, arith, inl, rules}, lemmas.Bool.Decides.nat_tests}
-use Rattle.journal.specs.Places.{Shape, limit_of}
 use Rattle.medium.specs.{Sent.sent, declared.fault.MediumFault.TheVariants.Flush}
-use Rattle.blocks.specs.{Ahead.{passed, passed_calls}, Passing.PassesPaid, Prepared.NeedsNoneAhead, Retiring.HasSlots}
-use Rattle.blocks.proofs.{Steady.none_ahead, TurnsJoined.{kept_paid, paid_more, paid_then, rested_paid}}
+use Rattle.journal.specs.Places.{Shape, limit_of}
+use Rattle.theorems.{specs.{Ahead.{passed, passed_calls}, Room.{NeedsNoneAhead, HasSlots}}, proofs.Steady.none_ahead}
+use Rattle.blocks.{specs.Passing.PassesPaid, proofs.TurnsJoined.{kept_paid, paid_more, paid_then, rested_paid}}
 use Rattle.blocks.proofs.store.Store.go_ahead.Goals.{Else-needs_none_ahead, After-pass_head, In_ok-pass_head}
 use Rattle.blocks.proofs.store.Store.go_ahead.Goals as goal
 

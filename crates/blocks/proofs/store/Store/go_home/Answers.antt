@@ -1,7 +1,7 @@
 use Rattle.std.proofs.{Common.{arith, inr, rules}, lemmas.Bool.Decides.nat_tests}
 use Rattle.medium.specs.Sent.{sent}
 use Rattle.redo_log.specs.Value.{IsAway}
-use Rattle.blocks.proofs.Steady.{begins_home, goes_on_home, all_home, few_home}
+use Rattle.theorems.proofs.Steady.{begins_home, goes_on_home, all_home, few_home}
 use Rattle.blocks.proofs.{TurnsJoined.{paid_then, paid_more, rested_paid}, store.Store.go_home.Goals.After-bring_home}
 use Rattle.blocks.proofs.store.Store.go_home.Goals as goal
 

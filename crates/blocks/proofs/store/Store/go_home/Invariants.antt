@@ -1,6 +1,7 @@
 use Rattle.std.proofs.Common.{◌≡◌, false}
 use Rattle.medium.specs.{Sent.sent, declared.fault.MediumFault.TheVariants.Flush}
-use Rattle.blocks.{specs.{Background.StaysIdle, Passing.PassesPaid, StoreValue.{is_dead, steps_left}}, proofs.Steady.GoesHome}
+use Rattle.theorems.proofs.Steady.{GoesHome}
+use Rattle.blocks.specs.{Background.StaysIdle, Passing.PassesPaid, StoreValue.{is_dead, steps_left}}
 use Rattle.blocks.proofs.store.Store.go_home.Given as goal
 
 abbrev pub invariant-loop-self : goal.invariant-loop-self

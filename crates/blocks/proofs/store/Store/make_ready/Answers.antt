@@ -1,5 +1,5 @@
 use Rattle.std.proofs.{Common.{◌<◌, ◌-◌, arith}, lemmas.Bool.Decides.nat_tests}
-use Rattle.blocks.proofs.Steady.{free_is}
+use Rattle.theorems.proofs.Steady.{free_is}
 use Rattle.blocks.proofs.store.Store.make_ready.Goals as goal
 
 pub returns-then-has_room : goal.returns-then-has_room

@@ -1,8 +1,8 @@
 use Rattle.std.proofs.Common.{false, ◌≤◌, ◌<◌, ℕ, length, arith, rules}
 use Rattle.medium.specs.Sent.{sent, SendsUpTo}
 use Rattle.redo_log.specs.Value.{HasRoom, sends_of_oldest, most_retire_sends}
-use Rattle.blocks.{specs.{StoreValue.steps_left, Passing.PassesPaid, Retiring.RetiresForRoom}, proofs.Steady.{IsFull, retires_none}}
-use Rattle.blocks.proofs.{Steady.{retires_more, retires_refused, retires_room}, TurnsJoined.{paid_then, on_paid, paid_more, rested_paid}}
+use Rattle.theorems.{specs.Room.RetiresForRoom, proofs.Steady.{IsFull, retires_none, retires_more, retires_refused, retires_room}}
+use Rattle.blocks.{specs.{StoreValue.steps_left, Passing.PassesPaid}, proofs.TurnsJoined.{paid_then, on_paid, paid_more, rested_paid}}
 use Rattle.blocks.proofs.store.Store.make_room.Goals.{After-retire}
 use Rattle.blocks.proofs.store.Store.make_room.Goals as goal
 

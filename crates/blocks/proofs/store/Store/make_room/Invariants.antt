@@ -1,7 +1,8 @@
 use Rattle.std.proofs.Common.{◌≡◌, false}
 use Rattle.medium.specs.Sent.{sent}
-use Rattle.blocks.{specs.{Passing.PassesPaid, StoreValue.{is_dead, steps_left}}, proofs.Steady.Retires}
 use Rattle.redo_log.specs.Value.{HasRoom}
+use Rattle.theorems.proofs.Steady.{Retires}
+use Rattle.blocks.specs.{Passing.PassesPaid, StoreValue.{is_dead, steps_left}}
 use Rattle.blocks.proofs.store.Store.make_room.Given as goal
 
 abbrev pub invariant-loop-self : goal.invariant-loop-self

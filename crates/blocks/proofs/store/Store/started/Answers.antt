@@ -1,8 +1,8 @@
 use Rattle.std.proofs.Common.{◌≡◌, ◌&&◌, arith, refl, Bool, true}
 use Rattle.medium.specs.Medium.{State}
 use Rattle.journal.specs.declared.super_sector.Super.{Super}
-use Rattle.blocks.specs.{Ahead.may_go_by, StoreValue.{Cached, slots_of}, Started.{ring_by, keeps_by, MakesParts}}
-use Rattle.blocks.{specs.declared.start.Keeping.Keeping, proofs.{Headroom.starts_with_room, Steady.{starts_filling, starts_reaching}}}
+use Rattle.theorems.{specs.Ahead.may_go_by, proofs.{Headroom.empty_has_room, Steady.{empty_fills, empty_reaches}}}
+use Rattle.blocks.specs.{StoreValue.{Cached, slots_of}, Started.{ring_by, keeps_by, MakesParts}, declared.start.Keeping.Keeping}
 use Rattle.blocks.proofs.store.Store.started.Goals as goal
 
 -- what is known of its log, by whose ring it goes ahead
@@ -27,8 +27,8 @@ returns-in-Ok-clause-ok g c =
       keeps = log.0;
       ring = log.1;
       policy = log.2;
-      filling = λ on. starts_filling made.started (log.3 on);
-      reaches = λ on. starts_reaching made.started (log.3 on);
-      headroom = λ on. starts_with_room made.started (log.3 on);
+      filling = λ on. empty_fills _ _ _ _ _ made.started.log (log.3 on) (omega (arith, made.started.stood.next_is));
+      reaches = λ on. empty_reaches _ _ _ _ _ made.started.log (log.3 on) (omega (arith, made.started.stood.next_is));
+      headroom = λ on. empty_has_room _ _ _ _ _ made.started.log (log.3 on);
       leaves = c.in-Ok.ensures.leaves;
     }

@@ -1,9 +1,10 @@
 use Rattle.std.{proofs.{Common.{◌≡◌, ◌∙◌, ◌+◌, ap, arith, [], true, rules}, lemmas.Result.on_ok_weaker}, specs.Prelude.OnOk}
 use Rattle.medium.specs.{declared.fault.MediumFault.TheVariants.Flush, Sent.sent}
 use Rattle.journal.specs.Places.{Shape}
-use Rattle.blocks.proofs.{Steady.{steady_sync, costs_behind, roomy_both, once}, Headroom.{both_each, headroom_finished}, BookTurns.settles}
-use Rattle.blocks.{proofs.TurnsJoined.{kept_paid, paid_then}, specs.{Retiring.{finished, both_calls}, Sent.{most_sent, batch_sends}}}
-use Rattle.blocks.{proofs.{FlushesOnce.both_durable, EmptyBatches.none_of}, specs.{Flushing.both_flushes, StoreValue.firsts_in}}
+use Rattle.theorems.proofs.{Steady.{steady_sync, costs_behind, roomy_both, once}, Headroom.{both_each, headroom_finished, both_durable}}
+use Rattle.theorems.specs.Retiring.{finished, both_calls, both_flushes, firsts_in}
+use Rattle.blocks.{proofs.{BookTurns.settles, TurnsJoined.{kept_paid, paid_then}, EmptyBatches.none_of}, specs.Sent.most_sent}
+use Rattle.blocks.specs.Sent.{batch_sends}
 use Rattle.blocks.proofs.store.Store.sync.Goals as goal
 
 pub returns-clause-passes : goal.returns-clause-passes

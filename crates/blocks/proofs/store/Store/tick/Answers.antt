@@ -1,4 +1,4 @@
-use Rattle.blocks.proofs.{Headroom.headroom_stepped, TurnsJoined.rested_on}
+use Rattle.blocks.proofs.{FlushesOnce.headroom_stepped, TurnsJoined.rested_on}
 use Rattle.blocks.proofs.store.Store.tick.Goals as goal
 
 pub returns-then-is_dead-clause-passes : goal.returns-then-is_dead-clause-passes

@@ -1,8 +1,8 @@
 use Rattle.std.proofs.{Common.{arith, rules}, lemmas.Result.err_from_is_err_and}
-use Rattle.cache.proofs.Arrays.{unlisted_empty}
 use Rattle.spec.specs.Book.{write_of}
-use Rattle.blocks.{specs.{StoreValue.firsts_in, Headroom.HasHeadroom}, proofs.Headroom.{headroom_finished, one_each}}
-use Rattle.blocks.proofs.{FlushesOnce.one_durable, TurnsJoined.{paid_refused, paid_written, written_on}}
+use Rattle.theorems.{specs.{Retiring.firsts_in, Headroom.HasHeadroom}, proofs.Headroom.{headroom_finished, one_each, one_durable}}
+use Rattle.cache.proofs.Arrays.{unlisted_empty}
+use Rattle.blocks.proofs.TurnsJoined.{paid_refused, paid_written, written_on}
 use Rattle.blocks.proofs.store.Store.write_alone.Goals as goal
 
 pub append-requires : goal.append-requires

@@ -1,6 +1,7 @@
 use Rattle.std.{proofs.Common.{ℕ, ◌∙◌, arith, ap, rules}, specs.Prelude.Ok}
 use Rattle.medium.specs.Sent.{SendsUpTo}
-use Rattle.blocks.{specs.Passing.PassesPaid, proofs.{Steady.writes_on, TurnsJoined.{paid_then, on_paid, rested_paid}}}
+use Rattle.theorems.proofs.Steady.{writes_on}
+use Rattle.blocks.{specs.Passing.PassesPaid, proofs.TurnsJoined.{paid_then, on_paid, rested_paid}}
 use Rattle.blocks.proofs.store.Store.write_out.Goals.{After-step}
 use Rattle.blocks.proofs.store.Store.write_out.Goals as goal
 

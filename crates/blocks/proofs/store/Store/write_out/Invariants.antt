@@ -1,6 +1,7 @@
 use Rattle.std.proofs.Common.{◌≡◌, ◌<◌, ◌≤◌, ◌+◌, false}
 use Rattle.medium.specs.{Sent.sent, declared.fault.MediumFault.TheVariants.Flush}
-use Rattle.blocks.specs.{Flushing.left_flushes, Passing.PassesPaid, StoreValue.is_dead, StoreValue.steps_left}
+use Rattle.theorems.specs.Retiring.{left_flushes}
+use Rattle.blocks.specs.{Passing.PassesPaid, StoreValue.{is_dead, steps_left}}
 use Rattle.blocks.proofs.store.Store.write_out.Given as goal
 
 abbrev pub invariant-loop : goal.invariant-loop

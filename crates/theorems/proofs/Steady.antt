@@ -7,14 +7,13 @@ use Rattle.cache.specs.Entries.{Entries}
 use Rattle.redo_log.specs.Value.{LogValue, behind_oldest, of_oldest, ahead_of, home_calls, retire_steps_of, settled, begun, turns_calls}
 use Rattle.redo_log.specs.Value.{HasRoom, IsStepped, IsRetireStepped, steps_of, turn_calls, turn_sends, turns_sends, turn_flushes}
 use Rattle.redo_log.specs.Value.{turns_flushes, next_step_flushes, steps_flushes, AllFirsts, IsAway, IsSentHome, next_calls, next_sends}
-use Rattle.redo_log.specs.{Value.{sends_of_oldest, most_retire_sends}, declared.progress.Progress.Progress}
-use Rattle.blocks.specs.{Started.IsStartedBy, StoreValue.{Cached, firsts_in, wants}, declared.start.Keeping.Keeping, Ahead.oldest_retired}
-use Rattle.blocks.specs.Ahead.{ahead_room, ahead_room_calls, may_go_by, passed, sent_home, passed_calls, sent_calls, gone_home, going_calls}
-use Rattle.blocks.specs.Retiring.{written_out, finished_with, finished, both_calls, with_room, finished_from, finish_calls, ready_calls}
-use Rattle.blocks.specs.{Retiring.{HasSlots, made_ready, record_calls, calls_from, to_begin, with_spare, room_calls}, Steady.IsSteady}
-use Rattle.blocks.specs.{Steady.{IsFilling, IsFuller, finished_each, ReachesSteady, second_of, steady_calls}, Prepared.NeedsNoneAhead}
-use Rattle.blocks.specs.Flushing.{left_flushes, room_flushes, finish_flushes, both_flushes}
-use Rattle.journal.specs.{declared.log_format.LogFormat.TheVariants.Two, Places.limit_of}
+use Rattle.redo_log.specs.{Value.{sends_of_oldest, most_retire_sends, empty_from}, declared.progress.Progress.Progress}
+use Rattle.theorems.specs.Ahead.{oldest_retired, ahead_room, ahead_room_calls, passed, sent_home, passed_calls, sent_calls, gone_home, going_calls, may_go_by}
+use Rattle.theorems.specs.Retiring.{wants, firsts_in, written_out, finished_with, finished, both_calls, with_room, finished_from, finish_calls, ready_calls}
+use Rattle.theorems.specs.Retiring.{made_ready, record_calls, calls_from, to_begin, with_spare, room_calls, left_flushes, room_flushes}
+use Rattle.theorems.specs.{Retiring.{finish_flushes, both_flushes}, Room.{HasSlots, NeedsNoneAhead}}
+use Rattle.theorems.specs.Steady.{IsSteady, IsFilling, IsFuller, finished_each, ReachesSteady, second_of, steady_calls}
+use Rattle.journal.specs.{declared.log_format.LogFormat.TheVariants.Two, Places.{Shape, limit_of}}
 
 -- between two moments calls, writes and flushes were made as for these steps: all but so many that are left
 pub record Spends (keeps : Bool) (left all : ℕ) (before after : State) : Type 0 where
@@ -242,11 +241,11 @@ fills_each (batch ∷ batches) log f each blocks enough =
     let more = finished true batch log in
     grind (arith, f.two_free, one, rest, enough, keeps_each batches more, fills_each batches more)
 
--- a store that starts
-pub starts_filling : {keeping : Keeping} {before after : State} {s : Cached} → IsStartedBy keeping before after s
-    → may_go_by s.log.shape.format s.log.ring ≡ true → IsFilling s.log
-starts_filling started may = grind (arith, nat_tests, started.log, may, started.stood.next_is)
+-- a log without records, in which three may stand
+module _ (log : LogValue) (shape : Shape) (next ring : ℕ) (keeps : Bool) (is : log ≡ empty_from shape next ring keeps)
+    (may : may_go_by log.shape.format log.ring ≡ true) where
+  pub empty_fills : 0 < next → IsFilling log
+  empty_fills some = grind (arith, nat_tests, is, may, some)
 
-pub starts_reaching : {keeping : Keeping} {before after : State} {s : Cached} → IsStartedBy keeping before after s
-    → may_go_by s.log.shape.format s.log.ring ≡ true → ReachesSteady s.log
-starts_reaching {s = s} started may batches blocks enough = grind (arith, nat_tests, HaveBlocks, fills_each, starts_filling)
+  pub empty_reaches : 0 < next → ReachesSteady log
+  empty_reaches some batches blocks enough = grind (arith, nat_tests, HaveBlocks, fills_each, empty_fills some, is)

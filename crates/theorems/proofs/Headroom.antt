@@ -1,13 +1,14 @@
--- A store that goes ahead keeps headroom, turn by turn, and its records flush once each.
-use Rattle.std.proofs.{Common.{rules, ◌≡◌, ◌⊎◌, ◌<◌, ◌≤◌, ◌+◌, arith, length-append, inl, inr}, lemmas.Bool.{cases_Bool, cases_lt}}
-use Rattle.std.{proofs.lemmas.{Bool.Decides.nat_tests, List.nil_from_length}, specs.Prelude.{ℕ, List, length, drop, true, false}}
-use Rattle.medium.specs.Medium.{State}
-use Rattle.redo_log.specs.{Value.{LogValue, IsRetireStepped, IsStepped, begun, of_oldest}, declared.progress.Progress.Progress}
-use Rattle.blocks.specs.{Started.IsStartedBy, declared.start.Keeping.Keeping, Flushing.{finish_flushes, both_flushes}}
-use Rattle.blocks.specs.{Retiring.{finished_with, HasSlots}, Background.{IsBackgroundStep, MayBegin}, Ahead.{oldest_retired, passed}}
-use Rattle.blocks.specs.{Ahead.{sent_home, ahead_room, may_go_by}, Headroom.{IsInOrder, RestsWithRoom, HasHeadroom, landed}}
-use Rattle.blocks.{specs.{StoreValue.{Cached, is_dead, firsts_in, wants}, Work.SparesSlots}, proofs.Steady.{idle_behind, steps_once}}
-use Rattle.blocks.proofs.Steady.{blocks_more, blocks_behind, behind_more, first_owed, with_more, finished_is}
+-- A ring that goes ahead keeps headroom, step by step, and its records flush once each.
+use Rattle.std.proofs.{Common.{rules, ◌≡◌, ◌⊎◌, ◌<◌, ◌≤◌, ◌+◌, arith, length-append}, lemmas.{Bool.cases_lt, Bool.Decides.nat_tests}}
+use Rattle.std.specs.Prelude.{ℕ, List, length, drop, true, Bool}
+use Rattle.cache.specs.Entries.{Entries}
+use Rattle.redo_log.specs.{Value.{LogValue, CanPass, IsAway, IsRetireStepped, IsStepped, begun, of_oldest, next_step_flushes, empty_from}}
+use Rattle.redo_log.specs.declared.progress.Progress.{Progress}
+use Rattle.journal.specs.Places.{Shape}
+use Rattle.theorems.specs.{Ahead.{oldest_retired, passed, sent_home, ahead_room, may_go_by, counted}, Room.{HasSlots, SparesSlots, MayWrite}}
+use Rattle.theorems.specs.Headroom.{IsInOrder, RestsWithRoom, HasHeadroom, landed, next_durable}
+use Rattle.theorems.specs.Retiring.{finished_with, finished, finish_flushes, both_flushes, wants}
+use Rattle.theorems.proofs.Steady.{blocks_more, blocks_behind, behind_more, first_owed, with_more, finished_is, idle_behind, steps_once, writes_on}
 
 -- the oldest record is retired, and of the one behind it no step is made
 order_retired : (log : LogValue) → IsInOrder log → 0 < length log.waiting → IsInOrder (oldest_retired log)
@@ -65,29 +66,32 @@ both_each frozen active log head under_way = grind (arith, one_each, headroom_fi
 pub landed_stepped : (progress : Progress) (old new : LogValue) → 0 < old.steps_left → IsStepped progress old new → landed new ≡ landed old
 landed_stepped progress old new some stepped = grind arith
 
-pub headroom_stepped : (before after : State) (old new : Cached) → IsBackgroundStep true before after old new → HasHeadroom old.log
-    → is_dead new ≡ false → HasHeadroom new.log
-headroom_stepped before after old new order head live =
-    let may : MayBegin true old ⊎ (MayBegin true old → ⊥) = grind (arith, nat_tests) in
-    let idles : old.log.steps_left ≡ 0 → RestsWithRoom old.log = λ (idle : old.log.steps_left ≡ 0). grind (arith, head) in
-    let alive : is_dead old ≡ false = grind (arith, cases_Bool (is_dead old), order.dead, live) in
-    elim (cases_lt 0 old.log.steps_left) [
-      | inl some ↦ grind (arith, order.goes_on alive some, live, head, landed_stepped)
-      | inr few ↦ elim may [
-        | inl begins ↦
-            let b = order.begins alive begins in
-            let some : 0 < length new.frozen.numbers = grind (arith, b.next, begins, nil_from_length old.frozen.numbers) in
-            let order = (idles (omega (arith, few))).order in
-            rw ((b.live live).1, landed_begun new.frozen.numbers (firsts_in new.frozen) new.frozen.bytes old.log)
-            (ready_more new.frozen.numbers (firsts_in new.frozen) new.frozen.bytes old.log (order, inl begins.0.1) some)
-        | inr not ↦
-            let r = order.retires alive (omega (arith, few)) not in
-            let empty = nil_from_length old.log.waiting in
-            grind (arith, cases_lt 0 (length old.log.waiting), empty, r.live, r.none_waits, idles, rests_stepped old.log new.log, head)
-      ]
-    ]
+-- slots are spared, or a step ahead does something
+pub may_or_goes : (log : LogValue) → RestsWithRoom log → (MayWrite true log × SparesSlots log)
+    ⊎ ((MayWrite true log → ⊥) × (CanPass (counted log) ⊎ IsAway (counted log)))
+may_or_goes log r = grind (arith, nat_tests, r)
 
--- a store that starts
-pub starts_with_room : {keeping : Keeping} {before after : State} {s : Cached} → IsStartedBy keeping before after s
-    → may_go_by s.log.shape.format s.log.ring ≡ true → HasHeadroom s.log
-starts_with_room started may = grind (arith, nat_tests, started.log, may)
+-- a step ahead of a log with room, once a flush is counted
+pub rests_counted : (log : LogValue) → RestsWithRoom log → RestsWithRoom (counted log) × ((counted log).next ≡ log.next)
+rests_counted log r = grind (arith, nat_tests, rests_stepped log (counted log) r)
+
+-- a batch becomes durable: its record is one more, and an empty one has none
+pub one_durable : (numbers : List ℕ) (firsts : List (List ℕ)) (copy : List ℕ) (log : LogValue) → HasHeadroom log
+    → (0 < log.steps_left → 0 < length numbers)
+    → next_durable (finished_with true numbers firsts copy log) ≡ next_durable log + wants numbers
+one_durable numbers firsts copy log head under_way = search (rules, arith, length-append, rests_finished, finished_is)
+
+-- both batches become durable
+pub both_durable : (frozen active : Entries) (log : LogValue) → HasHeadroom log → (0 < log.steps_left → 0 < length frozen.numbers)
+    → next_durable (finished true active (finished true frozen log)) ≡ next_durable log + (wants frozen.numbers + wants active.numbers)
+both_durable frozen active log head under_way = grind (arith, one_durable, headroom_finished)
+
+-- the last step of a record is its one flush
+pub step_once : (progress : Progress) (old new : LogValue) → HasHeadroom old → 0 < old.steps_left → IsStepped progress old new
+    → next_step_flushes old + next_durable old ≡ next_durable new
+step_once progress old new head some stepped = grind (arith, nat_tests, head, steps_once, writes_on, length-append)
+
+-- a log without records, in which three may stand
+pub empty_has_room : (log : LogValue) (shape : Shape) (next ring : ℕ) (keeps : Bool) → log ≡ empty_from shape next ring keeps
+    → may_go_by log.shape.format log.ring ≡ true → HasHeadroom log
+empty_has_room log shape next ring keeps is may = grind (arith, nat_tests, is, may)

@@ -1,31 +1,25 @@
--- Which records a call of a store writes, and which it retires: none but what room asks for.
-use Rattle.std.specs.Prelude.{◌≡◌, ◌+◌, ◌-◌, ◌≤◌, ℕ, zero, suc, List, [], ◌∷◌, ◌++◌, nat_lt}
+-- What a store makes of its log where it makes batches durable, and by how many calls and flushes.
+use Rattle.std.specs.Prelude.{◌+◌, ◌-◌, ℕ, zero, suc, List, [], ◌∷◌, ◌++◌, nat_lt}
 use Rattle.std.specs.Prelude.{Bool, true, false, if◌then◌else◌}
-use Rattle.journal.specs.declared.log_format.LogFormat.{LogFormat}
+use Rattle.journal.specs.{Format2.firsts_of, declared.log_format.LogFormat.LogFormat}
 use Rattle.cache.specs.Entries.{Entries}
-use Rattle.redo_log.specs.Value.{LogValue, HasRoom, begun, steps_of, of_oldest, turns_calls}
-pub use Rattle.blocks.specs.Ahead.{oldest_retired}
-use Rattle.blocks.specs.Ahead.{ahead_room, ahead_room_calls}
-use Rattle.blocks.specs.StoreValue.{wants, waiting, firsts_in}
+use Rattle.redo_log.specs.Value.{LogValue, begun, entries_of, steps_of, of_oldest, turns_calls}
+use Rattle.redo_log.specs.Value.{steps_flushes, turns_flushes}
+use Rattle.theorems.specs.Ahead.{oldest_retired, ahead_room, ahead_room_calls}
 
--- at least count slots are free, of as many as there may be records at once
-abbrev pub HasSlots : ℕ → LogValue → Type 0
-HasSlots count log = (log.next - log.head) + count ≤ log.ring
+-- the first 8 bytes of each block of a batch
+abbrev pub firsts_in : Entries → List (List ℕ)
+firsts_in batch = firsts_of (entries_of batch.numbers batch.bytes)
 
--- where the store goes ahead three slots are free: one for the next record, and two besides
-abbrev pub HasSpare : Bool → LogValue → Type 0
-HasSpare ahead log = ahead ≡ true → HasSlots 3 log
+-- a batch that holds blocks wants a stamp
+abbrev pub wants : List ℕ → ℕ
+wants [] = 0
+wants (n ∷ numbers) = 1
 
--- the log has room for one record, and where the store goes ahead two slots besides
-abbrev pub IsRoomy : Bool → LogValue → Type 0
-IsRoomy false log = HasRoom log
-IsRoomy true log = HasRoom log × HasSlots 3 log
-
--- Room is made for one record: none is retired where the log has room, and else one at most. Where
--- the store goes ahead one may be passed as long as fewer slots are free than three.
-pub record RetiresForRoom (ahead : Bool) (old new : LogValue) : Type 0 where
-  pub one : new.head ≤ old.head + 1
-  pub roomy : IsRoomy ahead old → new.head ≡ old.head
+-- a frozen batch counts as long as its record is not begun
+abbrev pub waiting : ℕ → ℕ → ℕ
+waiting zero steps = steps
+waiting (suc begun) steps = 0
 
 -- room for one more record: the oldest alone is retired, and only where no slot is free
 abbrev pub with_room : LogValue → LogValue
@@ -107,3 +101,30 @@ to_begin numbers log = waiting log.steps_left (wants numbers)
 abbrev pub with_spare : Bool → ℕ → ℕ
 with_spare false count = count
 with_spare true count = count + 2
+
+-- ---- how many of these calls are flushes
+
+-- those of the steps that are left of the record under way
+abbrev pub left_flushes : LogValue → ℕ
+left_flushes log = steps_flushes log.shape.format log.steps_left
+
+-- those for the room of one more record, whether or not the store goes ahead: two at most
+abbrev pub room_flushes : LogValue → ℕ
+room_flushes log =
+    if nat_lt (log.next - log.head) log.ring then 0 else turns_flushes (of_oldest log)
+
+-- those that make a batch durable, where a given number of steps is left of its record
+abbrev pub finish_flushes_from : ℕ → List ℕ → LogValue → ℕ
+finish_flushes_from (suc steps) numbers log = steps_flushes log.shape.format (suc steps)
+finish_flushes_from zero [] log = 0
+finish_flushes_from zero (n ∷ numbers) log = room_flushes log
+    + steps_flushes log.shape.format (steps_of log.shape.format (n ∷ numbers))
+
+-- those that make the batch of these blocks durable
+abbrev pub finish_flushes : List ℕ → LogValue → ℕ
+finish_flushes numbers log = finish_flushes_from log.steps_left numbers log
+
+-- those for this batch, and then for another one
+abbrev pub both_flushes : Bool → List ℕ → List ℕ → LogValue → ℕ
+both_flushes ahead frozen active log =
+    finish_flushes frozen log + finish_flushes active (finished_with ahead frozen [] [] log)

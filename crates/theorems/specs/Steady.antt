@@ -3,7 +3,7 @@ use Rattle.std.specs.Prelude.{◌≡◌, ◌+◌, ◌-◌, ◌*◌, ◌<◌, ◌
 use Rattle.std.specs.Prelude.{◌∷◌, length, get_or, sum_by, true, All}
 use Rattle.cache.specs.Entries.{Entries}
 use Rattle.redo_log.specs.Value.{LogValue, IsCovered, steps_of, retire_steps_of, home_calls}
-use Rattle.blocks.specs.Retiring.{finished}
+use Rattle.theorems.specs.Retiring.{finished}
 
 -- the record that is the oldest once the oldest one is passed
 abbrev pub second_of : LogValue → List ℕ
