@@ -1,25 +1,21 @@
 -- The calls that a command makes: how many, which sectors they name, how many batches they make durable, and what a record costs.
 use Rattle.std.proofs.Common.{◌≡◌, ◌≢◌, ◌≤◌, ◌<◌, ◌+◌, ℕ, Bool, false, List, [], None, Option, Some, Result, Ok, Err, arith, ap, refl, inl}
-use Rattle.std.proofs.{Common.{inr, true, length, ◌∙◌, ◌*◌}, lemmas.Bool.Decides.nat_tests}
-use Rattle.std.specs.Prelude.{◌||◌, not, if◌then◌else◌}
-use Rattle.medium.specs.{Medium.State, Sent.{sent, SendsUpTo}, declared.fault.MediumFault.MediumFault}
-use Rattle.medium.specs.declared.fault.MediumFault.TheVariants.{Write, Flush}
+use Rattle.std.{proofs.{Common.{inr, true, length, ◌∙◌, ◌*◌}, lemmas.Bool.Decides.nat_tests}, specs.Prelude.{◌||◌, not, if◌then◌else◌}}
+use Rattle.medium.specs.{Medium.State, Sent.{sent, SendsUpTo}, declared.fault.MediumFault.{TheVariants.{Write, Flush}, MediumFault}}
 use Rattle.medium.proofs.SectorsRead.{no_looks, looks_joined, looks_wider}
+use Rattle.spec.specs.{Sense.Sense, declared.command.{Transfer.Transfer, Command.Command}, Rules.{forces_reading, moves_blocks}}
+use Rattle.theorems.{specs.Retiring.{firsts_in, wants}, proofs.{Headroom.{one_each, both_each, headroom_finished}, Steady.steady_sync}}
 use Rattle.blocks.specs.{Limit.Shape, Looks.{LooksAtLog, IsReadFor}, OneBatch.SendsOneBatch, Sent.most_sent, StoreValue.StoreValue}
-use Rattle.blocks.specs.StoreValue.{is_dead, layout_of, transfer_limit, active_of, firsts_in, wants, Cached, HasLimits, blocks_of, slots_of}
-use Rattle.blocks.specs.StoreValue.{batch_steps, steps_left, unwritten, FitsBeside}
-use Rattle.blocks.proofs.{EmptyBatches.{both_empty, fits_alone, frozen_as, step_sent}, OneBatchSent.none_sent, ReadCalls.reads_few}
-use Rattle.blocks.proofs.{SectorsRead.looks_on, Headroom.{one_each, both_each, headroom_finished}, Steady.steady_sync}
-use Rattle.blocks.proofs.Limits.{few_batch_steps}
-use Rattle.spec.specs.{Sense.Sense, declared.command.Transfer.Transfer, Rules.{forces_reading, moves_blocks}}
-use Rattle.spec.specs.declared.command.Command.{Command}
+use Rattle.blocks.specs.StoreValue.{is_dead, layout_of, transfer_limit, active_of, Cached, HasLimits, blocks_of, slots_of, batch_steps}
+use Rattle.blocks.{specs.StoreValue.{steps_left, unwritten, FitsBeside}, proofs.EmptyBatches.{both_empty, fits_alone, frozen_as, step_sent}}
+use Rattle.blocks.proofs.{OneBatchSent.none_sent, ReadCalls.reads_few, SectorsRead.looks_on, Limits.few_batch_steps}
 use Rattle.scsi_unit.specs.{UnitValue.{UnitValue, unit_limit}, Calls.{calls_of_sync, calls_of_read, calls_of_write, MakesAtMost}}
 use Rattle.scsi_unit.specs.{Calls.{PromisesFew, calls_of, most_calls_of, most_calls}, Promising.{forces_writing, IsQuietBy, IsQuietWrite}}
 use Rattle.scsi_unit.specs.Reading.{ReadsBack, ReadsBackOr, LooksToRead, first_home_of, home_sectors_of, some_read}
-use Rattle.scsi_unit.specs.StoreCalls.{MakesDurable, MakesNone, ReadsBlocks, WritesBlocks}
-use Rattle.scsi_unit.specs.{Costs.{CostsFinishing, CostsWriting, SteadyIsCheap, RecordsFlushOnce}, Performing.{Spares, silent}}
-use Rattle.spec.specs.declared.command.Command.TheVariants as command
+use Rattle.scsi_unit.specs.{StoreCalls.{MakesDurable, MakesNone, ReadsBlocks, WritesBlocks}, Costs.{CostsFinishing, CostsWriting}}
+use Rattle.scsi_unit.specs.{Costs.{SteadyIsCheap, RecordsFlushOnce}, Performing.{Spares, silent}}
 use Rattle.scsi_commands.specs.Supported.{IsSupported}
+use Rattle.spec.specs.declared.command.Command.TheVariants as command
 
 -- no call was made
 pub no_calls : {M : Type 0} (count : ℕ) (read : Option Transfer) (promising : Bool) (Quiet : Type 0) (m : State) (unit : UnitValue M)

@@ -4,13 +4,14 @@
 use Rattle.std.specs.Prelude.{◌≡◌, ⊤, ℕ, ◌+◌, ◌<◌, ◌||◌, not, Bool, true, false, List, [], length}
 use Rattle.std.specs.Prelude.{Result, Ok, Err}
 use Rattle.medium.specs.{Medium.State, declared.fault.MediumFault.TheVariants.Flush}
-use Rattle.blocks.specs.Flushing.{finish_flushes, both_flushes}
-use Rattle.blocks.specs.{Retiring.{both_calls, finish_calls, finished}, StoreValue.Cached}
-use Rattle.blocks.specs.StoreValue.{transfer_limit, active_of, FitsBeside, TakesRange, wants}
-pub use Rattle.blocks.specs.Headroom.{HasHeadroom, KeepsHeadroom}
-pub use Rattle.blocks.specs.Steady.{IsSteady, steady_calls}
-use Rattle.spec.specs.{Sense.Sense, declared.command.Command.Command}
-use Rattle.spec.specs.{declared.command.Transfer.Transfer, Rules.{moves_blocks, wants_writing}}
+use Rattle.spec.specs.{Sense.Sense, declared.command.{Command.Command, Transfer.Transfer}}
+use Rattle.spec.specs.Rules.{moves_blocks, wants_writing}
+use Rattle.theorems.specs.Retiring.{finish_flushes, both_flushes, both_calls, finish_calls}
+use Rattle.theorems.specs.Retiring.{finished, wants}
+use Rattle.blocks.specs.StoreValue.{Cached, transfer_limit, active_of, FitsBeside, TakesRange}
+pub use Rattle.theorems.specs.Headroom.{HasHeadroom}
+pub use Rattle.blocks.specs.Headroom.{KeepsHeadroom}
+pub use Rattle.theorems.specs.Steady.{IsSteady, steady_calls}
 use Rattle.spec.specs.declared.command.Command.TheVariants as command
 
 -- the calls and the flushes that make the frozen batch durable, and then one of these blocks, and

@@ -1,15 +1,13 @@
 -- When a unit sends the oldest record of its log home: the policy that its start asks for.
 use Rattle.std.specs.Prelude.{◌≡◌, Bool, false}
-use Rattle.blocks.specs.Opening.{Shape}
-use Rattle.blocks.specs.StoreValue.{layout_of}
--- handed on to the layers above: a log of which shapes allows a unit to go ahead
-pub use Rattle.blocks.specs.Ahead.{may_go_ahead}
-use Rattle.blocks.specs.{Ahead.may_go_by, Started.keeps_by, Started.ring_by}
+use Rattle.theorems.specs.Ahead.{may_go_by}
+use Rattle.blocks.specs.{Opening.Shape, StoreValue.layout_of, Started.{keeps_by, ring_by}}
 use Rattle.blocks.specs.declared.start.Keeping.{Keeping}
-use Rattle.blocks.specs.declared.start.Keeping.TheVariants as keeping
-use Rattle.scsi_unit.specs.declared.retiring.Retiring.{Retiring}
-use Rattle.scsi_unit.specs.declared.retiring.Retiring.TheVariants.{Late, Ahead, Kept}
+use Rattle.scsi_unit.specs.declared.retiring.Retiring.{TheVariants.{Late, Ahead, Kept}, Retiring}
 use Rattle.scsi_unit.specs.UnitValue.{UnitValue}
+-- handed on to the layers above: a log of which shapes allows a unit to go ahead
+pub use Rattle.theorems.specs.Ahead.{may_go_ahead}
+use Rattle.blocks.specs.declared.start.Keeping.TheVariants as keeping
 
 -- what becomes of the blocks of its records: they are read back, or those of so many are kept
 abbrev pub keeping_of : Retiring → Keeping

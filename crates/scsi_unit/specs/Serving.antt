@@ -5,15 +5,15 @@ use Rattle.medium.specs.{Medium.State, Moments.{LeavesOnly, IsUnchanged}, Sent.S
 use Rattle.spec.specs.{Book.Book, Sense.Sense, declared.command.Command.Command}
 use Rattle.spec.specs.{declared.command.Transfer.Transfer, Rules.{command_by, moves_blocks}}
 use Rattle.spec.specs.Rules.{reads_blocks, wants_writing, write_in_progress, CarriesOut, Ticks}
+use Rattle.theorems.specs.Retiring.{finished}
 use Rattle.blocks.specs.{Finding.{MayFind, FoundWith}, Calls.TurnsBatches, Headroom.KeepsHeadroom}
 use Rattle.blocks.specs.{Looks.LooksAtLog, Work.{IsWork, LeavesBy}, declared.work.Work.Work}
-use Rattle.blocks.specs.{Passing.MayEmpty, Retiring.finished, StoreValue.{Cached, layout_of}}
-use Rattle.blocks.specs.StoreValue.{blocks_of, is_dead, active_of, transfer_limit, FitsBeside}
-use Rattle.blocks.specs.StoreValue.{TakesRange}
+use Rattle.blocks.specs.{Passing.MayEmpty, StoreValue.{Cached, layout_of, blocks_of, is_dead}}
+use Rattle.blocks.specs.StoreValue.{active_of, transfer_limit, FitsBeside, TakesRange}
+use Rattle.scsi_unit.specs.{Costs.CostsAfter, UnitValue.{UnitValue, unit_limit, state_of}}
+use Rattle.scsi_unit.specs.UnitValue.{intention_of, FitsUnit}
 use Rattle.spec.specs.declared.command.Command.TheVariants as command
 use Rattle.spec.specs.declared.intent.Intent.TheVariants as intent
-use Rattle.scsi_unit.specs.Costs.{CostsAfter}
-use Rattle.scsi_unit.specs.UnitValue.{UnitValue, unit_limit, state_of, intention_of, FitsUnit}
 
 -- ---- a command
 

@@ -1,24 +1,19 @@
 -- How a unit starts over a medium, and why it is refused. The layers above know the images of a
 -- medium by the words that are handed on here and in Books, and open none of them.
 use Rattle.std.specs.Prelude.{◌≡◌, ℕ, true}
-use Rattle.blocks.specs.Headroom.{HasHeadroom}
-use Rattle.medium.specs.Medium.{State}
-use Rattle.medium.specs.Moments.{EachCut, LeavesOnly}
-use Rattle.spec.specs.Book.{Book}
-use Rattle.blocks.specs.StoreValue.{Cached, StoreValue}
-use Rattle.spec.specs.Identification.{Identification}
-use Rattle.spec.specs.Rules.{opened_unit}
-use Rattle.scsi_unit.specs.UnitValue.{UnitValue, unit_limit, state_of}
-use Rattle.scsi_unit.specs.Retiring.{goes_ahead_by, keeping_of, RetiresBy}
-use Rattle.scsi_unit.specs.declared.retiring.Retiring.{Retiring}
-use Rattle.scsi_unit.specs.declared.retiring.Retiring.TheVariants.{Late}
-use Rattle.blocks.specs.Opening.{StartFault}
+use Rattle.medium.specs.{Medium.State, Moments.{EachCut, LeavesOnly}}
+use Rattle.spec.specs.{Book.Book, Identification.Identification, Rules.opened_unit}
+use Rattle.theorems.specs.Headroom.{HasHeadroom}
+use Rattle.blocks.specs.{StoreValue.{Cached, StoreValue}, Opening.StartFault}
+use Rattle.blocks.specs.declared.start.Keeping.{Keeping}
+use Rattle.scsi_unit.specs.{UnitValue.{UnitValue, unit_limit, state_of}, Retiring.goes_ahead_by}
+use Rattle.scsi_unit.specs.Retiring.{keeping_of, RetiresBy}
+use Rattle.scsi_unit.specs.declared.retiring.Retiring.{TheVariants.Late, Retiring}
 -- the limit of a unit is that of the image that it starts on
 pub use Rattle.blocks.specs.Limit.{HasLimit}
 pub use Rattle.blocks.specs.Opening.{IsOursForSome, Stands, StandsForOpening, StandsForSome}
 pub use Rattle.blocks.specs.Opening.{OpensOn, IsCauseFor}
 pub use Rattle.blocks.specs.Started.{IsStarted, IsStartedBy, IsStartCause, StartLeaves}
-use Rattle.blocks.specs.declared.start.Keeping.{Keeping}
 -- what it leaves of its medium, and which sectors its reads name
 pub use Rattle.blocks.specs.Started.{LeavesMedium}
 -- for the number of blocks with which a life opened

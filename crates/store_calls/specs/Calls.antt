@@ -1,16 +1,17 @@
 -- What each call does to a store.
 use Rattle.std.specs.Prelude.{◌≡◌, ◌≢◌, ◌⊎◌, ℕ, ◌+◌, ◌*◌, ◌/◌, ◌%◌, ◌<◌, Bool, true, false, List}
+use Rattle.medium.specs.Sent.{SendsUpTo}
 use Rattle.spec.specs.{Blocks.Write, Book.{Book, array_of, blocks_at}}
-use Rattle.journal.specs.{Places.first_home}
+use Rattle.journal.specs.Places.{first_home}
+use Rattle.theorems.specs.Headroom.{HasHeadroom}
 use Rattle.window.specs.Window.{state_of, ComesAfter, AreOnDevice, IsShown}
 use Rattle.blocks.specs.{Book.IsTransfer, Passing.{KeepsStore, KeepsMedium, PassesOn, IsUntouched}}
 use Rattle.blocks.specs.StoreValue.{Cached, layout_of, blocks_of, transfer_limit, is_dead, FitsBook}
-use Rattle.blocks.specs.{Headroom.{HasHeadroom, KeepsHeadroom, FlushesOnce}, Prepared.IsTakenAtOnce}
+use Rattle.blocks.specs.{Headroom.{KeepsHeadroom, FlushesOnce}, Prepared.IsTakenAtOnce}
 use Rattle.blocks.specs.{Turns.{IsTurn, IsWriteTurn}, Work.{IsWork, CountsBy, RetiresNone}}
-use Rattle.blocks.specs.{declared.work.Work.Work}
-use Rattle.medium.specs.{Sent.SendsUpTo}
+use Rattle.blocks.specs.declared.work.Work.{Work}
 use Rattle.store_calls.specs.{Stores.Store, Rooms.{Appends, TakesCalls, HasRoom, HoldsLog}}
-use Rattle.store_calls.specs.{declared.call_fault.CallFault.CallFault}
+use Rattle.store_calls.specs.declared.call_fault.CallFault.{CallFault}
 use Rattle.store_calls.specs.declared.call_fault.CallFault.TheVariants as fault
 
 -- ---- whether a call may move blocks

@@ -1,15 +1,16 @@
 -- How a store starts on the first sectors of a device.
 use Rattle.std.specs.Prelude.{◌≡◌, ◌≢◌, ◌⊎◌, ℕ, ◌+◌, ◌<◌, true, min, max}
-use Rattle.medium.specs.{Sent.sent}
+use Rattle.medium.specs.Sent.{sent}
+use Rattle.spec.specs.Book.{Book}
+use Rattle.theorems.specs.{Ahead.may_go_by, Headroom.HasHeadroom}
+use Rattle.recovery.specs.declared.start_fault.StartFault.{StartFault}
 use Rattle.window.specs.Window.{Window, state_of, ComesAfter, CoversDevice, IsServed}
-use Rattle.recovery.specs.{declared.start_fault.StartFault.StartFault}
-use Rattle.spec.specs.{Book.Book}
-use Rattle.blocks.specs.{Opening.{OpensOn, IsCauseFor}, Ahead.may_go_by, Headroom.HasHeadroom}
-use Rattle.blocks.specs.Started.{IsStartedBy, IsStartCause, StartLeaves, LeavesMedium}
-use Rattle.blocks.specs.{StoreValue.{layout_of, slots_of}, declared.start.Keeping.TheVariants.Kept}
-use Rattle.store_calls.specs.{Stores.Store}
-use Rattle.store_calls.specs.Rooms.{CoversParts, StartRefusesNothing, SeesStart, HoldsLog, IsRoomy}
-use Rattle.store_calls.specs.{declared.sight.Sight.Sight, declared.call_fault.CallFault.CallFault}
+use Rattle.blocks.specs.{Opening.{OpensOn, IsCauseFor}, Started.{IsStartedBy, IsStartCause}}
+use Rattle.blocks.specs.{Started.{StartLeaves, LeavesMedium}, StoreValue.{layout_of, slots_of}}
+use Rattle.blocks.specs.declared.start.Keeping.TheVariants.{Kept}
+use Rattle.store_calls.specs.{Stores.Store, Rooms.{CoversParts, StartRefusesNothing, SeesStart}}
+use Rattle.store_calls.specs.{Rooms.{HoldsLog, IsRoomy}, declared.sight.Sight.Sight}
+use Rattle.store_calls.specs.declared.call_fault.CallFault.{CallFault}
 use Rattle.recovery.specs.declared.start_fault.StartFault.TheVariants as start
 -- handed on
 pub use Rattle.store_calls.specs.Sights.{IsNoLength, IsNoMedium}
