@@ -3,7 +3,8 @@ ghost use Rattle.std.specs.Prelude.{◌≤◌};
 ghost use Rattle.calls.specs.Reserve.{IsReserve};
 
 use disk_machine::room_for;
-use store_calls::{Reserve, span_of, super_of};
+use store_calls::{span_of, super_of};
+use window::Reserve;
 
 /// For how many calls there is room where the first sectors are none of an image: as many as a
 /// start makes that has no record to bring home.

@@ -12,7 +12,7 @@ use crate::file::DeviceFile;
 use journal::Super;
 use std::alloc::Global;
 use std::io::ErrorKind;
-use window::{DeviceHolds, SECTOR, WindowMedium};
+use window::{DeviceHolds, Reserve, SECTOR, WindowMedium};
 
 /// Why no window over a file was made.
 #[derive(Clone, Copy, Debug, PartialEq, Eq)]
@@ -91,7 +91,8 @@ impl FirstSectors {
         ensures flushed { IfOk result (λ m. IsFlushed (state_of m)) }
         ensures err { IfErr result (λ fault. fault ≡ OpenFault.NoMemory) }
     {
-        match WindowMedium::new(alloc, self.bytes, self.sectors, device, span, room) {
+        let reserve = Reserve { span, room };
+        match WindowMedium::new(alloc, self.bytes, self.sectors, device, reserve) {
             Ok(window) => Ok(window),
             Err(_) => Err(OpenFault::NoMemory),
         }

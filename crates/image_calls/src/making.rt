@@ -15,7 +15,7 @@ use crate::work::Work;
 use journal::Super;
 use recovery::{StartFault, lay_log, migrate};
 use std::alloc::Global;
-use window::{DeviceHolds, WindowError, WindowMedium};
+use window::{DeviceHolds, Reserve, WindowError, WindowMedium};
 
 /// A medium of a device of `sectors` sectors, of which these are the first. None is ever shown.
 pub(crate) fn window_of(
@@ -30,7 +30,8 @@ pub(crate) fn window_of(
     ensures err { IfErr result (λ fault. (fault ≡ ImageFault.Start NoMemory)
         ⊎ ((fault ≡ ImageFault.Length) × IsNoLength near.items sectors)) }
 {
-    match WindowMedium::new(alloc, near, sectors, device, 0, room) {
+    let reserve = Reserve { span: 0, room };
+    match WindowMedium::new(alloc, near, sectors, device, reserve) {
         Ok(medium) => Ok(medium),
         Err(WindowError::BadLength) => Err(ImageFault::Length),
         Err(WindowError::NoMemory) => Err(ImageFault::Start(StartFault::NoMemory)),

@@ -35,7 +35,7 @@ pub use holding::device_holding;
 pub use lack::Lack;
 pub use laws::store_laws;
 pub use machine::StoreMachine;
-pub use machine_start::{Reserve, begin_machine, medium_on};
+pub use machine_start::{begin_machine, medium_on};
 pub use sight::Sight;
 pub use sizes::Sizes;
 pub use store_fault::StoreFault;

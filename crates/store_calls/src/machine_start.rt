@@ -14,14 +14,7 @@ use crate::sight::Sight;
 use crate::supers::{span_of, super_of};
 use blocks::{StartFault, Store};
 use std::alloc::Global;
-use window::{DeviceHolds, WindowError, WindowMedium, device_laws};
-
-/// How many sectors are shown at a time at most, and how many calls the outbox has room for.
-#[derive(Clone, Copy)]
-pub struct Reserve {
-    pub span: u32,
-    pub room: usize,
-}
+use window::{DeviceHolds, Reserve, WindowError, WindowMedium, device_laws};
 
 // What a store on an image of these first sectors takes.
 fn reserve_for(near: &[u8]) -> Reserve
@@ -79,7 +72,7 @@ fn medium_over(
     ensures err { IfErr result (λ why. (why ≡ CallFault.Start NoMemory)
         ⊎ ((why ≡ CallFault.Length) × IsNoLength near.items sectors)) }
 {
-    match WindowMedium::new(alloc, near, sectors, device, reserve.span, reserve.room) {
+    match WindowMedium::new(alloc, near, sectors, device, reserve) {
         Ok(medium) => Ok(medium),
         Err(WindowError::BadLength) => Err(CallFault::Length),
         Err(WindowError::NoMemory) => Err(CallFault::Start(StartFault::NoMemory)),

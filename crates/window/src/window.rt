@@ -30,6 +30,15 @@ pub enum WindowError {
     NoMemory = 2,
 }
 
+/// For how much a medium takes memory.
+#[derive(Clone, Copy)]
+pub struct Reserve {
+    /// How many sectors it shows at a time at most.
+    pub span: u32,
+    /// How many writes and flushes its outbox has room for.
+    pub room: usize,
+}
+
 /// The first sectors of a device in memory, room for some of the others, and an outbox: every
 /// write and every flush, in order, until it is taken out and carried out on the device.
 ///
@@ -60,8 +69,7 @@ impl Model for WindowMedium {
 
 impl WindowMedium {
     /// A medium of a device of `size` sectors, of which the first hold these bytes and the others
-    /// what it holds, all durably. There is room to show `span` sectors at a time, and for `room`
-    /// writes and flushes in the outbox.
+    /// what it holds, all durably.
     ///
     /// # Errors
     /// `BadLength` where the bytes are none, no whole sectors, or more than the device has, and
@@ -71,10 +79,10 @@ impl WindowMedium {
         near: Vec<u8>,
         size: u64,
         device: &DeviceHolds,
-        span: u32,
-        room: usize,
+        reserve: Reserve,
     ) -> Result<WindowMedium, WindowError>
-        ensures ok { IfOk result (λ m. m ≡ fresh size near.items device.now.bytes span room) }
+        ensures ok { IfOk result (λ m.
+            m ≡ fresh size near.items device.now.bytes reserve.span reserve.room) }
         ensures flushed { IfOk result (λ m. IsFlushed (state_of m)) }
         ensures length { IsErrOf result WindowError.BadLength
             ↔ ((length near.items ≡ 0) ⊎ (length near.items % 512 ≢ 0)
@@ -83,10 +91,10 @@ impl WindowMedium {
         if near.len() == 0 || near.len() % SECTOR != 0 || (near.len() / SECTOR) as u64 > size {
             return Err(WindowError::BadLength);
         }
-        let Ok(outbox) = Outbox::with_room(alloc, room) else {
+        let Ok(outbox) = Outbox::with_room(alloc, reserve.room) else {
             return Err(WindowError::NoMemory);
         };
-        let Ok(bytes) = vec![in alloc; 0u8; span as usize * SECTOR] else {
+        let Ok(bytes) = vec![in alloc; 0u8; reserve.span as usize * SECTOR] else {
             return Err(WindowError::NoMemory);
         };
         let near = Sectors { bytes: near };
