@@ -7,8 +7,15 @@ ghost use Rattle.journal.specs.Record.{begun_with, first_of, ReadsOne, Entry, bl
 use crate::{Super, copy_place};
 use medium::{Medium, MediumFault};
 
-/// Reads the i-th block of the record in this slot, which begins with these bytes where its data
-/// place does not have them. At an `Err` the array may hold anything.
+/// A copy of a block: the slot of the record that has it, and its place among the blocks of that.
+#[derive(Clone, Copy)]
+pub struct LoggedCopy {
+    pub slot: u64,
+    pub place: usize,
+}
+
+/// Reads this copy of a block, which begins with these bytes where its data place does not have
+/// them. At an `Err` the array may hold anything.
 ///
 /// # Errors
 ///
@@ -17,22 +24,21 @@ use medium::{Medium, MediumFault};
 pub fn read_copy<M: Medium>(
     m: &mut M,
     sizes: &Super,
-    slot: u64,
-    i: usize,
+    copy: LoggedCopy,
     first: &Option<[u8; 8]>,
     to: &mut [u8; 512],
 ) -> Result<(), MediumFault>
-    requires slot { slot < sizes.now.slots }
-    requires inside { i < limit_of sizes.now.format }
+    requires slot { copy.slot < sizes.now.slots }
+    requires inside { copy.place < limit_of sizes.now.format }
     requires fits { sectors_of (shape_of sizes.now) ≤ (M.state m.old).size }
-    ensures ok { (stamp : ℕ) (entries : List Entry) → slot ≡ stamp % sizes.now.slots
-        → i < length entries → first.now ≡ first_of sizes.now.format entries i
+    ensures ok { (stamp : ℕ) (entries : List Entry) → copy.slot ≡ stamp % sizes.now.slots
+        → copy.place < length entries → first.now ≡ first_of sizes.now.format entries copy.place
         → IsWhole (shape_of sizes.now) (M.state m.old).content stamp entries
-        → OnOk result (to.new ≡ block_of entries i) }
+        → OnOk result (to.new ≡ block_of entries copy.place) }
     ensures reads { ReadsOne M.state M.follows (λ s. s < first_home (shape_of sizes.now))
         m.old m.new result }
 {
-    m.read(copy_place(sizes.format, slot, i), to)?;
+    m.read(copy_place(sizes.format, copy.slot, copy.place), to)?;
     put_first(to, first);
     Ok(())
 }

@@ -22,7 +22,7 @@ mod super_sector;
 pub mod v1;
 pub mod v2;
 
-pub use copies::{put_first, read_copy};
+pub use copies::{LoggedCopy, put_first, read_copy};
 pub use fields::are_rising;
 pub use firsts::{Firsts, first_bytes};
 pub use head::Head;
@@ -32,7 +32,7 @@ pub use naming_stage::NamingStage;
 pub use places::slot_of;
 pub use reader::RecordReader;
 pub use record::Record;
-pub use record_parts::{before_barrier, copy_place, parts, slot_place, write_part};
+pub use record_parts::{NewRecord, before_barrier, copy_place, parts, slot_place, write_part};
 pub use super_fault::SuperFault;
 pub use super_sector::Super;
 pub use v1::{Commit, Descriptor, commit_place, data_place, place_of, whole_record};

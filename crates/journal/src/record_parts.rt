@@ -7,24 +7,26 @@ ghost use Rattle.journal.specs.Formats.{layout_of};
 use crate::places::FIRST_SLOT;
 use crate::{LogFormat, v1, v2};
 
-/// Writes part p of the record with this stamp and these blocks, whose bytes stand one after the
-/// other, to the sector, and tells where it stands in the slot of the record.
-pub fn write_part(
-    format: LogFormat,
-    stamp: u64,
-    numbers: &[u64],
-    bytes: &[u8],
-    p: usize,
-    sector: &mut [u8; 512],
-) -> u64
-    requires { CanWrite (layout_of format).parts (limit_of format) stamp numbers.now bytes.now p }
-    ensures offset { result ≡ (layout_of format).offset (length numbers.now) p }
-    ensures sector { sector.new
-        ≡ (layout_of format).part stamp (entries_of numbers.now bytes.now) p }
+/// A record that is to be written: its stamp, the numbers of its blocks, and their bytes, one block
+/// after the other.
+#[derive(Clone, Copy)]
+pub struct NewRecord<'a> {
+    pub stamp: u64,
+    pub numbers: &'a [u64],
+    pub bytes: &'a [u8],
+}
+
+/// Writes part p of the record to the sector, and tells where it stands in the slot of the record.
+pub fn write_part(format: LogFormat, batch: &NewRecord<'_>, p: usize, sector: &mut [u8; 512]) -> u64
+    requires { CanWrite (layout_of format).parts (limit_of format) batch.now.stamp
+        batch.now.numbers.now batch.now.bytes.now p }
+    ensures offset { result ≡ (layout_of format).offset (length batch.now.numbers.now) p }
+    ensures sector { sector.new ≡ (layout_of format).part batch.now.stamp
+        (entries_of batch.now.numbers.now batch.now.bytes.now) p }
 {
     match format {
-        LogFormat::One => v1::write_part(stamp, numbers, bytes, p, sector),
-        LogFormat::Two => v2::write_part(stamp, numbers, bytes, p, sector),
+        LogFormat::One => v1::write_part(batch, p, sector),
+        LogFormat::Two => v2::write_part(batch, p, sector),
     }
 }
 

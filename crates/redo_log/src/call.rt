@@ -8,7 +8,9 @@ ghost use Rattle.medium.specs.Performed.{IsWithin};
 ghost use Rattle.redo_log.specs.Told.{IsNextCall};
 ghost use Rattle.redo_log.specs.Value.{IsBatch};
 
-use journal::{LogFormat, Super, before_barrier, parts, slot_of, slot_place, write_part};
+use journal::{
+    LogFormat, NewRecord, Super, before_barrier, parts, slot_of, slot_place, write_part,
+};
 use medium::Call;
 
 // How many parts of a record are written after `made` calls. One of them may be the flush at the
@@ -52,26 +54,24 @@ fn is_flush_due(
 #[inline(never)]
 pub(crate) fn next_call(
     sizes: &Super,
-    stamp: u64,
-    numbers: &[u64],
-    bytes: &[u8],
+    batch: &NewRecord<'_>,
     made: usize,
     sector: &mut [u8; 512],
 ) -> Call
-    requires stamp { (1 ≤ stamp) × (stamp < 2 ^ 63 - 1) }
-    requires batch { IsBatch (shape_of sizes.now) numbers.now bytes.now }
-    ensures next { IsNextCall (layout_of sizes.now.format) (shape_of sizes.now) stamp
-        (entries_of numbers.now bytes.now) made result sector.new }
+    requires stamp { (1 ≤ batch.now.stamp) × (batch.now.stamp < 2 ^ 63 - 1) }
+    requires batch { IsBatch (shape_of sizes.now) batch.now.numbers.now batch.now.bytes.now }
+    ensures next { IsNextCall (layout_of sizes.now.format) (shape_of sizes.now) batch.now.stamp
+        (entries_of batch.now.numbers.now batch.now.bytes.now) made result sector.new }
     ensures inside { IsWithin (first_home (shape_of sizes.now)) result }
 {
-    let count = numbers.len();
+    let count = batch.numbers.len();
     let barrier = before_barrier(sizes.format, count);
     let written = written_at(barrier, made);
     if is_flush_due(sizes.format, count, barrier, made, written) {
         return Call::Flush;
     }
-    let slot = slot_of(stamp, sizes.slots);
-    let offset = write_part(sizes.format, stamp, numbers, bytes, written, sector);
+    let slot = slot_of(batch.stamp, sizes.slots);
+    let offset = write_part(sizes.format, batch, written, sector);
     Call::Write(slot_place(sizes.format, slot) + offset)
 }
 

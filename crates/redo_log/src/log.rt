@@ -9,7 +9,7 @@ use crate::index::{Copied, newest};
 use crate::room::room_for;
 use crate::{LogFault, Progress};
 use arrayvec::ArrayVec;
-use journal::{Firsts, Super, read_copy};
+use journal::{Firsts, LoggedCopy, Super, read_copy};
 use medium::{Medium, MediumFault};
 use std::alloc::Global;
 use std::collections::VecDeque;
@@ -267,6 +267,7 @@ impl Log {
             return Ok(());
         }
         let first = first_kept(&self.firsts, age as usize, place);
-        read_copy(m, &self.sizes, slot, place, &first, to)
+        let copy = LoggedCopy { slot, place };
+        read_copy(m, &self.sizes, copy, &first, to)
     }
 }

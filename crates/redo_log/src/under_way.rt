@@ -13,7 +13,7 @@ use crate::index::enter_record;
 use crate::log::Numbers;
 use crate::making::{make, write, write_stamped};
 use crate::{Log, Progress};
-use journal::{copy_place, parts, slot_of};
+use journal::{NewRecord, copy_place, parts, slot_of};
 use medium::{Call, Medium, MediumFault};
 use std::collections::VecDeque;
 
@@ -35,7 +35,12 @@ impl Log {
             unreachable!()
         };
         let stamp = self.head + self.waiting.len() as u64;
-        next_call(&self.sizes, stamp, numbers, bytes, made, sector)
+        let batch = NewRecord {
+            stamp,
+            numbers,
+            bytes,
+        };
+        next_call(&self.sizes, &batch, made, sector)
     }
 
     /// Makes the next call of the record under way, which is not counted yet. The block of a data

@@ -3,6 +3,7 @@ ghost use Rattle.std.specs.Prelude.{◌≡◌, length};
 ghost use Rattle.journal.specs.Record.{entries_of, CanWrite};
 ghost use Rattle.journal.specs.Formats.{format1};
 
+use crate::NewRecord;
 use crate::fields::write_block;
 use crate::v1::{COMMIT, Commit, Descriptor, FIRST_DATA};
 
@@ -23,23 +24,19 @@ pub(crate) fn before_barrier(count: u8) -> usize
 /// Writes part p of a record to the sector, its descriptor, then its data places, then its commit,
 /// and tells where it stands in the slot.
 #[tactic(auto, using(crate::proofs::Wholeness::parts, crate::proofs::BatchEntries::batch))]
-pub(crate) fn write_part(
-    stamp: u64,
-    numbers: &[u64],
-    bytes: &[u8],
-    p: usize,
-    sector: &mut [u8; 512],
-) -> u64
-    requires { CanWrite format1.parts 48 stamp numbers.now bytes.now p }
-    ensures offset { result ≡ format1.offset (length numbers.now) p }
-    ensures sector { sector.new ≡ format1.part stamp (entries_of numbers.now bytes.now) p }
+pub(crate) fn write_part(batch: &NewRecord<'_>, p: usize, sector: &mut [u8; 512]) -> u64
+    requires { CanWrite format1.parts 48 batch.now.stamp batch.now.numbers.now
+        batch.now.bytes.now p }
+    ensures offset { result ≡ format1.offset (length batch.now.numbers.now) p }
+    ensures sector { sector.new ≡ format1.part batch.now.stamp
+        (entries_of batch.now.numbers.now batch.now.bytes.now) p }
 {
-    let count = numbers.len();
+    let (stamp, count) = (batch.stamp, batch.numbers.len());
     if p < 1 {
-        Descriptor::new(stamp, numbers).write_to(sector);
+        Descriptor::new(stamp, batch.numbers).write_to(sector);
         0
     } else if p < count + 1 {
-        write_block(bytes, p - 1, sector);
+        write_block(batch.bytes, p - 1, sector);
         FIRST_DATA + (p - 1) as u64
     } else {
         let count = count as u64;
