@@ -17,8 +17,8 @@ const CHANGEABLE: u8 = 1;
 /// The default values of a page, as a page control.
 const DEFAULT: u8 = 2;
 
-/// The code of the caching mode page.
-const CACHING: u8 = 0x08;
+/// The code of the caching mode page (SBC-3, caching mode page).
+pub const CACHING: u8 = 0x08;
 
 /// The page code that asks for all pages.
 const ALL_PAGES: u8 = 0x3f;

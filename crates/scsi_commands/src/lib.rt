@@ -19,7 +19,7 @@ mod inquiry;
 mod laws;
 mod waiting;
 
-pub use caching::{mode_select, mode_sense};
+pub use caching::{CACHING, mode_select, mode_sense};
 pub use codes::Sense;
 pub use decode::{operation_code, parse};
 pub use identification::Identity;

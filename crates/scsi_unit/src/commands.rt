@@ -1,9 +1,8 @@
 //! Commands, each by its own function.
 ghost use Rattle.std.specs.Prelude.{◌≡◌, ◌≤◌, ◌*◌, ℕ, List, [], length};
-ghost use Rattle.std.specs.Prelude.{take, min, unwrap_or, IfOk, Ok};
+ghost use Rattle.std.specs.Prelude.{◌<◌, take, min, unwrap_or, IfOk, Ok};
 ghost use Rattle.spec.specs.FixedSense.{fixed_sense};
 ghost use Rattle.spec.specs.Waiting.{reported, after_report};
-ghost use Rattle.scsi_commands.specs.Supported.{HasModePage};
 ghost use Rattle.spec.specs.Inquiry.{inquiry_data, inquiry_size};
 ghost use Rattle.spec.specs.ModePage.{mode_data};
 ghost use Rattle.spec.specs.Capacity.{capacity_10, capacity_16};
@@ -20,7 +19,7 @@ use crate::Unit;
 use crate::checks::BLOCK;
 use byteorder::{BigEndian, ByteOrder};
 use medium::Medium;
-use scsi_commands::{Command, Sense, mode_sense};
+use scsi_commands::{CACHING, Command, Sense, mode_sense};
 
 // Sends data, of which an allocation length cuts what is behind it.
 fn send(bytes: &[u8], allocation: usize, out: &mut [u8]) -> usize
@@ -116,10 +115,9 @@ impl<M: Medium> Unit<M> {
             Command::ModeSelect { length } => silent(self.select(length, taken)),
             Command::ModeSense {
                 control,
-                page,
-                subpage,
                 allocation,
-            } => self.sense_mode(control, page, subpage, allocation, out),
+                ..
+            } => Ok(self.sense_mode(control, allocation, out)),
             Command::ReadCapacity10 => Ok(send(&capacity_10(self.store.blocks()), 8, out)),
             Command::ReadCapacity16 { allocation } => {
                 Ok(send(&capacity_16(self.store.blocks()), allocation as usize, out))
@@ -162,23 +160,16 @@ impl<M: Medium> Unit<M> {
         send(&bytes[..size], usize::from(allocation), out)
     }
 
-    // MODE SENSE: the caching mode page.
-    fn sense_mode(
-        &self,
-        control: u8,
-        page: u8,
-        subpage: u8,
-        allocation: u8,
-        out: &mut [u8],
-    ) -> Result<usize, Sense>
-        requires there { HasModePage control page subpage }
+    // MODE SENSE: the caching mode page, which is all pages too.
+    fn sense_mode(&self, control: u8, allocation: u8, out: &mut [u8]) -> usize
+        requires not_saved { control < 3 }
         requires room { min allocation 24 ≤ length out.old }
-        ensures size { result ≡ Ok (min allocation 24) }
-        ensures sent { IfOk result (λ sent. take sent out.new
-            ≡ take allocation (mode_data control self.now.write_cache)) }
+        ensures size { result ≡ min allocation 24 }
+        ensures sent { take result out.new
+            ≡ take allocation (mode_data control self.now.write_cache) }
     {
         let mut bytes = [0; 24];
-        mode_sense(control, page, subpage, self.write_cache, &mut bytes)?;
-        Ok(send(&bytes, usize::from(allocation), out))
+        let size = mode_sense(control, CACHING, 0, self.write_cache, &mut bytes).unwrap_or(0);
+        send(&bytes[..size], usize::from(allocation), out)
     }
 }

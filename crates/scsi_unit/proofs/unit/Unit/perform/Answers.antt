@@ -40,9 +40,8 @@ returns-in-RequestSense-clause-performs g c =
 
 pub returns-in-ModeSense-clause-performs : goal.returns-in-ModeSense-clause-performs
 returns-in-ModeSense-clause-performs g c =
-    let told = rw c.sense_mode.ensures.size at c.sense_mode.ensures.sent in
-    rw (c.in-ModeSense.is, c.sense_mode.ensures.size)
-    (by_table (g.met.M.Medium.sound _) refl refl refl (λ book fits. grind (arith, told)))
+    let told = c.sense_mode.ensures.sent in
+    rw c.in-ModeSense.is (by_table (g.met.M.Medium.sound _) refl refl refl (λ book fits. grind (arith, told)))
 
 pub returns-in-ReadCapacity10-clause-performs : goal.returns-in-ReadCapacity10-clause-performs
 returns-in-ReadCapacity10-clause-performs g c =
@@ -77,8 +76,8 @@ returns-in-Inquiry-clause-sends g c =
 
 pub returns-in-ModeSense-clause-sends : goal.returns-in-ModeSense-clause-sends
 returns-in-ModeSense-clause-sends g c =
-    rw (c.in-ModeSense.is, c.sense_mode.ensures.size)
-    (data_sent _ c.args.self.now (Ok _) refl (omega arith) (g.met.M.Medium.follows_itself _))
+    rw c.in-ModeSense.is
+    (data_sent _ c.args.self.now (Ok c.sense_mode.result) c.sense_mode.ensures.size (omega arith) (g.met.M.Medium.follows_itself _))
 
 pub returns-in-ReadCapacity10-clause-sends : goal.returns-in-ReadCapacity10-clause-sends
 returns-in-ReadCapacity10-clause-sends g c =
