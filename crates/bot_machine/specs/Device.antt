@@ -2,6 +2,7 @@
 use Rattle.std.specs.Prelude.{ℕ}
 use Rattle.spec.specs.{Lives.Presentation, Identification.Identification}
 use Rattle.spec.specs.{declared.packet_size.PacketSize.PacketSize, Packets.bytes_of}
+use Rattle.bot_machine.specs.declared.lives.lifetimes.DiskSetup.{DiskSetup}
 pub use Rattle.scsi_unit.specs.declared.retiring.Retiring.{Retiring}
 pub use Rattle.scsi_unit.specs.declared.retiring.Retiring.TheVariants.{Late, Ahead, Kept}
 
@@ -25,3 +26,7 @@ device_by identity size retiring = record {
 -- one that retires late
 abbrev pub device_of : Identification → PacketSize → Device
 device_of identity size = device_by identity size Late
+
+-- one that is started with these
+abbrev pub device_with : DiskSetup → Device
+device_with setup = device_by setup.identity setup.size setup.retiring

@@ -26,7 +26,7 @@ pub use command::{CbwFault, read_cbw};
 pub use disk::Disk;
 pub use event::{InAnswer, OutAnswer, SetupAnswer};
 pub use laws::{book_laws, policy_laws};
-pub use lives::{Life, Lives, run_lives, run_lives_by, run_lives_with};
+pub use lives::{DiskSetup, Life, Lives, run_lives, run_lives_by, run_lives_with};
 pub use run::{answer_to, run_events};
 pub use scsi_unit::{HomeSectors, Identity, Retiring, StartError, StartFault, Work};
 pub use spec::{Answer, Case, Cbw, Endpoint, Event, Outcome, PacketSize, Status, Way};

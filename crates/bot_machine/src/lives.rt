@@ -16,7 +16,7 @@ mod lifetimes;
 use crate::lives::disk_state::DiskState;
 use crate::{Identity, Retiring, StartError, StartFault};
 pub use life::Life;
-pub use lifetimes::{run_lives, run_lives_by, run_lives_with};
+pub use lifetimes::{DiskSetup, run_lives, run_lives_by, run_lives_with};
 use medium::{Kept, SimMedium};
 use spec::{Answer, Event, PacketSize};
 use std::alloc::Global;

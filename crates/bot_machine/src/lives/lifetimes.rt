@@ -4,7 +4,7 @@ ghost use Rattle.std.specs.Prelude.{MatchOption};
 ghost use Rattle.medium.specs.Sim.{IsFused};
 ghost use Rattle.spec.specs.declared.event.Answer.{Answer};
 ghost use Rattle.spec.specs.Lives.{plays};
-ghost use Rattle.bot_machine.specs.Device.{device_by, device_of};
+ghost use Rattle.bot_machine.specs.Device.{device_of, device_with};
 ghost use Rattle.bot_machine.specs.Fitting.{AreWithin};
 ghost use Rattle.spec.specs.Packets.{bytes_of};
 ghost use Rattle.spec.specs.declared.packet_size.PacketSize.TheVariants.{High512};
@@ -21,6 +21,17 @@ use crate::{Identity, Retiring, StartError, StartFault};
 use medium::SimMedium;
 use spec::{Event, PacketSize};
 use std::alloc::Global;
+
+/// What a disk is started with.
+#[derive(Drop)]
+pub struct DiskSetup {
+    /// What it tells of itself.
+    pub identity: Identity,
+    /// The size of its packets.
+    pub size: PacketSize,
+    /// When it retires its records.
+    pub retiring: Retiring,
+}
 
 /// Lives a disk's lives with packets of at most 512 bytes (high speed): see `run_lives_with`. The
 /// power of the medium is on, nothing is unflushed and no fuse is armed, and each event has room
@@ -82,15 +93,12 @@ pub fn run_lives_with(
         × Appends told answers.old answers.new
         × AreLivedUpTo medium (device_of identity size) lives.now told error.fault error.medium) }
 {
-    run_lives_by(
-        alloc,
-        medium,
+    let setup = DiskSetup {
         identity,
         size,
-        Retiring::Late,
-        lives,
-        answers,
-    )
+        retiring: Retiring::Late,
+    };
+    run_lives_by(alloc, medium, setup, lives, answers)
 }
 
 /// Lives a disk's lives with packets of this size, which no packet of the events exceeds, and
@@ -107,28 +115,25 @@ pub fn run_lives_with(
 pub fn run_lives_by(
     alloc: Global,
     medium: SimMedium,
-    identity: Identity,
-    size: PacketSize,
-    retiring: Retiring,
+    setup: DiskSetup,
     lives: &[Life],
     answers: &mut Answers,
 ) -> Result<SimMedium, StartError<SimMedium>>
-    requires { AwaitsLivesWithin (bytes_of size) medium lives.now answers.old }
+    requires { AwaitsLivesWithin (bytes_of setup.size) medium lives.now answers.old }
     ensures promise { IfOk result (λ after. (told : List Answer)
         × Appends told answers.old answers.new
-        × KeepPromise medium (device_by identity size retiring) lives.now told after) }
+        × KeepPromise medium (device_with setup) lives.now told after) }
     ensures moves { IfOk result (λ after. (told : List Answer)
         × Appends told answers.old answers.new
-        × AreLived medium (device_by identity size retiring) lives.now told after) }
+        × AreLived medium (device_with setup) lives.now told after) }
     ensures promise_until { IfErr result (λ error. (told : List Answer)
         × Appends told answers.old answers.new
-        × KeepPromiseUpTo medium (device_by identity size retiring) lives.now told error.medium) }
+        × KeepPromiseUpTo medium (device_with setup) lives.now told error.medium) }
     ensures moves_until { IfErr result (λ error. (told : List Answer)
         × Appends told answers.old answers.new
-        × AreLivedUpTo medium (device_by identity size retiring) lives.now told error.fault
-        error.medium) }
+        × AreLivedUpTo medium (device_with setup) lives.now told error.fault error.medium) }
 {
-    let mut run = Lives::new_by(medium, identity, size, retiring);
+    let mut run = Lives::new_by(medium, setup.identity, setup.size, setup.retiring);
     for life in lives {
         if let Err(fault) = live(alloc, &mut run, life, answers) {
             return Err(StartError {

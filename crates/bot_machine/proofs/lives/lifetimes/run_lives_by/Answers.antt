@@ -1,12 +1,12 @@
 use Rattle.std.proofs.{Common.{◌≡◌, [], take, drop, suc, length, length-append, refl, sym, subst, ◌∙◌, ap, arith}, lemmas.List.take_all}
-use Rattle.bot_machine.specs.{declared.lives.disk_state.DiskState.TheVariants.Stopped, Answers.Room, Device.device_by}
+use Rattle.bot_machine.specs.{declared.lives.disk_state.DiskState.TheVariants.Stopped, Answers.Room, Device.device_with}
 use Rattle.bot_machine.specs.{LivesValue.LivesValue, Lifetimes.{actions_of, actions_of_all, events_in, AppendsFor}}
 use Rattle.bot_machine.proofs.LifeRuns.{appends_on, none_yet, actions_more, events_more, room_left, apart, all_lived, lived_up_to}
 use Rattle.bot_machine.proofs.lives.lifetimes.run_lives_by.Goals as goal
 
 pub loop-life-init : goal.loop-life-init
 loop-life-init c =
-    let first : LivesValue = record { device = device_by c.args.identity c.args.size c.args.retiring; state = Stopped c.args.medium } in
+    let first : LivesValue = record { device = device_with c.args.setup; state = Stopped c.args.medium } in
     let answers = c.args.answers.now in
     record {
       run = subst (λ (x : LivesValue). AppendsFor first x answers answers [] 0) (sym c.new_by-run.ensures.value) (none_yet first answers);
@@ -39,7 +39,7 @@ returns-in-Err-clause-moves_until c =
       lived.told,
       c.in-Err.ensures.err.unanswered ∙ lived.appends,
       rw c.into_medium.ensures
-          (lived_up_to c.args.medium (device_by c.args.identity c.args.size c.args.retiring) awaits.rests awaits.unfused
+          (lived_up_to c.args.medium (device_with c.args.setup) awaits.rests awaits.unfused
           c.loop-life.run c.live.new.run lived.told lives (take i lives) (drop (suc i) lives) life c.in-Err.fault
           (apart lives i life c.loop-life-test.true c.life-item.is) lived.goes_on lived.one_each ended
           c.in-Err.ensures.err.cause c.in-Err.ensures.err.stops),
@@ -47,7 +47,7 @@ returns-in-Err-clause-moves_until c =
 
 pub loop-life-preserved : goal.loop-life-preserved
 loop-life-preserved c =
-    let first : LivesValue = record { device = device_by c.args.identity c.args.size c.args.retiring; state = Stopped c.args.medium } in
+    let first : LivesValue = record { device = device_with c.args.setup; state = Stopped c.args.medium } in
     let lives = c.args.lives.now in
     let i = c.loop-life.life-index in
     let life = c.life-item.result in
@@ -70,7 +70,7 @@ returns-clause-moves c =
       run.told,
       run.appends,
       rw c.into_medium-2.ensures
-          (all_lived c.args.medium (device_by c.args.identity c.args.size c.args.retiring) c.requires.awaits.rests c.requires.awaits.unfused
+          (all_lived c.args.medium (device_with c.args.setup) c.requires.awaits.rests c.requires.awaits.unfused
           c.loop-life.run run.told lives run.goes_on run.one_each ended),
     )
 
