@@ -1,21 +1,18 @@
 -- One event of the disk, wherever the device is: what a start finds of a book stays to be found.
-use Rattle.std.proofs.Common.{◌≡◌, ◌⊎◌, ◌≤◌, ◌++◌, ◌∷◌, [], inl, inr, ⊎_elim, List, ℕ, Bool, true, false, length, take, sym, ◌∙◌, ap}
-use Rattle.std.proofs.Common.{subst, arith, append_assoc, length-append, Some, None, Option}
-use Rattle.std.proofs.lemmas.Bool.{cases_lt, false≢true}
+use Rattle.std.proofs.Common.{◌≡◌, ◌⊎◌, ◌≤◌, ◌++◌, ◌∷◌, [], inl, inr, ⊎_elim, List, ℕ, Bool, true, false, length, take, sym, ◌∙◌, ap, subst}
+use Rattle.std.proofs.{Common.{arith, append_assoc, length-append, Some, None, Option}, lemmas.Bool.{cases_lt, false≢true}}
 use Rattle.std.proofs.lemmas.List.{take-append-le, append-nil}
 use Rattle.medium.specs.Medium.{Image, CutLeaves}
-use Rattle.window.specs.{Device.{durable, after}, OutboxMedium.sent, Parts.AreCarriedOut, Story.given, declared.call.DeviceCall.DeviceCall}
-use Rattle.window.specs.{Window.{state_of, mirror_of}, declared.asked.Asked.Asked}
 use Rattle.spec.specs.{Blocks.Write, Book.Book, Conversation.Conversation, Rules.UnitState, UnitConversation.{UnitStep, write_of_event}}
-use Rattle.spec.specs.{declared.event.Event.Event, declared.event.Answer.Answer}
+use Rattle.spec.specs.declared.event.{Event.Event, Answer.Answer}
+use Rattle.window.specs.{Device.{durable, after}, OutboxMedium.sent, Parts.AreCarriedOut, Story.given, declared.call.DeviceCall.DeviceCall}
+use Rattle.window.specs.{declared.asked.Asked.Asked, Window.{state_of, mirror_of}}
 use Rattle.scsi_unit.specs.{Background.Work, Books.{MayFind, FoundWith}, Laws.IsSameLife}
-use Rattle.scsi_unit.specs.Serving as serving
-use Rattle.bot_machine.specs.{Disk.{FitsDisk, over}, Promising.PromisesNone, BookLaws.GrowsBy}
-use Rattle.bot_machine.proofs.BookLaws.{book_laws}
+use Rattle.bot_machine.{specs.{Disk.{FitsDisk, over}, Promising.PromisesNone, BookLaws.GrowsBy}, proofs.BookLaws.book_laws}
 use Rattle.disk_machine.specs.{Plays.{medium_of, PlaysBy}, Machine.{Machine, MayLeave, Finds, Keeps, has_refused, under_way, carried}}
-use Rattle.disk_machine.specs.{Machine.promising, Moves.ServesEvent}
+use Rattle.disk_machine.{specs.{Machine.promising, Moves.ServesEvent}, proofs.Handing.KeepsAll}
+use Rattle.scsi_unit.specs.Serving as serving
 use Rattle.disk_machine.specs.declared.waiting.Waiting.TheVariants as waiting
-use Rattle.disk_machine.proofs.Handing.{KeepsAll}
 
 -- ---- what may be found, from book to book
 

@@ -1,17 +1,16 @@
 -- A machine whose disk is as it was but for its medium: calls leave the outbox, and are under way.
-use Rattle.std.proofs.Common.{◌≡◌, ◌⊎◌, ℕ, sym, ◌∙◌, ap, subst, inl, inr, arith, ◌≤◌, length, List}
-use Rattle.std.proofs.Common.{refl}
-use Rattle.window.specs.{Window.{state_of, Window}, declared.call.DeviceCall.DeviceCall, declared.call.DeviceCall.TheVariants.Flush}
-use Rattle.window.specs.{declared.ask.DeviceRead.DeviceRead, declared.ask.DeviceAsk.DeviceAsk, declared.asked.Asked.Asked}
+use Rattle.std.proofs.Common.{◌≡◌, ◌⊎◌, ℕ, sym, ◌∙◌, ap, subst, inl, inr, arith, ◌≤◌, length, List, refl}
 use Rattle.spec.specs.{Book.Book, Rules.UnitState}
-use Rattle.scsi_unit.specs.UnitValue.{state_of as unit_state}
+use Rattle.window.specs.{Window.{state_of, Window}, declared.{call.DeviceCall.{TheVariants.Flush, DeviceCall}, ask.DeviceRead.DeviceRead}}
+use Rattle.window.specs.declared.{ask.DeviceAsk.DeviceAsk, asked.Asked.Asked}
 use Rattle.scsi_unit.specs.Background.{is_dead}
 use Rattle.bot_machine.specs.Disk.{FitsDisk, IsRearmed}
 use Rattle.disk_machine.specs.{Plays.{Disk, medium_of, layout_on}, Room.room_for, Machine.{Machine, Finds, Keeps, IsCaughtUp, has_refused}}
 use Rattle.disk_machine.specs.{Machine.{carried, under_way}, Moves.{ServesAtRest, LeavesNoMore, WaitsForDevice, StaysSafe, is_behind}}
 use Rattle.disk_machine.specs.{Asking.{AsksFor, HandsOut}, Refused.KeepsRest, declared.lack.Lack.Lack}
-use Rattle.disk_machine.specs.declared.waiting.Waiting.TheVariants as waiting
 use Rattle.store_calls.proofs.{Handing.{run_waits, some_first, some_go, taken_by}, Standing.{IsSentStill, same_sent}}
+use Rattle.scsi_unit.specs.UnitValue.{state_of as unit_state}
+use Rattle.disk_machine.specs.declared.waiting.Waiting.TheVariants as waiting
 use Rattle.window.specs.declared.ask.DeviceAsk.TheVariants as ask
 use Rattle.window.specs.declared.asked.Asked.TheVariants as asked
 

@@ -1,23 +1,20 @@
 -- What the device was asked for has ended.
-use Rattle.std.proofs.Common.{◌≡◌, ◌≢◌, ◌⊎◌, ◌≤◌, ◌/◌, inl, inr, [], List, ℕ, Bool, true, false, length, refl, sym, ◌∙◌}
-use Rattle.std.proofs.Common.{ap, subst, arith}
-use Rattle.std.specs.Prelude.{Result}
-use Rattle.std.proofs.lemmas.Bool.{false≢true}
-use Rattle.window.specs.{declared.call.DeviceCall.DeviceCall, Window.{Window, state_of, moved, device_so_far}}
-use Rattle.window.specs.{declared.ask.DeviceRead.DeviceRead, declared.asked.Asked.Asked, declared.done_fault.DoneFault.DoneFault}
+use Rattle.std.proofs.Common.{◌≡◌, ◌≢◌, ◌⊎◌, ◌≤◌, ◌/◌, inl, inr, [], List, ℕ, Bool, true, false, length, refl, sym, ◌∙◌, ap, subst, arith}
+use Rattle.std.{proofs.lemmas.Bool.false≢true, specs.Prelude.Result}
 use Rattle.medium.specs.Inlet.{AreHeld}
 use Rattle.spec.specs.Book.{Book}
-use Rattle.scsi_unit.specs.UnitValue.{state_of as unit_state}
-use Rattle.store_calls.specs.Outbox.{without}
+use Rattle.window.specs.declared.{call.DeviceCall.DeviceCall, ask.DeviceRead.DeviceRead, asked.Asked.Asked, done_fault.DoneFault.DoneFault}
+use Rattle.window.specs.Window.{Window, state_of, moved, device_so_far}
+use Rattle.store_calls.{specs.Outbox.without, proofs.{Handing.{some_go, taken_by}, Standing.IsSentStill}}
 use Rattle.disk_machine.specs.{Plays.{Disk, medium_of, layout_on, Sees}, Room.room_for, Asking.{counted, waits_behind, read_over}}
 use Rattle.disk_machine.specs.{Asking.{IsGivenUp, IsShownTo, IsDone, IsHonest}, Machine.{Machine, has_refused, under_way, carried}}
-use Rattle.disk_machine.specs.{Moves.{ServesAtRest, StaysSafe, is_behind}, declared.waiting.Waiting.Waiting}
+use Rattle.disk_machine.{specs.{Moves.{ServesAtRest, StaysSafe, is_behind}, declared.waiting.Waiting.Waiting}, proofs.Handing.Stands}
+use Rattle.disk_machine.proofs.Handing.{keeps_all, stays_safe, leaves_no_more, sent_stands, stays, same_safe, read_behind}
+use Rattle.disk_machine.proofs.Events.{finds_same}
 use Rattle.scsi_unit.specs.Background.{is_dead}
+use Rattle.scsi_unit.specs.UnitValue.{state_of as unit_state}
 use Rattle.window.specs.declared.asked.Asked.TheVariants as asked
 use Rattle.disk_machine.specs.declared.waiting.Waiting.TheVariants as waiting
-use Rattle.disk_machine.proofs.{Handing.{Stands, keeps_all, stays_safe, leaves_no_more, sent_stands, stays, same_safe, read_behind}}
-use Rattle.disk_machine.proofs.{Events.finds_same}
-use Rattle.store_calls.proofs.{Handing.{some_go, taken_by}, Standing.IsSentStill}
 
 -- ---- calls are carried out
 

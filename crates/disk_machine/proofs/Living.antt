@@ -1,28 +1,24 @@
 -- A life is served on through all calls, and what is said in them is by the rules.
 use Rattle.std.proofs.Common.{◌≡◌, ◌++◌, inl, inr, [], ◌∷◌, List, ℕ, zero, suc, Bool, true, false, refl, ap, subst, ◌⊎◌, ◌*◌, ◌≤◌, sym, ◌∙◌}
-use Rattle.std.proofs.Common.{arith, append_assoc, drop}
-use Rattle.std.specs.Prelude.{Result}
-use Rattle.window.specs.{declared.ask.DeviceAsk.DeviceAsk, declared.done_fault.DoneFault.DoneFault, declared.asked.Asked.Asked}
-use Rattle.window.specs.declared.ask.DeviceAsk.TheVariants as ask
+use Rattle.std.{proofs.{Common.{arith, append_assoc, drop}, lemmas.{Bool.cases_Bool, List.append-nil}}, specs.Prelude.Result}
 use Rattle.spec.specs.{Book.Book, Conversation.Conversation, Rules.UnitState, Blocks.Write, UnitConversation.write_of_event}
-use Rattle.spec.specs.{declared.event.Event.Event, declared.event.Answer.Answer}
-use Rattle.spec.specs.declared.event.Event.TheVariants as event
-use Rattle.spec.specs.declared.event.Answer.TheVariants as answer
+use Rattle.spec.specs.declared.event.{Event.Event, Answer.Answer}
+use Rattle.window.specs.declared.{ask.DeviceAsk.DeviceAsk, done_fault.DoneFault.DoneFault, asked.Asked.Asked}
 use Rattle.bot_machine.specs.{Disk.over, Faulting.faulted_over, PacketRuns.packet_of}
 use Rattle.scsi_unit.specs.Background.{Work, Settle, Ahead, WriteBack}
 use Rattle.disk_machine.specs.{Plays.{Disk, StepsWhile}, Asking.{AsksFor, IsDone}, Machine.{Machine, Serves, has_refused}, Turns.Turn}
-use Rattle.disk_machine.specs.{Turns.{played, refusal, TurnsRun, TurnsAreRun, turns_done, ticks, turns_one, turns_in, turns_ahead}}
-use Rattle.disk_machine.specs.{Turns.{turns_idle, turns_taken, turns_not_taken, turns_before, turns_of_taking, turns_at, turns_sent}}
+use Rattle.disk_machine.specs.Turns.{played, refusal, TurnsRun, TurnsAreRun, turns_done, ticks, turns_one, turns_in, turns_ahead}
+use Rattle.disk_machine.specs.Turns.{turns_idle, turns_taken, turns_not_taken, turns_before, turns_of_taking, turns_at, turns_sent}
 use Rattle.disk_machine.specs.{Turns.{turns_last, turns_of_sending, turns_into}, Ahead.LooksAhead, Idling.{HasGoneAhead, HasStepped}}
-use Rattle.disk_machine.specs.{Lives.{Call, next, done, bulk_out, bulk_in, take_transfer, send_transfer, setup, idle, work_ahead}}
-use Rattle.disk_machine.specs.{Lives.{look_ahead, IsMade, turns_of, ServesLater, ServesThroughout}, Moves.{ServesOn, ServesEvent}}
-use Rattle.disk_machine.specs.{Moves.ServesToken, Packets.{TakesOne, SendsIn}, PuttingOff.{WaitsForSteps, WaitsForCalls}}
-use Rattle.disk_machine.specs.{Transfers.{TakesFirst, EndsTaking, TakesTransfer, SendsAt, SendsFirst, EndsSending}}
-use Rattle.disk_machine.specs.{Transfers.{SendsTransfer, SendsInto}}
-use Rattle.window.specs.declared.asked.Asked.TheVariants as asked
+use Rattle.disk_machine.specs.Lives.{Call, next, done, bulk_out, bulk_in, take_transfer, send_transfer, setup, idle, work_ahead, look_ahead}
+use Rattle.disk_machine.specs.{Lives.{IsMade, turns_of, ServesLater, ServesThroughout}, Moves.{ServesOn, ServesEvent, ServesToken}}
+use Rattle.disk_machine.specs.{Packets.{TakesOne, SendsIn}, PuttingOff.{WaitsForSteps, WaitsForCalls}, Transfers.{TakesFirst, EndsTaking}}
+use Rattle.disk_machine.specs.Transfers.{TakesTransfer, SendsAt, SendsFirst, EndsSending, SendsTransfer, SendsInto}
 use Rattle.disk_machine.proofs.{Playing.{with_disk, steps_go_on, tick_serves}, Events.{opening_stays, some_since, writes_grow}}
-use Rattle.std.proofs.lemmas.Bool.{cases_Bool}
-use Rattle.std.proofs.lemmas.List.{append-nil}
+use Rattle.window.specs.declared.ask.DeviceAsk.TheVariants as ask
+use Rattle.spec.specs.declared.event.Event.TheVariants as event
+use Rattle.spec.specs.declared.event.Answer.TheVariants as answer
+use Rattle.window.specs.declared.asked.Asked.TheVariants as asked
 
 -- ---- turns, one after the other, by the rules
 

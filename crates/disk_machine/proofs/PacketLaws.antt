@@ -1,19 +1,17 @@
 -- A packet that is put off comes to be taken, as each step that writes leaves fewer of them; and the packets of a transfer, one by one.
-use Rattle.std.specs.Prelude.{Some}
-use Rattle.std.proofs.Common.{◌≡◌, ◌⊎◌, ◌<◌, ◌≤◌, ◌+◌, ◌∙◌, ℕ, zero, suc, Bool, true, false, List, [], inl, inr, ap, sym, subst, arith, ◌-◌}
-use Rattle.std.proofs.Common.{◌*◌, ◌/◌, ◌++◌, length, take, drop, min, add-one, length-drop}
+use Rattle.std.{specs.Prelude.Some, proofs.Common.{◌≡◌, ◌⊎◌, ◌<◌, ◌≤◌, ◌+◌, ◌∙◌, ℕ, zero, suc, Bool, true, false, List, [], inl, inr, ap}}
+use Rattle.std.proofs.{Common.{sym, subst, arith, ◌-◌, ◌*◌, ◌/◌, ◌++◌, length, take, drop, min, add-one, length-drop}, lemmas.List.take_min}
+use Rattle.std.proofs.{lemmas.List.{take_all, drop_all, append-nil, length-take}, Math.Nat.{mul-le-mul_right, div-mul-le_self}}
 use Rattle.spec.specs.{Book.Book, Rules.checked, declared.event.Answer.Answer}
-use Rattle.spec.specs.declared.event.Event.TheVariants as event
-use Rattle.spec.specs.declared.event.Answer.TheVariants as answer
 use Rattle.scsi_unit.specs.{Background.{Work, Settle, Ahead, WriteBack, TellsWork, is_dead, steps_left}, UnitValue.IsOfSize}
-use Rattle.bot_machine.specs.{Disk.over, PacketRuns.packet_of, Promising.PromisesNone}
-use Rattle.bot_machine.proofs.UnitLaws.{ahead_fewer, both_empty, plain_quiet}
+use Rattle.bot_machine.{specs.{Disk.over, PacketRuns.packet_of, Promising.PromisesNone}, proofs.UnitLaws.{ahead_fewer, both_empty}}
+use Rattle.bot_machine.proofs.UnitLaws.{plain_quiet}
 use Rattle.window.specs.Window.{state_of}
 use Rattle.disk_machine.specs.{Plays.{Disk, medium_of, PlaysBy, StepsWhile}, Refusals.{HasWritten, IsQuietPacket}, PuttingOff.MayGoOn}
 use Rattle.disk_machine.specs.{PuttingOff.{TellsNext, WritesOn}, Codes.code_of, Machine.Machine, Packets.{TakesOne, TakesOut, SendsIn}}
-use Rattle.disk_machine.specs.{Transfers.{HasPacket, TakesFirst, SendsFirst}}
-use Rattle.std.proofs.lemmas.List.{take_min, take_all, drop_all, append-nil, length-take}
-use Rattle.std.proofs.Math.Nat.{mul-le-mul_right, div-mul-le_self}
+use Rattle.disk_machine.specs.Transfers.{HasPacket, TakesFirst, SendsFirst}
+use Rattle.spec.specs.declared.event.Event.TheVariants as event
+use Rattle.spec.specs.declared.event.Answer.TheVariants as answer
 use borrow.Rule.Slice.PartMut.{put_mid}
 
 -- a store that lives behind a step lived before it

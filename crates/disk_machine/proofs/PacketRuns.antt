@@ -1,24 +1,20 @@
 -- Packets in the midst of data, many at once, are so many one by one.
-use Rattle.std.proofs.Common.{◌≡◌, ◌<◌, ◌≤◌, ◌+◌, ◌-◌, ◌*◌, ◌/◌, ◌++◌, ◌∙◌, ℕ, zero, suc, List, length, take, drop, inl, inr}
-use Rattle.std.proofs.Common.{ap, sym, refl, arith, false, Bool, true, length-append, length-drop, append_assoc}
-use Rattle.std.proofs.lemmas.List.{length-take, take_at, drop-drop, take-append-drop}
-use Rattle.std.proofs.lemmas.Bool.{false≢true, cases_lt}
-use Rattle.std.proofs.Math.{Seq.{take-add, drop-append_seam}, Nat.{zero-div, div-zero, div-mul-le_self, mul-le-mul_right}}
+use Rattle.std.proofs.Common.{◌≡◌, ◌<◌, ◌≤◌, ◌+◌, ◌-◌, ◌*◌, ◌/◌, ◌++◌, ◌∙◌, ℕ, zero, suc, List, length, take, drop, inl, inr, ap, sym, refl}
+use Rattle.std.proofs.{Common.{arith, false, Bool, true, length-append, length-drop, append_assoc}, lemmas.List.{length-take, take_at}}
+use Rattle.std.proofs.{lemmas.{List.{drop-drop, take-append-drop}, Bool.{false≢true, cases_lt}}, Math.Seq.{take-add, drop-append_seam}}
+use Rattle.std.proofs.Math.Nat.{zero-div, div-zero, div-mul-le_self, mul-le-mul_right}
+use Rattle.spec.specs.{Exchange.{Line, Script, finished, taking, sending, after_in}, Book.Book, declared.{case.Case.Case, wrapper.Cbw.Cbw}}
+use Rattle.spec.specs.declared.{way.Way.Way, event.Answer.TheVariants.{Ack, Data}}
 use Rattle.window.specs.{Window.state_of, WindowLaws.{is_sound, comes_after_itself}}
-use Rattle.spec.specs.Exchange.{Line, Script, finished, taking, sending, after_in}
-use Rattle.spec.specs.Book.{Book}
-use Rattle.spec.specs.{declared.case.Case.Case, declared.wrapper.Cbw.Cbw, declared.way.Way.Way}
+use Rattle.bot_machine.specs.{Acts.EventCarriesOut, Disk.over, PacketRuns.{packets_amid, packet_of, after_tokens, after_first, after_more}}
+use Rattle.bot_machine.{specs.PacketRuns.{GivesRun, TakesRun}, proofs.PacketRuns.{within, amid, more_taken, none_carried, left_behind}}
+use Rattle.disk_machine.specs.{Plays.{Disk, medium_of, Foresees}, Machine.Machine, Moves.ServesAtRest, Packets.{HoldsBack, PlaysOut}}
+use Rattle.disk_machine.specs.{Packets.{SendsIn, TakesOut}, Refusals.IsQuietPacket, Wanted.WantsNone, Transfers.{HasPacket, SendsAmid}}
+use Rattle.disk_machine.{specs.Transfers.{SendsAt, SendsFirst, TakesAmid, TakesFirst}, proofs.{Rooms.{played, taken}, Playing.out_serves}}
+use Rattle.disk_machine.proofs.Playing.{sends_on}
 use Rattle.spec.specs.declared.event.Event.TheVariants as event
-use Rattle.spec.specs.declared.event.Answer.TheVariants.{Ack, Data}
-use Rattle.bot_machine.specs.{Acts.EventCarriesOut, Disk.over}
-use Rattle.bot_machine.specs.PacketRuns.{packets_amid, packet_of, after_tokens, after_first, after_more, GivesRun, TakesRun}
-use Rattle.bot_machine.proofs.PacketRuns.{within, amid, more_taken, none_carried, left_behind}
-use Rattle.disk_machine.specs.{Plays.{Disk, medium_of, Foresees}, Machine.Machine, Moves.ServesAtRest}
-use Rattle.disk_machine.specs.{Packets.{HoldsBack, PlaysOut, SendsIn, TakesOut}, Refusals.IsQuietPacket, Wanted.WantsNone}
-use Rattle.disk_machine.specs.Transfers.{HasPacket, SendsAmid, SendsAt, SendsFirst, TakesAmid, TakesFirst}
 use Rattle.disk_machine.specs.declared.waiting.Waiting.TheVariants as waiting
 use Rattle.disk_machine.specs.declared.lack.Lack.TheVariants as lack
-use Rattle.disk_machine.proofs.{Rooms.{played, taken}, Playing.{out_serves, sends_on}}
 
 -- ---- from Bulk-In
 

@@ -1,23 +1,22 @@
 -- Packets, tokens, requests and steps, wherever the device is, and what they keep.
 use Rattle.std.proofs.Common.{◌≡◌, ◌≢◌, ◌⊎◌, inl, inr, ◌++◌, ◌&&◌, List, ℕ, Bool, true, length, ◌∙◌, ap, arith, [], zero, suc, false, refl}
 use Rattle.std.proofs.Common.{sym, rules}
+use Rattle.spec.specs.{declared.event.{Event.Event, Answer.Answer}, Book.Book, Conversation.Conversation, Rules.{UnitState, Ticks}}
+use Rattle.spec.specs.UnitConversation.{UnitStep}
 use Rattle.journal.specs.Places.{Shape}
-use Rattle.window.specs.{Story.given, declared.call.DeviceCall.DeviceCall, declared.asked.Asked.Asked, Window.{Window, state_of}}
-use Rattle.spec.specs.{declared.event.Event.Event, declared.event.Answer.Answer, Book.Book, Conversation.Conversation, Rules.UnitState}
-use Rattle.spec.specs.{Rules.Ticks, UnitConversation.UnitStep}
+use Rattle.window.specs.{Story.given, declared.{call.DeviceCall.DeviceCall, asked.Asked.Asked}, Window.{Window, state_of}}
 use Rattle.scsi_unit.specs.{Background.{Work, Settle, Ahead, WriteBack}, Calls.SendsOneBatch}
 use Rattle.disk_machine.specs.{Plays.{medium_of, PlaysBy, Disk, Plays, SendsPacket, AnswersRequest, StepsWhile}, Room.room_for}
 use Rattle.disk_machine.specs.{Machine.{Machine, under_way, Serves, has_refused}, Moves.{KeepsGoing, HasRoomBeside, WaitsForDevice}}
 use Rattle.disk_machine.specs.{Moves.{LeavesNoMore, is_behind, ServesAtRest, ServesOn, ServesEvent, ServesToken}, Packets.PlaysOut}
 use Rattle.disk_machine.specs.{Packets.{waits_for, SendsIn, AnswersSetup, ServesOut}, declared.waiting.Waiting.Waiting, Refusals.HasRoomFor}
-use Rattle.disk_machine.specs.{Idling.{HasGoneAhead, HasStepped}, PuttingOff.IsReady}
-use Rattle.disk_machine.specs.declared.waiting.Waiting.TheVariants as waiting
+use Rattle.disk_machine.{specs.{Idling.{HasGoneAhead, HasStepped}, PuttingOff.IsReady}, proofs.Handing.{leaves_no_more, keeps_all}}
+use Rattle.disk_machine.proofs.{Rooms.none_sent_by, Events.serves_event}
 use Rattle.store_calls.proofs.Standing.{left_on, same_sent}
-use Rattle.disk_machine.proofs.{Handing.{leaves_no_more, keeps_all}, Rooms.none_sent_by, Events.serves_event}
+use Rattle.bot_machine.{specs.{Acts.{Acts, EventCarriesOut}, Disk.{FitsDisk, over}}, proofs.UnitLaws.fits_size}
+use Rattle.disk_machine.specs.declared.waiting.Waiting.TheVariants as waiting
 use Rattle.spec.specs.declared.event.Event.TheVariants as event
 use Rattle.spec.specs.declared.event.Answer.TheVariants as answer
-use Rattle.bot_machine.specs.{Acts.{Acts, EventCarriesOut}, Disk.{FitsDisk, over}}
-use Rattle.bot_machine.proofs.UnitLaws.{fits_size}
 
 -- ---- nothing waits for a device that is not behind
 

@@ -1,26 +1,21 @@
 -- The room of a disk is enough, and what is read is in sight; and why a start was refused.
-use Rattle.std.proofs.Common.{◌≡◌, ◌⊎◌, ◌<◌, ◌≤◌, ◌+◌, ◌++◌, [], ℕ, true, List, length, inl, inr, arith, refl, sym, ◌∙◌, ap, subst}
-use Rattle.std.proofs.Common.{false, length-append}
-use Rattle.std.specs.Prelude.{Option}
-use Rattle.std.specs.List.{list_all}
-use Rattle.std.proofs.lemmas.Bool.{cases_Bool, false≢true}
-use Rattle.std.proofs.lemmas.List.{append-nil, nil_from_length}
-use Rattle.journal.specs.{Places.Shape}
-use Rattle.medium.specs.{Sent.sent}
-use Rattle.medium.specs.declared.fault.MediumFault.TheVariants as kind
-use Rattle.window.specs.{Story.given, declared.call.DeviceCall.DeviceCall, Window.{Window, state_of, is_in_sight, ComesAfter}}
-use Rattle.window.specs.{Window.IsServed, WindowLaws.{is_sound, comes_after_itself}, Looks.{near_in_sight, none_refused, none_missed}}
-use Rattle.window.specs.{Looks.none_kept_out}
+use Rattle.std.proofs.Common.{◌≡◌, ◌⊎◌, ◌<◌, ◌≤◌, ◌+◌, ◌++◌, [], ℕ, true, List, length, inl, inr, arith, refl, sym, ◌∙◌, ap, subst, false}
+use Rattle.std.proofs.{Common.length-append, lemmas.{Bool.{cases_Bool, false≢true}, List.{append-nil, nil_from_length}}}
+use Rattle.std.specs.{Prelude.Option, List.list_all}
+use Rattle.medium.specs.Sent.{sent}
+use Rattle.spec.specs.{Book.{Book, opened}, Exchange.{in_answer, after_in}, declared.event.{Event.Event, Answer.Answer}}
+use Rattle.journal.specs.Places.{Shape}
+use Rattle.window.specs.{Story.given, declared.call.DeviceCall.DeviceCall, Window.{Window, state_of, is_in_sight, ComesAfter, IsServed}}
+use Rattle.window.specs.{WindowLaws.{is_sound, comes_after_itself}, Looks.{near_in_sight, none_refused, none_missed, none_kept_out}}
 use Rattle.scsi_unit.specs.{Background.Work, Calls.SendsOneBatch, Reading.ReadsBack, Starting.blocks_of, StartFaults.StartFault}
-use Rattle.spec.specs.{Book.{Book, opened}, Exchange.{in_answer, after_in}, declared.event.Event.Event, declared.event.Answer.Answer}
-use Rattle.bot_machine.proofs.OutPackets.{token}
-use Rattle.bot_machine.specs.{Device.Device, Disk.IsStepBy, Opening.{IsOpened, IsNotOpened, StartLeaves, LeavesMedium}, Reading.ReadsAt}
+use Rattle.bot_machine.{proofs.OutPackets.token, specs.{Device.Device, Disk.IsStepBy, Opening.{IsOpened, IsNotOpened, StartLeaves}}}
+use Rattle.bot_machine.specs.{Opening.LeavesMedium, Reading.ReadsAt}
+use Rattle.disk_machine.specs.{Plays.{Disk, medium_of, layout_on, Foresees, Plays, PlaysBy, EndsIn}, Refusals.{HasRoomFor, HasRoomOnce}}
+use Rattle.disk_machine.specs.{Refusals.{IsQuietPacket, MakesOneBatch, HoldsLog, KeepsBlocks, SeesHome, HoldsImageLog}, Room.room_for}
+use Rattle.store_calls.proofs.Served.{start_refuses}
+use Rattle.medium.specs.declared.fault.MediumFault.TheVariants as kind
 use Rattle.recovery.specs.declared.start_fault.StartFault.TheVariants as fault
 use Rattle.spec.specs.declared.event.Event.TheVariants as event
-use Rattle.disk_machine.specs.{Plays.{Disk, medium_of, layout_on, Foresees, Plays, PlaysBy, EndsIn}, Refusals.{HasRoomFor, HasRoomOnce}}
-use Rattle.disk_machine.specs.{Refusals.{IsQuietPacket, MakesOneBatch, HoldsLog, KeepsBlocks, SeesHome, HoldsImageLog}}
-use Rattle.disk_machine.specs.{Room.room_for}
-use Rattle.store_calls.proofs.Served.{start_refuses}
 use Rattle.store_calls.proofs.StartedStore as started
 
 -- a book of the disk's size

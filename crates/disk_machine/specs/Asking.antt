@@ -3,14 +3,13 @@ use Rattle.std.specs.Prelude.{◌≡◌, ◌≢◌, ◌⊎◌, ℕ, ◌*◌, ◌
 use Rattle.std.specs.Prelude.{length, Option, Some, None, Result, Ok, Err, if◌then◌else◌, ◌||◌}
 use Rattle.medium.specs.Inlet.{AreHeld}
 use Rattle.window.specs.{OutboxMedium.first_of, declared.call.DeviceCall.DeviceCall}
-use Rattle.window.specs.{Window.device_so_far, declared.ask.DeviceRead.DeviceRead}
-use Rattle.window.specs.{declared.ask.DeviceAsk.DeviceAsk, declared.asked.Asked.Asked}
-use Rattle.window.specs.{declared.done_fault.DoneFault.DoneFault}
-use Rattle.window.specs.declared.call.DeviceCall.TheVariants as call
+use Rattle.window.specs.declared.ask.{DeviceRead.DeviceRead, DeviceAsk.DeviceAsk}
+use Rattle.window.specs.declared.{asked.Asked.Asked, done_fault.DoneFault.DoneFault}
+use Rattle.window.specs.Window.{device_so_far}
 use Rattle.store_calls.specs.Outbox.{without, IsLongestRun}
 use Rattle.disk_machine.specs.{Plays.{medium_of, Sees}, Refused.{IsRefused, KeepsRest}}
-use Rattle.disk_machine.specs.{Machine.Machine, declared.lack.Lack.Lack}
-use Rattle.disk_machine.specs.{declared.waiting.Waiting.Waiting}
+use Rattle.disk_machine.specs.{Machine.Machine, declared.{lack.Lack.Lack, waiting.Waiting.Waiting}}
+use Rattle.window.specs.declared.call.DeviceCall.TheVariants as call
 use Rattle.window.specs.declared.ask.DeviceAsk.TheVariants as ask
 use Rattle.window.specs.declared.asked.Asked.TheVariants as asked
 use Rattle.window.specs.declared.done_fault.DoneFault.TheVariants as fault

@@ -1,8 +1,8 @@
 -- The numbers that C sees.
 use Rattle.std.specs.Prelude.{ℕ, List, [], ◌∷◌}
 use Rattle.spec.specs.declared.event.Answer.{Answer}
-use Rattle.spec.specs.declared.event.Answer.TheVariants as answer
 use Rattle.scsi_unit.specs.StartFaults.{StartFault}
+use Rattle.spec.specs.declared.event.Answer.TheVariants as answer
 use Rattle.recovery.specs.declared.start_fault.StartFault.TheVariants as fault
 
 -- what the host is answered

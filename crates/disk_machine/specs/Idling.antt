@@ -1,6 +1,6 @@
 -- What a machine does in the background.
-use Rattle.std.specs.Prelude.{◌≡◌, ◌≢◌, ◌⊎◌, ◌↔◌, ℕ, zero, suc, ◌<◌, ◌≤◌, Bool, true, false}
-use Rattle.std.specs.Prelude.{[], length}
+use Rattle.std.specs.Prelude.{◌≡◌, ◌≢◌, ◌⊎◌, ◌↔◌, ℕ, zero, suc, ◌<◌, ◌≤◌, Bool, true, false, []}
+use Rattle.std.specs.Prelude.{length}
 use Rattle.window.specs.Window.{state_of}
 use Rattle.scsi_unit.specs.Background.{Work, Settle, Ahead, WriteBack, is_dead, steps_left}
 use Rattle.scsi_unit.specs.Background.{IsSettled}
@@ -8,7 +8,7 @@ use Rattle.bot_machine.specs.Turns.{owes_status}
 use Rattle.disk_machine.specs.{Plays.{Disk, medium_of, StepsWhile}, Machine.Machine, Moves.ServesOn}
 use Rattle.disk_machine.specs.{Moves.KeepsGoing, Packets.is_reading, PuttingOff.WritesOn}
 use Rattle.disk_machine.specs.{Refusals.HasWritten, declared.lack.Lack.Lack}
-use Rattle.disk_machine.specs.{declared.waiting.Waiting.Waiting}
+use Rattle.disk_machine.specs.declared.waiting.Waiting.{Waiting}
 use Rattle.window.specs.declared.asked.Asked.TheVariants as asked
 use Rattle.disk_machine.specs.declared.lack.Lack.TheVariants as lack
 use Rattle.disk_machine.specs.declared.waiting.Waiting.TheVariants as waiting

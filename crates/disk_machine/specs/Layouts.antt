@@ -2,9 +2,9 @@
 use Rattle.std.specs.Prelude.{◌≡◌, ◌⊎◌, ℕ, List}
 use Rattle.journal.specs.{Places.{Shape, first_home, sectors_of}, Sectors.{IsSuper, version_of}}
 use Rattle.journal.specs.{Sectors.IsSuperFault, declared.super_fault.SuperFault.SuperFault}
+use Rattle.disk_machine.specs.{Codes.number_of, declared.look.UsbDiskLayout.UsbDiskLayout}
 use Rattle.journal.specs.declared.super_fault.SuperFault.TheVariants as super
 use Rattle.recovery.specs.declared.start_fault.StartFault.TheVariants as fault
-use Rattle.disk_machine.specs.{Codes.number_of, declared.look.UsbDiskLayout.UsbDiskLayout}
 
 -- the numbers of a shape: its first home sector is that of the first sectors which go into memory
 pub record IsLayout (shape : Shape) (told : UsbDiskLayout) : Type 0 where

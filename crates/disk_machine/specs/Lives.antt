@@ -1,16 +1,16 @@
 -- Calls of a machine, one after the other: what they keep of a life, and what is said in them.
 use Rattle.std.specs.Prelude.{◌≡◌, ℕ, ◌≤◌, Bool, List, [], ◌∷◌, ◌++◌, Result}
-use Rattle.window.specs.{declared.ask.DeviceAsk.DeviceAsk, declared.done_fault.DoneFault.DoneFault}
 use Rattle.spec.specs.{Blocks.Write, Book.Book}
-use Rattle.spec.specs.declared.event.Event.TheVariants as event
+use Rattle.window.specs.declared.{ask.DeviceAsk.DeviceAsk, done_fault.DoneFault.DoneFault}
 use Rattle.scsi_unit.specs.Laws.{IsSameLife}
 use Rattle.bot_machine.specs.Disk.{over}
 use Rattle.disk_machine.specs.{Ahead.LooksAhead, Asking.{AsksFor, Hears, IsHonest}, Idling.Idles}
 use Rattle.disk_machine.specs.{Idling.WorksAhead, Machine.{Machine, Serves}, Moves.StaysSafe}
 use Rattle.disk_machine.specs.{Packets.{TakesOut, SendsIn, AnswersSetup}, Transfers.TakesTransfer}
 use Rattle.disk_machine.specs.{Transfers.SendsInto, Turns.{Turn, played, TurnsRun, turns_out}}
-use Rattle.disk_machine.specs.{Turns.{turns_in, turns_done, turns_ahead, turns_idle}}
-use Rattle.disk_machine.specs.{Turns.{turns_of_taking, turns_into}}
+use Rattle.disk_machine.specs.Turns.{turns_in, turns_done, turns_ahead, turns_idle, turns_of_taking}
+use Rattle.disk_machine.specs.Turns.{turns_into}
+use Rattle.spec.specs.declared.event.Event.TheVariants as event
 
 -- a call, with what it is given
 pub data Call : Type 0 where

@@ -2,14 +2,14 @@
 -- handed while packets come.
 use Rattle.std.specs.Prelude.{◌≡◌, ◌⊎◌, ℕ, ◌+◌, ◌-◌, ◌≤◌, Bool, true, false, List, [], length, take}
 use Rattle.medium.specs.Medium.{Image, CutLeaves}
-use Rattle.window.specs.{Device.{durable, after}, OutboxMedium.sent, Parts.AreCarriedOut}
-use Rattle.window.specs.{declared.call.DeviceCall.DeviceCall, Window.{state_of, mirror_of}}
-use Rattle.window.specs.{declared.asked.Asked.Asked}
 use Rattle.spec.specs.{Blocks.Write, Book.{Book, with_write}, Rules.UnitState}
+use Rattle.window.specs.{Device.{durable, after}, OutboxMedium.sent, Parts.AreCarriedOut}
+use Rattle.window.specs.{declared.{call.DeviceCall.DeviceCall, asked.Asked.Asked}, Window.state_of}
+use Rattle.window.specs.Window.{mirror_of}
 use Rattle.scsi_unit.specs.Books.{MayFind}
-use Rattle.scsi_unit.specs.UnitValue.{state_of as unit_state}
 use Rattle.bot_machine.specs.Disk.{FitsDisk}
 use Rattle.disk_machine.specs.{Plays.medium_of, declared.machine.DiskMachine.DiskMachine}
+use Rattle.scsi_unit.specs.UnitValue.{state_of as unit_state}
 use Rattle.window.specs.declared.asked.Asked.TheVariants as asked
 use Rattle.disk_machine.specs.declared.waiting.Waiting.TheVariants as waiting
 

@@ -2,17 +2,17 @@
 use Rattle.std.specs.Prelude.{◌≡◌, ◌≢◌, ◌≤◌, ◌+◌, ℕ, Bool, true, false, List, [], ◌∷◌}
 use Rattle.std.specs.Prelude.{if◌then◌else◌}
 use Rattle.medium.specs.Medium.{Image}
-use Rattle.window.specs.{declared.call.DeviceCall.DeviceCall, OutboxMedium.sent, Window.Window}
-use Rattle.window.specs.{declared.asked.Asked.Asked, declared.state.MachineState.MachineState}
-use Rattle.window.specs.Window as window
 use Rattle.spec.specs.{Book.Book, UnitConversation.UnitStep, declared.event.Event.Event}
-use Rattle.spec.specs.{declared.event.Answer.Answer}
-use Rattle.spec.specs.declared.event.Event.TheVariants as event
+use Rattle.spec.specs.declared.event.Answer.{Answer}
+use Rattle.window.specs.declared.{call.DeviceCall.DeviceCall, asked.Asked.Asked}
+use Rattle.window.specs.{declared.state.MachineState.MachineState, OutboxMedium.sent, Window.Window}
 use Rattle.scsi_unit.specs.Background.{is_dead}
 use Rattle.bot_machine.specs.Disk.{FitsDisk, over}
 use Rattle.disk_machine.specs.{Parts.CoversParts, Plays.{Disk, medium_of, layout_on}, Room.room_for}
-use Rattle.disk_machine.specs.{Machine.{Machine, MayLeave, Serves, IsCaughtUp, has_refused}}
-use Rattle.disk_machine.specs.{declared.waiting.Waiting.Waiting}
+use Rattle.disk_machine.specs.Machine.{Machine, MayLeave, Serves, IsCaughtUp, has_refused}
+use Rattle.disk_machine.specs.declared.waiting.Waiting.{Waiting}
+use Rattle.window.specs.Window as window
+use Rattle.spec.specs.declared.event.Event.TheVariants as event
 use Rattle.window.specs.declared.asked.Asked.TheVariants as asked
 use Rattle.window.specs.declared.state.MachineState.TheVariants as state
 use Rattle.disk_machine.specs.declared.waiting.Waiting.TheVariants as waiting

@@ -1,16 +1,15 @@
 -- What packets do to a machine.
 use Rattle.std.specs.Prelude.{◌≡◌, ◌≢◌, ◌⊎◌, ℕ, ◌<◌, ◌≤◌, Bool, true, false, ◌&&◌, List, length}
-use Rattle.window.specs.{Window.state_of, declared.ask.DeviceRead.DeviceRead}
-use Rattle.window.specs.{declared.asked.Asked.Asked}
 use Rattle.spec.specs.{Book.Book, declared.event.Answer.Answer}
-use Rattle.spec.specs.declared.event.Event.TheVariants as event
+use Rattle.window.specs.{Window.state_of, declared.{ask.DeviceRead.DeviceRead, asked.Asked.Asked}}
 use Rattle.bot_machine.specs.{Disk.{FitsDisk, over}, Promising.{PromisesIn, PromisesNone}}
 use Rattle.scsi_unit.specs.{Calls.SendsOneBatch, UnitValue.IsOfSize}
 use Rattle.disk_machine.specs.{Codes.{TOO_LONG, code_of}, Plays.{medium_of, Plays, Tells}}
 use Rattle.disk_machine.specs.{Refusals.HasRoomFor, Wanted.{Wants, WantsNone}, Machine.Machine}
-use Rattle.disk_machine.specs.{Moves.{ServesEvent, ServesToken, StaysSafe, LeavesNoMore}}
-use Rattle.disk_machine.specs.{Moves.{KeepsGoing, HasRoomBeside, is_behind}, PuttingOff.IsReady}
-use Rattle.disk_machine.specs.{PuttingOff.PutsOff, declared.waiting.Waiting.Waiting}
+use Rattle.disk_machine.specs.Moves.{ServesEvent, ServesToken, StaysSafe, LeavesNoMore, KeepsGoing}
+use Rattle.disk_machine.specs.{Moves.{HasRoomBeside, is_behind}, PuttingOff.{IsReady, PutsOff}}
+use Rattle.disk_machine.specs.declared.waiting.Waiting.{Waiting}
+use Rattle.spec.specs.declared.event.Event.TheVariants as event
 use Rattle.window.specs.declared.asked.Asked.TheVariants as asked
 use Rattle.disk_machine.specs.declared.lack.Lack.TheVariants as lack
 use Rattle.disk_machine.specs.declared.waiting.Waiting.TheVariants as waiting

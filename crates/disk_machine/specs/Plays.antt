@@ -1,21 +1,20 @@
 -- What each call does to a disk over a medium that reads on demand.
-use Rattle.std.specs.Prelude.{◌≡◌, ◌≢◌, ◌⊎◌, ◌↔◌, ℕ, ◌+◌, ◌<◌, ◌≤◌, ◌++◌, Bool, true, false}
-use Rattle.std.specs.Prelude.{List, length, drop, zero, suc}
-use Rattle.std.specs.List.{list_all}
+use Rattle.std.specs.Prelude.{◌≡◌, ◌≢◌, ◌⊎◌, ◌↔◌, ℕ, ◌+◌, ◌<◌, ◌≤◌, ◌++◌, Bool, true, false, List}
+use Rattle.std.specs.{Prelude.{length, drop, zero, suc}, List.list_all}
 use Rattle.medium.specs.{Sent.sent, Moments.IsUnchanged}
+use Rattle.spec.specs.{Book.Book, declared.event.{Event.Event, Answer.Answer}}
 use Rattle.window.specs.Window.{Window, state_of, ComesAfter, CoversDevice, IsServed, AreOnDevice}
 use Rattle.window.specs.Window.{IsShown, is_in_sight}
-use Rattle.scsi_unit.specs.{Background.{Work, Settle, IsSettled, is_dead, steps_left}}
-use Rattle.scsi_unit.specs.{StartFaults.StartFault}
-use Rattle.spec.specs.{Book.Book, declared.event.Event.Event, declared.event.Answer.Answer}
-use Rattle.recovery.specs.declared.start_fault.StartFault.TheVariants as fault
+use Rattle.scsi_unit.specs.Background.{Work, Settle, IsSettled, is_dead, steps_left}
+use Rattle.scsi_unit.specs.StartFaults.{StartFault}
 use Rattle.bot_machine.specs.{Device.Device, Disk.{FitsDisk, IsStepBy, IsRearmed}, Opening.IsOpened}
-use Rattle.bot_machine.specs.{Opening.{IsNotOpened, StartLeaves}}
+use Rattle.bot_machine.specs.Opening.{IsNotOpened, StartLeaves}
+use Rattle.disk_machine.specs.{Codes.{code_of, bytes_of}, Parts.CoversParts}
+use Rattle.disk_machine.specs.Refusals.{EventRefusesNothing, HoldsImageLog, StartRefusesNothing}
+use Rattle.disk_machine.specs.Refusals.{HoldsLog, KeepsBlocks, IsRoomy, SeesStart}
+use Rattle.recovery.specs.declared.start_fault.StartFault.TheVariants as fault
 use Rattle.spec.specs.declared.event.Event.TheVariants as event
 use Rattle.spec.specs.declared.event.Answer.TheVariants as answer
-use Rattle.disk_machine.specs.{Codes.{code_of, bytes_of}, Parts.CoversParts}
-use Rattle.disk_machine.specs.{Refusals.{EventRefusesNothing, HoldsImageLog, StartRefusesNothing}}
-use Rattle.disk_machine.specs.{Refusals.{HoldsLog, KeepsBlocks, IsRoomy, SeesStart}}
 pub use Rattle.disk_machine.specs.Seen.{Disk, medium_of, layout_on}
 
 -- what a medium says of all calls of it that may come, and that what waits has room

@@ -2,13 +2,13 @@
 use Rattle.std.specs.Prelude.{◌≡◌, ◌≢◌, ◌⊎◌, ℕ, ◌+◌, ◌<◌, ◌≤◌, Bool, true, false, List, [], length}
 use Rattle.std.specs.Prelude.{Option, Some, None}
 use Rattle.spec.specs.Book.{Book}
-use Rattle.spec.specs.declared.event.Event.TheVariants as event
-use Rattle.scsi_unit.specs.{Background.{Work, WriteBack, TellsWork, is_dead, steps_left}}
-use Rattle.scsi_unit.specs.{UnitValue.IsOfSize}
+use Rattle.scsi_unit.specs.Background.{Work, WriteBack, TellsWork, is_dead, steps_left}
+use Rattle.scsi_unit.specs.UnitValue.{IsOfSize}
 use Rattle.bot_machine.specs.{Disk.over, Promising.{PromisesIn, PromisesNone}}
 use Rattle.disk_machine.specs.{Plays.{Disk, medium_of, StepsWhile}, Refusals.IsQuietPacket}
 use Rattle.disk_machine.specs.{Refusals.{HasWritten, NeedsRecordAlone}, Machine.Machine}
-use Rattle.disk_machine.specs.{Moves.{ServesOn, KeepsGoing}}
+use Rattle.disk_machine.specs.Moves.{ServesOn, KeepsGoing}
+use Rattle.spec.specs.declared.event.Event.TheVariants as event
 
 -- it promises nothing, where that is told
 abbrev pub MayBePlain : Machine → List ℕ → Bool → Type 0

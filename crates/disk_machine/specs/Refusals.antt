@@ -1,18 +1,17 @@
 -- Nothing that a disk asks of its medium is refused: no write and no flush for want of room, and no
 -- read of a sector that is not in sight.
 use Rattle.std.specs.Prelude.{⊤, ◌≡◌, ◌⊎◌, ℕ, ◌+◌, ◌≤◌, List, length, true}
-use Rattle.journal.specs.Places.{first_home}
 use Rattle.spec.specs.{Book.Book, declared.event.Event.Event}
-use Rattle.spec.specs.declared.event.Event.TheVariants as event
+use Rattle.journal.specs.Places.{first_home}
 use Rattle.scsi_unit.specs.{Background.{IsWritten, IsPrepared}, Calls.most_sends_of}
-use Rattle.scsi_unit.specs.{UnitValue.IsOfSize}
-use Rattle.bot_machine.specs.{Disk.over, Promising.{PromisesNone, QuietIn}}
-use Rattle.bot_machine.specs.Device.{Device, Kept}
+use Rattle.scsi_unit.specs.UnitValue.{IsOfSize}
+use Rattle.bot_machine.specs.{Disk.over, Promising.{PromisesNone, QuietIn}, Device.{Device, Kept}}
+use Rattle.disk_machine.specs.{Room.{most_sent, room_for}, Seen.{Disk, medium_of, layout_on}}
+use Rattle.disk_machine.specs.Wanted.{WantsNone}
+use Rattle.spec.specs.declared.event.Event.TheVariants as event
 -- handed on: that no call was refused from one moment to another, and in a start, and what it sees
 pub use Rattle.store_calls.specs.Rooms.{RefusesNothing, HasRoomToStart, HoldsImageLog, SeesFresh}
 pub use Rattle.store_calls.specs.Rooms.{SeesStart, StartRefusesNothing}
-use Rattle.disk_machine.specs.{Room.{most_sent, room_for}, Seen.{Disk, medium_of, layout_on}}
-use Rattle.disk_machine.specs.{Wanted.WantsNone}
 
 -- ---- an event
 

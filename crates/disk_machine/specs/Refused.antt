@@ -1,11 +1,11 @@
 -- What calls that leave the outbox keep of a disk; and the device refused the call that was handed
 -- out last, of which the disk is told.
 use Rattle.std.specs.Prelude.{◌≡◌}
+use Rattle.spec.specs.Book.{Book}
 use Rattle.window.specs.Window.{state_of}
 use Rattle.store_calls.specs.Outbox.{IsEmptied}
-use Rattle.spec.specs.Book.{Book}
 use Rattle.bot_machine.specs.{Disk.{FitsDisk, IsRearmed, over}, Faulting.faulted_disk}
-use Rattle.bot_machine.specs.{Faulting.faulted_over}
+use Rattle.bot_machine.specs.Faulting.{faulted_over}
 use Rattle.disk_machine.specs.Plays.{Disk, medium_of}
 
 -- calls left the outbox, and nothing else of the disk changes

@@ -1,8 +1,7 @@
 -- How many calls an outbox must have room for, and how much memory a disk takes.
 use Rattle.std.specs.Prelude.{◌≡◌, ◌≢◌, ◌≤◌, ◌<◌, ◌⊎◌, ℕ, ◌+◌, ◌*◌}
 use Rattle.journal.specs.{Places.{Shape, limit_of}, Sectors.version_of}
-use Rattle.journal.specs.{declared.log_format.LogFormat.LogFormat}
-use Rattle.journal.specs.{declared.log_format.LogFormat.TheVariants.{One, Two}}
+use Rattle.journal.specs.declared.log_format.LogFormat.{TheVariants.{One, Two}, LogFormat}
 use Rattle.scsi_unit.specs.Calls.{most_steps}
 -- handed on
 pub use Rattle.store_calls.specs.Rooms.{most_sent}

@@ -3,7 +3,7 @@ use Rattle.std.specs.Prelude.{◌≡◌, ◌≢◌, ◌⊎◌, ℕ, zero, suc, �
 use Rattle.std.specs.Prelude.{List, length, take, drop, if◌then◌else◌}
 use Rattle.bot_machine.specs.PacketRuns.{packet_of}
 use Rattle.disk_machine.specs.{Codes.BAD_LENGTH, Plays.{Disk, SendsPacket}, Machine.Machine}
-use Rattle.disk_machine.specs.{Packets.{TakesOut, SendsIn}}
+use Rattle.disk_machine.specs.Packets.{TakesOut, SendsIn}
 
 -- ---- to Bulk-Out
 

@@ -1,19 +1,17 @@
 -- What a host and a disk have said to each other in a call of a machine.
-use Rattle.std.specs.Prelude.{◌≡◌, ◌⊎◌, ◌++◌, ℕ, zero, suc, ◌*◌, Bool, false, List, [], ◌∷◌}
-use Rattle.std.specs.Prelude.{drop}
+use Rattle.std.specs.Prelude.{◌≡◌, ◌⊎◌, ◌++◌, ℕ, zero, suc, ◌*◌, Bool, false, List, [], ◌∷◌, drop}
 use Rattle.std.proofs.Common.{inl, inr}
 use Rattle.spec.specs.{Rules.UnitState, Conversation.Conversation, UnitConversation.UnitStep}
-use Rattle.spec.specs.{UnitConversation.UnitRun, declared.event.Event.Event}
-use Rattle.spec.specs.{declared.event.Answer.Answer}
-use Rattle.spec.specs.declared.event.Event.TheVariants as event
-use Rattle.spec.specs.declared.event.Answer.TheVariants as answer
+use Rattle.spec.specs.{UnitConversation.UnitRun, declared.event.{Event.Event, Answer.Answer}}
 use Rattle.bot_machine.specs.{Faulting.faulted_over, PacketRuns.packet_of}
 use Rattle.disk_machine.specs.{Idling.{HasGoneAhead, HasStepped, WorksAtRest}, Machine.Machine}
 use Rattle.disk_machine.specs.{Packets.{TakesOne, TakesOut, SendsIn}, Plays.Disk}
-use Rattle.disk_machine.specs.{PuttingOff.{WaitsForSteps, WaitsForCalls}}
-use Rattle.disk_machine.specs.{Transfers.{TakesFirst, EndsTaking, TakesTransfer, SendsAt}}
-use Rattle.disk_machine.specs.{Transfers.{SendsFirst, EndsSending, SendsTransfer, SendsInto}}
+use Rattle.disk_machine.specs.{PuttingOff.{WaitsForSteps, WaitsForCalls}, Transfers.TakesFirst}
+use Rattle.disk_machine.specs.Transfers.{EndsTaking, TakesTransfer, SendsAt, SendsFirst}
+use Rattle.disk_machine.specs.Transfers.{EndsSending, SendsTransfer, SendsInto}
 use Rattle.window.specs.declared.asked.Asked.{Asked}
+use Rattle.spec.specs.declared.event.Event.TheVariants as event
+use Rattle.spec.specs.declared.event.Answer.TheVariants as answer
 use Rattle.window.specs.declared.asked.Asked.TheVariants as asked
 
 -- an event and its answer; or the disk is told that its device refused a call

@@ -3,8 +3,8 @@ use Rattle.std.specs.Prelude.{ℕ, List}
 use Rattle.scsi_unit.specs.declared.reading.HomeSectors.{HomeSectors}
 use Rattle.bot_machine.specs.Reading.{ReadsHome}
 use Rattle.window.specs.Window.{Window}
-use Rattle.window.specs.Sight as sight
 use Rattle.disk_machine.specs.Seen.{Disk, medium_of}
+use Rattle.window.specs.Sight as sight
 
 -- The sectors of a device that are to be shown, of these home sectors: those behind the first ones,
 -- which lie in memory, and not all of them are in sight.

@@ -1,11 +1,10 @@
 use Rattle.std.proofs.Common.{◌≡◌, ◌∷◌, [], ◌++◌, List, ℕ, ◌<◌, length, drop, refl, sym, ap, ◌∙◌, arith, slice_set}
 use Rattle.std.proofs.lemmas.List.{append-nil, drop_all}
-use Rattle.spec.specs.{declared.event.Answer.TheVariants.{Ack, Byte, Two, Stall}, declared.event.Event.Event, declared.event.Answer.Answer}
+use Rattle.spec.specs.declared.event.{Answer.{TheVariants.{Ack, Byte, Two, Stall}, Answer}, Event.Event}
 use Rattle.scsi_unit.specs.Background.{Work}
 use Rattle.bot_machine.specs.Disk.{IsStepBy}
 use Rattle.window.specs.{Window.state_of, WindowLaws.comes_after_itself}
-use Rattle.disk_machine.specs.Plays.{Disk, medium_of, Foresees, PlaysBy}
-use Rattle.disk_machine.proofs.Rooms.{played}
+use Rattle.disk_machine.{specs.Plays.{Disk, medium_of, Foresees, PlaysBy}, proofs.Rooms.played}
 use Rattle.disk_machine.proofs.play.answer_request.Goals as goal
 
 set_first : (to : List ℕ) (byte : ℕ) → 0 < length to → slice_set to 0 byte ≡ byte ∷ drop 1 to

@@ -1,6 +1,5 @@
 -- A disk to whose medium sectors were shown as the device holds them.
-use Rattle.std.proofs.Common.{◌≡◌, inl, inr, ℕ, Bool, List, ap}
-use Rattle.std.proofs.lemmas.Bool.{cases_Bool}
+use Rattle.std.proofs.{Common.{◌≡◌, inl, inr, ℕ, Bool, List, ap}, lemmas.Bool.cases_Bool}
 use Rattle.medium.proofs.Moments.{unchanged}
 use Rattle.window.specs.Window.{Window, state_of, AreOnDevice, IsShown}
 use Rattle.disk_machine.proofs.play.show_sectors.Goals as goal

@@ -1,7 +1,6 @@
 use Rattle.std.proofs.Common.{refl}
+use Rattle.disk_machine.{specs.Plays.medium_of, proofs.Handing.{none_yet, one_more}}
 use Rattle.store_calls.proofs.OutboxTaken as taking
-use Rattle.disk_machine.specs.Plays.{medium_of}
-use Rattle.disk_machine.proofs.Handing.{none_yet, one_more}
 use Rattle.disk_machine.proofs.run.let_go.Goals as goal
 
 pub loop-gone-init : goal.loop-gone-init

@@ -1,6 +1,5 @@
-use Rattle.std.proofs.Common.{◌≡◌, ◌⊎◌, ◌<◌, ◌≤◌, ◌+◌, ◌-◌, ◌*◌, ◌/◌, ◌↔◌, ℕ, inl, inr, arith}
-use Rattle.std.proofs.Math.Nat.{mul-le-mul_right, mod-lt, div-mul-le_self, div-add-mod}
-use Rattle.std.proofs.lemmas.Bool.{cases_lt}
+use Rattle.std.proofs.{Common.{◌≡◌, ◌⊎◌, ◌<◌, ◌≤◌, ◌+◌, ◌-◌, ◌*◌, ◌/◌, ◌↔◌, ℕ, inl, inr, arith}, Math.Nat.{mul-le-mul_right, mod-lt}}
+use Rattle.std.proofs.{Math.Nat.{div-mul-le_self, div-add-mod}, lemmas.Bool.cases_lt}
 use Rattle.disk_machine.proofs.transfers.count_of.Goals as goal
 
 -- as many packets as are begun

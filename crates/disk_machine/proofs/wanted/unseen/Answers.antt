@@ -1,5 +1,4 @@
-use Rattle.std.proofs.Common.{subst}
-use Rattle.std.specs.Prelude.{MatchOption}
+use Rattle.std.{proofs.Common.subst, specs.Prelude.MatchOption}
 use Rattle.bot_machine.specs.Reading.{ReadsHome, ReadsNoHome}
 use Rattle.disk_machine.proofs.wanted.unseen.Goals as goal
 

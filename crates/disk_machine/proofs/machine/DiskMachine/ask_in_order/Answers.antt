@@ -1,8 +1,7 @@
 use Rattle.std.proofs.Common.{◌≡◌, ◌⊎◌, ℕ, List, [], inl, inr}
-use Rattle.window.specs.{Runs.AsksFirst, declared.ask.DeviceAsk.DeviceAsk, declared.ask.DeviceRead.DeviceRead}
-use Rattle.window.specs.{declared.call.DeviceCall.DeviceCall}
-use Rattle.window.specs.declared.ask.DeviceAsk.TheVariants as ask
+use Rattle.window.specs.{Runs.AsksFirst, declared.{ask.{DeviceAsk.DeviceAsk, DeviceRead.DeviceRead}, call.DeviceCall.DeviceCall}}
 use Rattle.store_calls.proofs.OutboxTaken.{longest, some_run}
+use Rattle.window.specs.declared.ask.DeviceAsk.TheVariants as ask
 use Rattle.disk_machine.proofs.machine.DiskMachine.ask_in_order.Goals as goal
 
 pub returns-in-Write : goal.returns-in-Write

@@ -1,7 +1,6 @@
 use Rattle.std.proofs.Common.{◌∙◌, ◌*◌, ◌+◌, ◌-◌, ◌≤◌, ℕ, length, sym, subst, arith}
+use Rattle.disk_machine.{specs.Transfers.SendsFirst, proofs.PacketLaws.{token_stays, has_place, sent_more}}
 use borrow.Rule.Slice.PartMut.{put_mid}
-use Rattle.disk_machine.specs.Transfers.{SendsFirst}
-use Rattle.disk_machine.proofs.PacketLaws.{token_stays, has_place, sent_more}
 use Rattle.disk_machine.proofs.machine.DiskMachine.fill.Goals as goal
 
 pub loop-count-preserved : goal.loop-count-preserved

@@ -1,6 +1,4 @@
-use Rattle.std.specs.Prelude.{None}
-use Rattle.std.proofs.Common.{◌∙◌, inl, inr, refl, sym, arith}
-use Rattle.std.proofs.lemmas.Bool.{cases_Bool, false≢true}
+use Rattle.std.{specs.Prelude.None, proofs.{Common.{◌∙◌, inl, inr, refl, sym, arith}, lemmas.Bool.{cases_Bool, false≢true}}}
 use Rattle.std.proofs.lemmas.List.{nil_from_length}
 use Rattle.disk_machine.specs.{Plays.medium_of, PuttingOff.{TellsNext, WaitsForSteps}, Refusals.IsQuietPacket}
 use Rattle.disk_machine.proofs.{PacketLaws.{plain_is_quiet, some_made, steps_fewer}, Rooms.some_book, Playing.made_goes_on}

@@ -1,5 +1,4 @@
-use Rattle.std.proofs.Common.{refl, inr}
-use Rattle.std.proofs.lemmas.Bool.{false≢true}
+use Rattle.std.proofs.{Common.{refl, inr}, lemmas.Bool.false≢true}
 use Rattle.disk_machine.proofs.machine.DiskMachine.step.Goals as goal
 
 pub returns : goal.returns

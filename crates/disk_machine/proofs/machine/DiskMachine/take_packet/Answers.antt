@@ -1,5 +1,4 @@
-use Rattle.std.proofs.Common.{◌≡◌, ◌∙◌, inl, inr, refl, sym}
-use Rattle.std.proofs.lemmas.Bool.{false≢true}
+use Rattle.std.proofs.{Common.{◌≡◌, ◌∙◌, inl, inr, refl, sym}, lemmas.Bool.false≢true}
 use Rattle.disk_machine.specs.{Packets.HoldsBack, PuttingOff.{IsPromise, PutsOff}}
 use Rattle.disk_machine.proofs.{Playing.out_serves, Handing.reading_safe, machine.DiskMachine.take_packet.Goals.Else-holds_back}
 use Rattle.disk_machine.proofs.{machine.DiskMachine.take_packet.Goals.{Else-put_off, After-promises-promises}}

@@ -1,5 +1,4 @@
-use Rattle.std.proofs.Common.{sym, ◌∙◌}
-use Rattle.std.proofs.lemmas.Bool.{false≢true}
+use Rattle.std.proofs.{Common.{sym, ◌∙◌}, lemmas.Bool.false≢true}
 use Rattle.disk_machine.specs.Packets.{HoldsBack}
 use Rattle.disk_machine.proofs.{PacketRuns.{takes_run, takes_none}, machine.DiskMachine.take_run.Goals.After-foresee}
 use Rattle.disk_machine.proofs.machine.DiskMachine.take_run.Goals as goal

@@ -1,7 +1,6 @@
 use Rattle.std.proofs.Common.{◌∙◌, ◌*◌, ℕ, inr, ap, sym, arith}
 use Rattle.bot_machine.specs.PacketRuns.{packet_of}
-use Rattle.disk_machine.specs.{Packets.TakesOut, Transfers.HasPacket}
-use Rattle.disk_machine.proofs.{PacketLaws.{size_stays, next_taken, taken_more, refused}}
+use Rattle.disk_machine.{specs.{Packets.TakesOut, Transfers.HasPacket}, proofs.PacketLaws.{size_stays, next_taken, taken_more, refused}}
 use Rattle.disk_machine.proofs.{machine.DiskMachine.take_transfer.Goals.After-take_packet-code}
 use Rattle.disk_machine.proofs.machine.DiskMachine.take_transfer.Goals as goal
 
