@@ -3,8 +3,8 @@ use Rattle.std.proofs.{Common.{◌≡◌, ◌⊎◌, ◌<◌, inl, inr, refl, ar
 use Rattle.std.{proofs.lemmas.List.nil_from_length, specs.Prelude.{List, [], ◌∷◌, length, true, false, Bool}}
 use Rattle.medium.specs.{Medium.State, declared.fault.MediumFault.TheVariants.Flush}
 use Rattle.redo_log.specs.Value.{IsRetireStepped}
-use Rattle.theorems.{specs.{Headroom.{RestsWithRoom, HasHeadroom, next_durable}, Retiring.firsts_in, Ahead.counted}, proofs.Headroom.ready_more}
-use Rattle.theorems.proofs.Headroom.{rests_stepped, landed_stepped, landed_begun, may_or_goes, rests_counted, step_once}
+use Rattle.theorems.specs.{Headroom.{RestsWithRoom, HasHeadroom, next_durable}, Retiring.firsts_in, Ahead.counted}
+use Rattle.theorems.proofs.Headroom.{ready_more, rests_stepped, landed_stepped, landed_begun, may_or_goes, rests_counted, step_once}
 use Rattle.blocks.specs.{Background.{IsBackgroundStep, MayBegin, with_counted}, Written.IsWritten, declared.work.Work.TheVariants.Settle}
 use Rattle.blocks.specs.{declared.work.Work.Work, Headroom.{IsSparing, AreSparing}, StoreValue.{Cached, is_dead, steps_left, unwritten}}
 use Rattle.blocks.specs.{StoreValue.StoreValue, Work.{GoesOnAhead, IsAheadStep, IsWriteBackStep, RetiresNone, WorksBy, DoesWork}}

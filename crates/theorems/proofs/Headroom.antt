@@ -1,14 +1,14 @@
 -- A ring that goes ahead keeps headroom, step by step, and its records flush once each.
-use Rattle.std.proofs.{Common.{rules, ◌≡◌, ◌⊎◌, ◌<◌, ◌≤◌, ◌+◌, arith, length-append}, lemmas.{Bool.cases_lt, Bool.Decides.nat_tests}}
+use Rattle.std.proofs.{Common.{rules, ◌≡◌, ◌⊎◌, ◌<◌, ◌≤◌, ◌+◌, arith, length-append}, lemmas.Bool.{Decides.nat_tests, cases_lt}}
 use Rattle.std.specs.Prelude.{ℕ, List, length, drop, true, Bool}
-use Rattle.cache.specs.Entries.{Entries}
-use Rattle.redo_log.specs.{Value.{LogValue, CanPass, IsAway, IsRetireStepped, IsStepped, begun, of_oldest, next_step_flushes, empty_from}}
-use Rattle.redo_log.specs.declared.progress.Progress.{Progress}
 use Rattle.journal.specs.Places.{Shape}
-use Rattle.theorems.specs.{Ahead.{oldest_retired, passed, sent_home, ahead_room, may_go_by, counted}, Room.{HasSlots, SparesSlots, MayWrite}}
-use Rattle.theorems.specs.Headroom.{IsInOrder, RestsWithRoom, HasHeadroom, landed, next_durable}
-use Rattle.theorems.specs.Retiring.{finished_with, finished, finish_flushes, both_flushes, wants}
-use Rattle.theorems.proofs.Steady.{blocks_more, blocks_behind, behind_more, first_owed, with_more, finished_is, idle_behind, steps_once, writes_on}
+use Rattle.redo_log.specs.Value.{LogValue, CanPass, IsAway, IsRetireStepped, IsStepped, begun, of_oldest, next_step_flushes, empty_from}
+use Rattle.redo_log.specs.declared.progress.Progress.{Progress}
+use Rattle.theorems.specs.{Ahead.{oldest_retired, passed, sent_home, ahead_room, may_go_by, counted}, Room.{HasSlots, SparesSlots}}
+use Rattle.theorems.specs.{Room.MayWrite, Headroom.{IsInOrder, RestsWithRoom, HasHeadroom, landed, next_durable}, Retiring.finished_with}
+use Rattle.theorems.{specs.Retiring.{finished, finish_flushes, both_flushes, wants}, proofs.Steady.{blocks_more, blocks_behind}}
+use Rattle.theorems.proofs.Steady.{behind_more, first_owed, with_more, finished_is, idle_behind, steps_once, writes_on}
+use Rattle.cache.specs.Entries.{Entries}
 
 -- the oldest record is retired, and of the one behind it no step is made
 order_retired : (log : LogValue) → IsInOrder log → 0 < length log.waiting → IsInOrder (oldest_retired log)

@@ -1,19 +1,20 @@
 -- How room is made in the ring, what a batch costs that becomes durable, and how records alone fill the ring and keep it steady.
-use Rattle.std.proofs.{Common.{rules, ◌≡◌, ◌⊎◌, ◌<◌, ◌≤◌, ◌+◌, ◌-◌, ◌*◌, arith, length-append, refl, inl}, lemmas.Bool.cases_Bool}
-use Rattle.std.proofs.lemmas.{Bool.Decides.nat_tests, List.{Sums.{sum_by-cons, sum_by_push}, Elements.{All-push, All-drop}}}
-use Rattle.std.specs.Prelude.{ℕ, zero, suc, List, [], ◌∷◌, ◌++◌, length, drop, sum_by, All, true, Bool}
+use Rattle.std.proofs.{Common.{rules, ◌≡◌, ◌⊎◌, ◌<◌, ◌≤◌, ◌+◌, ◌-◌, ◌*◌, arith, length-append, refl, inl}, lemmas.Bool.Decides.nat_tests}
+use Rattle.std.{proofs.lemmas.{Bool.cases_Bool, List.{Sums.{sum_by-cons, sum_by_push}, Elements.{All-push, All-drop}}}, specs.Prelude.ℕ}
+use Rattle.std.specs.Prelude.{zero, suc, List, [], ◌∷◌, ◌++◌, length, drop, sum_by, All, true, Bool}
 use Rattle.medium.specs.{Medium.State, Sent.sent, declared.fault.MediumFault.TheVariants.Flush}
-use Rattle.cache.specs.Entries.{Entries}
+use Rattle.journal.specs.{declared.log_format.LogFormat.TheVariants.Two, Places.{Shape, limit_of}}
 use Rattle.redo_log.specs.Value.{LogValue, behind_oldest, of_oldest, ahead_of, home_calls, retire_steps_of, settled, begun, turns_calls}
 use Rattle.redo_log.specs.Value.{HasRoom, IsStepped, IsRetireStepped, steps_of, turn_calls, turn_sends, turns_sends, turn_flushes}
 use Rattle.redo_log.specs.Value.{turns_flushes, next_step_flushes, steps_flushes, AllFirsts, IsAway, IsSentHome, next_calls, next_sends}
 use Rattle.redo_log.specs.{Value.{sends_of_oldest, most_retire_sends, empty_from}, declared.progress.Progress.Progress}
-use Rattle.theorems.specs.Ahead.{oldest_retired, ahead_room, ahead_room_calls, passed, sent_home, passed_calls, sent_calls, gone_home, going_calls, may_go_by}
-use Rattle.theorems.specs.Retiring.{wants, firsts_in, written_out, finished_with, finished, both_calls, with_room, finished_from, finish_calls, ready_calls}
-use Rattle.theorems.specs.Retiring.{made_ready, record_calls, calls_from, to_begin, with_spare, room_calls, left_flushes, room_flushes}
-use Rattle.theorems.specs.{Retiring.{finish_flushes, both_flushes}, Room.{HasSlots, NeedsNoneAhead}}
-use Rattle.theorems.specs.Steady.{IsSteady, IsFilling, IsFuller, finished_each, ReachesSteady, second_of, steady_calls}
-use Rattle.journal.specs.{declared.log_format.LogFormat.TheVariants.Two, Places.{Shape, limit_of}}
+use Rattle.theorems.specs.Ahead.{oldest_retired, ahead_room, ahead_room_calls, passed, sent_home, passed_calls, sent_calls, gone_home}
+use Rattle.theorems.specs.{Ahead.{going_calls, may_go_by}, Retiring.{wants, firsts_in, written_out, finished_with, finished, both_calls}}
+use Rattle.theorems.specs.Retiring.{with_room, finished_from, finish_calls, ready_calls, made_ready, record_calls, calls_from, to_begin}
+use Rattle.theorems.specs.{Retiring.{with_spare, room_calls, left_flushes, room_flushes, finish_flushes, both_flushes}, Room.HasSlots}
+use Rattle.theorems.specs.{Room.NeedsNoneAhead, Steady.{IsSteady, IsFilling, IsFuller, finished_each, ReachesSteady, second_of}}
+use Rattle.theorems.specs.Steady.{steady_calls}
+use Rattle.cache.specs.Entries.{Entries}
 
 -- between two moments calls, writes and flushes were made as for these steps: all but so many that are left
 pub record Spends (keeps : Bool) (left all : ℕ) (before after : State) : Type 0 where
