@@ -129,6 +129,16 @@ def named_by_promise():
     return sum(map(len, {(module, told[module][name]): told[module][name] for module, name in reached}.values()))
 
 
+def names_twice():
+    """The names that two files of specs of one crate define."""
+    found = {}
+    for path in specs():
+        for line in sources.lines_of(path):
+            if named := re.match(r"(?:abbrev|unfoldable) pub (\w+)|pub (?:record|data) (\w+)", line):
+                found.setdefault((sources.crate_of(path), named[1] or named[2]), []).append(os.path.basename(path))
+    return [f"crates/{crate}/specs: {name} in {', '.join(paths)}" for (crate, name), paths in found.items() if len(paths) > 1]
+
+
 def lines_for_one(*names):
     """How many lines of specs and proofs these crates have for a line of source."""
     inside = lambda *files: sum(len(sources.lines_of(it)) - 1 for it in files if sources.crate_of(it) in names)

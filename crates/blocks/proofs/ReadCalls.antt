@@ -10,7 +10,7 @@ use Rattle.spec.specs.{Blocks.Array, Book.{Book, array_of, blocks_at}}
 use Rattle.journal.specs.Places.{first_home}
 use Rattle.redo_log.{proofs.StoreFacts.home_is, specs.{Steps.{KeepsLog, ReadsCopy}, Value.{LogValue, IsNewestCopy, HasNoCopy}}}
 use Rattle.cache.{specs.{Blocks.{is_listed, Listed, unlisted}, Entries.{map_of, Entries}}, proofs.{Maps.listed_is, Arrays.unlisted_most}}
-use Rattle.blocks.specs.{Reads.{AreReadable, AreAtHome, IsAtHome, IsInBatch, IsInNone, ReadsBlocks, told}, Looks.IsReadFor}
+use Rattle.blocks.specs.{Reads.{AreReadable, AreAtHome, IsOnlyAtHome, IsInBatch, IsInNone, ReadsBlocks, told}, Looks.IsReadFor}
 use Rattle.blocks.specs.{StoreValue.{Cached, blocks_of, layout_of, FitsBook, StoreValue}, Calls.{block_reads, reads_of, is_logged}}
 use Rattle.blocks.{specs.{Calls.log_reads, Passing.KeepsStore, declared.fault.StoreFault.StoreFault}, proofs.SectorsRead.one_more}
 use Rattle.blocks.proofs.{SectorsRead.{fewer_read, none_read}, TurnsJoined.{quiet_turn, turns}, BookTurns.listed_at}
@@ -192,12 +192,12 @@ module _ {M : Type 0} {state : M → State} {Follows : M → M → Type 0} {addr
 -- ---- blocks at home alone are read at once
 
 -- each of a range is at home alone
-pub at_home : (s : Cached) (address count b : ℕ) → AreAtHome s address count → address ≤ b → b < address + count → IsAtHome s b
+pub at_home : (s : Cached) (address count b : ℕ) → AreAtHome s address count → address ≤ b → b < address + count → IsOnlyAtHome s b
 at_home s address count b home from to =
     let is : b ≡ address + (b - address) = omega arith in
     rw is (grind (arith, none_at, home))
 
-home_reads : (s : Cached) (address count : ℕ) → ((b : ℕ) → address ≤ b → b < address + count → IsAtHome s b)
+home_reads : (s : Cached) (address count : ℕ) → ((b : ℕ) → address ≤ b → b < address + count → IsOnlyAtHome s b)
     → reads_of s address count ≡ count
 home_reads s address zero home = refl
 home_reads s address (suc count) home =

@@ -31,7 +31,7 @@ abbrev pub IsInNone : Cached → ℕ → Type 0
 IsInNone s block = (map_of s.active block ≡ None) × (map_of s.frozen block ≡ None)
 
 -- the block is at home alone: no batch has it, nor a record that waits to be retired
-pub record IsAtHome (s : Cached) (block : ℕ) : Type 0 where
+pub record IsOnlyAtHome (s : Cached) (block : ℕ) : Type 0 where
   pub none : IsInNone s block
   pub log : HasNoCopy s.log block
 

@@ -6,7 +6,7 @@ ghost use Rattle.blocks.specs.Book.{IsTransfer};
 ghost use Rattle.blocks.specs.StoreValue.{blocks_of, transfer_limit, FitsBook};
 ghost use Rattle.blocks.specs.Passing.{KeepsStore, RefusesRead};
 ghost use Rattle.blocks.specs.Calls.{reads_of, CostsReads};
-ghost use Rattle.blocks.specs.Reads.{AreReadable, HasPlaces, IsAtHome, AreAtHome};
+ghost use Rattle.blocks.specs.Reads.{AreReadable, HasPlaces, IsOnlyAtHome, AreAtHome};
 ghost use Rattle.blocks.specs.Reads.{ReadsNext, ReadsBlocks, IsInBatch, IsInNone};
 ghost use Rattle.blocks.specs.Reads.{told};
 
@@ -140,7 +140,7 @@ impl<M: Medium> Store<M> {
     #[inline]
     fn read_at_home(&mut self, block: u64, to: &mut [u8]) -> Result<(), StoreFault>
         requires readable { AreReadable self.old.cached block 1 (length to.old) }
-        requires home { IsAtHome self.old.cached block }
+        requires home { IsOnlyAtHome self.old.cached block }
         ensures { ReadsBlocks M.state M.follows result block 1 to.new self.old self.new }
     {
         let Some(to) = to.as_mut_array() else {

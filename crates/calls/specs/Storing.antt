@@ -13,16 +13,16 @@ use Rattle.calls.specs.declared.held.Purpose.TheVariants as purpose
 use Rattle.calls.specs.declared.held.Stage.{Stage}
 use Rattle.calls.specs.declared.held.Stage.TheVariants as stage
 
-abbrev pub code_of_fault : StoreFault → ℕ
-code_of_fault fault.Busy = BUSY
-code_of_fault fault.ReadRefused = 2
-code_of_fault fault.Dead = 11
-code_of_fault fault.Length = BAD_LENGTH
-code_of_fault fault.Range = 24
+abbrev pub code_of_store_fault : StoreFault → ℕ
+code_of_store_fault fault.Busy = BUSY
+code_of_store_fault fault.ReadRefused = 2
+code_of_store_fault fault.Dead = 11
+code_of_store_fault fault.Length = BAD_LENGTH
+code_of_store_fault fault.Range = 24
 
-abbrev pub code_of_done : Result (Unit {0}) StoreFault → ℕ
-code_of_done (Ok done) = 0
-code_of_done (Err why) = code_of_fault why
+abbrev pub code_of_stored : Result (Unit {0}) StoreFault → ℕ
+code_of_stored (Ok done) = 0
+code_of_stored (Err why) = code_of_store_fault why
 
 -- of a store that is not there this number; of another kind OTHER_KIND
 abbrev pub code_before : ℕ → Purpose → ℕ
@@ -61,15 +61,15 @@ TellsSizes blocks limit blocks' limit' old new code = ToStore
 
 abbrev pub ReadsBlocks : ℕ → List ℕ → List ℕ → Held → Held → ℕ → Type 0
 ReadsBlocks block room filled old new code = ToStore
-    (λ s s' answer. (result : Result (Unit {0}) StoreFault) × (answer ≡ code_of_done result)
+    (λ s s' answer. (result : Result (Unit {0}) StoreFault) × (answer ≡ code_of_stored result)
     × Reads block s room s' filled result) (filled ≡ room) old.stage old new code
 
 abbrev pub WritesBlocks : ℕ → List ℕ → Held → Held → ℕ → Type 0
 WritesBlocks block bytes old new code = ToStore
-    (λ s s' answer. (result : Result (Unit {0}) StoreFault) × (answer ≡ code_of_done result)
+    (λ s s' answer. (result : Result (Unit {0}) StoreFault) × (answer ≡ code_of_stored result)
     × Writes block bytes s s' result) (Unit {0}) old.stage old new code
 
 abbrev pub SyncsStore : Held → Held → ℕ → Type 0
 SyncsStore old new code = ToStore
-    (λ s s' answer. (result : Result (Unit {0}) StoreFault) × (answer ≡ code_of_done result)
+    (λ s s' answer. (result : Result (Unit {0}) StoreFault) × (answer ≡ code_of_stored result)
     × Syncs s s' result) (Unit {0}) old.stage old new code

@@ -2,7 +2,7 @@
 ghost use Rattle.std.specs.Prelude.{◌≡◌};
 ghost use Rattle.calls.specs.Handles.{InHandle};
 ghost use Rattle.calls.specs.Storing.{TellsSizes, ReadsBlocks, WritesBlocks, SyncsStore};
-ghost use Rattle.calls.specs.Storing.{code_before, code_of_fault, code_of_done};
+ghost use Rattle.calls.specs.Storing.{code_before, code_of_store_fault, code_of_stored};
 
 use crate::codes::{BUSY, OTHER_KIND};
 use crate::handle::UsbDisk;
@@ -118,16 +118,16 @@ impl Purpose {
 
 // The number of what a call of a store answers.
 fn code_of(done: Result<(), StoreFault>) -> u32
-    ensures { result ≡ code_of_done done }
+    ensures { result ≡ code_of_stored done }
 {
     match done {
         Ok(()) => ACK,
-        Err(why) => code_of_fault(why),
+        Err(why) => code_of_store_fault(why),
     }
 }
 
-fn code_of_fault(why: StoreFault) -> u32
-    ensures { result ≡ code_of_fault why }
+fn code_of_store_fault(why: StoreFault) -> u32
+    ensures { result ≡ code_of_store_fault why }
 {
     match why {
         StoreFault::Busy => BUSY,

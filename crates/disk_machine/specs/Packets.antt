@@ -4,7 +4,7 @@ use Rattle.spec.specs.{Book.Book, declared.event.Answer.Answer}
 use Rattle.window.specs.{Window.state_of, declared.{ask.DeviceRead.DeviceRead, asked.Asked.Asked}}
 use Rattle.bot_machine.specs.{Disk.{FitsDisk, over}, Promising.{PromisesIn, PromisesNone}}
 use Rattle.scsi_unit.specs.{Calls.SendsOneBatch, UnitValue.IsOfSize}
-use Rattle.disk_machine.specs.{Codes.{TOO_LONG, code_of}, Plays.{medium_of, Plays, Tells}}
+use Rattle.disk_machine.specs.{Codes.{TOO_LONG, code_of}, Plays.{medium_of, Plays, TellsAnswer}}
 use Rattle.disk_machine.specs.{Refusals.HasRoomFor, Wanted.{Wants, WantsNone}, Machine.Machine}
 use Rattle.disk_machine.specs.Moves.{ServesEvent, ServesToken, StaysSafe, LeavesNoMore, KeepsGoing}
 use Rattle.disk_machine.specs.{Moves.{HasRoomBeside, is_behind}, PuttingOff.{IsReady, PutsOff}}
@@ -104,14 +104,14 @@ abbrev pub SendsIn : Machine → List ℕ → Machine → List ℕ → ℕ → �
 SendsIn old room new filled size code =
     ((old.waiting ≢ waiting.Nothing) × (code ≡ 1) × (new ≡ old) × (filled ≡ room) × (size ≡ 0))
     ⊎ ((old.waiting ≡ waiting.Nothing) × ((answer : Answer)
-    × Plays old.disk event.In answer new.disk × Tells answer room filled size code
+    × Plays old.disk event.In answer new.disk × TellsAnswer answer room filled size code
     × (new ≡ record old { disk = new.disk }) × ServesToken old answer new
     × KeepsGoing old new))
 
 -- A request is answered at any time. It asks the device for nothing, of whatever life the disk is.
 abbrev pub AnswersSetup : Machine → List ℕ → List ℕ → Machine → List ℕ → ℕ → ℕ → Type 0
 AnswersSetup old packet room new filled size code = (answer : Answer)
-    × Plays old.disk (event.Setup packet) answer new.disk × Tells answer room filled size code
+    × Plays old.disk (event.Setup packet) answer new.disk × TellsAnswer answer room filled size code
     × (new ≡ record old { disk = new.disk })
     × ServesEvent old (event.Setup packet) answer new
     × ((book : Book) → FitsDisk (state_of (medium_of old.disk)) old.disk book

@@ -68,19 +68,19 @@ pub record Sees (old : Disk) (first : ℕ) (bytes : List ℕ) (new : Disk) (take
       → FitsDisk (state_of (medium_of new)) new book
 
 -- the answer's number, its bytes at the front of the room, and how many they are
-pub record Tells (answer : Answer) (old new : List ℕ) (size code : ℕ) : Type 0 where
+pub record TellsAnswer (answer : Answer) (old new : List ℕ) (size code : ℕ) : Type 0 where
   pub code_is : code ≡ code_of answer
   pub size_is : size ≡ length (bytes_of answer)
   pub bytes_are : new ≡ bytes_of answer ++ drop (length (bytes_of answer)) old
 
 abbrev pub SendsPacket : Disk → List ℕ → Disk → List ℕ → ℕ → ℕ → Type 0
 SendsPacket old room new filled size code =
-    (answer : Answer) × Plays old event.In answer new × Tells answer room filled size code
+    (answer : Answer) × Plays old event.In answer new × TellsAnswer answer room filled size code
 
 abbrev pub AnswersRequest : Disk → List ℕ → List ℕ → Disk → List ℕ → ℕ → ℕ → Type 0
 AnswersRequest old packet room new filled size code =
     (answer : Answer) × Plays old (event.Setup packet) answer new
-    × Tells answer room filled size code
+    × TellsAnswer answer room filled size code
 
 -- a step in the background that works towards this, and whether none is left
 pub record MakesStep (work : Work) (old new : Disk) (code : ℕ) : Type 0 where

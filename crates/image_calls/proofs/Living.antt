@@ -5,7 +5,7 @@ use Rattle.medium.specs.{Medium.{Image, State}, Moments.IsFlushed}
 use Rattle.window.specs.{OutboxMedium.sent, declared.call.DeviceCall.DeviceCall, Window.Window}
 use Rattle.journal.specs.{Places.Shape, Record.home_of, Standing.IsOurs}
 use Rattle.recovery.specs.{Calls.FormatLeaves, Recovered.IsMigrationBy, declared.recovered.Recovered.Recovered}
-use Rattle.image_calls.specs.{Formats.{BeginsFormat, IsFormatting, MakesParts}, Images.{IsLaidOn, IsMigratedOn, IsWhole}}
+use Rattle.image_calls.specs.{Formats.{BeginsFormat, IsFormatting, MakesParts}, Images.{IsLaidOn, IsMigratedOn, IsFinished}}
 use Rattle.image_calls.specs.Lives.{Call, IsMade, AreMade, LeavesImage, LeavesMigrated, LeavesThroughout, HasWork}
 use Rattle.image_calls.specs.Lives.Call.{next, done}
 use Rattle.image_calls.specs.Machines.{Machine, MayLeave, LeavesAtRest, Begins, GoesOn, CarriesOut, state_of, state_by, state_at_rest}
@@ -96,7 +96,7 @@ module _ (shape : Shape) (first : Window) (calls : List Call) (old new : Machine
 
 -- ---- all that is to do waits
 
-module _ (Is : Window → Type 0) (first : Window) (calls : List Call) (old new : Machine) (begins : Begins (IsWhole Is) first old)
+module _ (Is : Window → Type 0) (first : Window) (calls : List Call) (old new : Machine) (begins : Begins (IsFinished Is) first old)
     (made : AreMade calls old new) where
   whole_goes : GoesOn old new
   whole_goes = throughout calls old new made begins.rest
@@ -117,7 +117,7 @@ module _ (Is : Window → Type 0) (first : Window) (calls : List Call) (old new 
       same_image (window.state_of old.work.medium) image flushed (λ s. (some_go out.1.0 old.work.medium).same.sets_shrink s (image s)
       (subst (λ (w : Window). (window.state_of w).may_leave s (image s)) out.1.1 (whole_goes.rest all.0 all.1 image left s)))
 
-log_leaves : (shape : Shape) (first : Window) (calls : List Call) (old new : Machine) → Begins (IsWhole (IsLaidOn shape first)) first old
+log_leaves : (shape : Shape) (first : Window) (calls : List Call) (old new : Machine) → Begins (IsFinished (IsLaidOn shape first)) first old
     → AreMade calls old new → LeavesImage shape (home_of shape (window.state_of first).content) first new
 log_leaves shape first calls old new begins made = let work = begins.work.0 in record {
   midway = λ image left. work.leaves.cuts.each image (whole_since (IsLaidOn shape first) first calls old new begins made image left);
@@ -132,7 +132,7 @@ migrated_flushed : (was_one : Bool) (old new : State) (answer : Recovered) → I
 migrated_flushed true old new answer is = is.made.flushed
 migrated_flushed false old new answer is = is.1.flushed
 
-migration_leaves : (first : Window) (calls : List Call) (old new : Machine) → Begins (IsWhole (IsMigratedOn first)) first old
+migration_leaves : (first : Window) (calls : List Call) (old new : Machine) → Begins (IsFinished (IsMigratedOn first)) first old
     → AreMade calls old new → LeavesMigrated first old.work.medium new
 migration_leaves first calls old new begins made = let work = begins.work.0 in record {
   midway = λ ours image left. (work.leaves.cuts ours).each image

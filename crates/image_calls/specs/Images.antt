@@ -54,5 +54,5 @@ pub record IsMigratedNot (first after : Window) (why : StartFault) : Type 0 wher
   pub seen : MissesNone first after
 
 -- that was done on the medium, and nothing is left to do
-abbrev pub IsWhole : (Window → Type 0) → Work → Type 0
-IsWhole Is work = Is work.medium × (work.left ≡ None)
+abbrev pub IsFinished : (Window → Type 0) → Work → Type 0
+IsFinished Is work = Is work.medium × (work.left ≡ None)

@@ -7,7 +7,7 @@ use Rattle.recovery.specs.{Calls.IsMidway, Recovered.{IsOursForSome, IsOursInEit
 use Rattle.window.specs.{Window.Window, OutboxMedium.sent, declared.ask.DeviceAsk.DeviceAsk}
 use Rattle.window.specs.{declared.done_fault.DoneFault.DoneFault}
 use Rattle.image_calls.specs.Formats.{BeginsFormat, IsFormatting}
-use Rattle.image_calls.specs.Images.{IsLaidOn, IsMigratedOn, IsWhole}
+use Rattle.image_calls.specs.Images.{IsLaidOn, IsMigratedOn, IsFinished}
 use Rattle.image_calls.specs.Machines.{Machine, Asks, Hears, MayLeave, Begins, GoesOn, carried}
 use Rattle.image_calls.specs.{Machines.state_of, Parts.IsMadeAnew}
 use Rattle.window.specs.Window as window
@@ -63,10 +63,10 @@ pub record LeavesThroughout : Type 0 where
       × (state_of new ≡ state.Done → IsMadeAnew shape (window.state_of first)
       (window.state_of new.work.medium))
   pub logs : (shape : Shape) (first : Window) (calls : List Call) (old new : Machine)
-      → Begins (IsWhole (IsLaidOn shape first)) first old → AreMade calls old new
+      → Begins (IsFinished (IsLaidOn shape first)) first old → AreMade calls old new
       → LeavesImage shape (home_of shape (window.state_of first).content) first new
   pub migrations : (first : Window) (calls : List Call) (old new : Machine)
-      → Begins (IsWhole (IsMigratedOn first)) first old → AreMade calls old new
+      → Begins (IsFinished (IsMigratedOn first)) first old → AreMade calls old new
       → LeavesMigrated first old.work.medium new
   -- work that is done has been told done by the device, each call that it ever made
   pub all : (s : Machine) → state_of s ≡ state.Done

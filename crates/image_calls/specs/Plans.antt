@@ -8,7 +8,7 @@ use Rattle.recovery.specs.Recovered.{IsMigrationRefusal, most_migration_sends}
 use Rattle.recovery.specs.{declared.start_fault.StartFault.StartFault}
 use Rattle.window.specs.Window.{Window, state_of, fresh}
 use Rattle.store_calls.specs.{Starts.IsNoLength}
-use Rattle.image_calls.specs.{Images.{IsMigratedOn, IsWhole}, Machines.{Machine, Begins}}
+use Rattle.image_calls.specs.{Images.{IsMigratedOn, IsFinished}, Machines.{Machine, Begins}}
 use Rattle.image_calls.specs.{declared.image_fault.ImageFault.ImageFault}
 use Rattle.image_calls.specs.{declared.image_plan.ImagePlan.ImagePlan}
 use Rattle.recovery.specs.declared.start_fault.StartFault.TheVariants as start
@@ -63,5 +63,5 @@ abbrev pub Migrates : List ℕ → ℕ → List ℕ → Result Machine ImageFaul
 Migrates near sectors holds result = (room : ℕ)
     × (512 ≤ length near → IsRoomToMigrate near room)
     × (let first = fresh sectors near holds 0 room in
-    MatchResult result (Begins (IsWhole (IsMigratedOn first)) first)
+    MatchResult result (Begins (IsFinished (IsMigratedOn first)) first)
     (IsMigrateRefusal near sectors first))

@@ -75,7 +75,7 @@ abbrev pub count_from : ℕ → ℕ → ℕ → ℕ
 count_from first until room = max (min (until - first) (min room 64)) 1
 
 -- so many sectors are to be read from this one on
-pub record AsksToRead {S : Type 0} (first until room : ℕ) (read : DeviceRead)
+pub record AsksOneRead {S : Type 0} (first until room : ℕ) (read : DeviceRead)
     (old new : Running S) : Type 0 where
   pub first_is : read.first ≡ first
   pub count_is : read.count ≡ count_from first until room

@@ -1,7 +1,7 @@
 //! What the device of a machine is asked for: runs of neighbouring sectors.
 ghost use Rattle.std.specs.Prelude.{◌≡◌, ◌≤◌, ◌+◌, ◌/◌, ◌*◌, [], length, true};
 ghost use Rattle.image_calls.specs.Running.{BeginsRunning, RunAsks, AsksNext, HasAnswered};
-ghost use Rattle.image_calls.specs.Running.{Hands, HandsFor, IsAtRest, AsksToRead, GathersOn};
+ghost use Rattle.image_calls.specs.Running.{Hands, HandsFor, IsAtRest, AsksOneRead, GathersOn};
 ghost use Rattle.image_calls.specs.Running.{HasGathered, PutsNext, gathered};
 ghost use Rattle.image_calls.specs.Running.{HasSectors, MayAsk, MayGather, handed};
 
@@ -81,7 +81,7 @@ impl<T: Machine<WindowMedium>> Running<T> {
     // The sectors that are read from this one on, as many as there is room for.
     fn read_from(&mut self, first: u64, until: u64, room: usize) -> DeviceRead
         requires { 1 ≤ room }
-        ensures { AsksToRead first until room result self.old self.new }
+        ensures { AsksOneRead first until room result self.old self.new }
     {
         let most = room.min(MOST) as u64;
         let count = until.saturating_sub(first).min(most).max(1) as u32;

@@ -2,7 +2,7 @@
 ghost use Rattle.std.specs.Prelude.{◌≡◌, MatchResult, List, []};
 ghost use Rattle.window.specs.OutboxMedium.{sent};
 ghost use Rattle.window.specs.Window.{Window, mirror_of};
-ghost use Rattle.image_calls.specs.Images.{IsLaidOn, IsWhole, WaitFor};
+ghost use Rattle.image_calls.specs.Images.{IsLaidOn, IsFinished, WaitFor};
 ghost use Rattle.image_calls.specs.Formats.{BeginsFormat};
 ghost use Rattle.image_calls.specs.Machines.{Begins, LeavesSince, LeavesAtRest};
 ghost use Rattle.image_calls.specs.Machines.{begun, state_by, state_at_rest};
@@ -60,7 +60,7 @@ impl ImageMachine {
         plan: &ImagePlan,
     ) -> Result<ImageMachine, ImageFault>
         ensures { let first = medium_by near.items device.now.bytes plan.now in
-            MatchResult result (Begins (IsWhole (IsLaidOn (shape_by plan.now) first)) first)
+            MatchResult result (Begins (IsFinished (IsLaidOn (shape_by plan.now) first)) first)
             (IsPlanFault near.items plan.now) }
     {
         let work = lay_on(alloc, near, device, plan)?;

@@ -3,7 +3,7 @@ ghost use Rattle.std.specs.Prelude.{◌≡◌, ◌⊎◌, ◌<◌, ◌+◌, ◌/
 ghost use Rattle.std.specs.Prelude.{IfOk, IfErr, OnOk, MatchResult};
 ghost use Rattle.window.specs.Window.{Window, fresh};
 ghost use Rattle.store_calls.specs.Starts.{IsNoLength};
-ghost use Rattle.image_calls.specs.Images.{IsLaidOn, IsMigratedOn, IsMigratedNot, IsWhole};
+ghost use Rattle.image_calls.specs.Images.{IsLaidOn, IsMigratedOn, IsMigratedNot, IsFinished};
 ghost use Rattle.image_calls.specs.Formats.{BeginsFormat};
 ghost use Rattle.image_calls.specs.Plans.{shape_by, medium_by, IsPlanFault};
 ghost use Rattle.recovery.specs.declared.start_fault.StartFault.TheVariants.{NoMemory};
@@ -53,7 +53,7 @@ pub(crate) fn lay_on(
     plan: &ImagePlan,
 ) -> Result<Work, ImageFault>
     ensures { let first = medium_by near.items device.now.bytes plan.now in
-        MatchResult result (IsWhole (IsLaidOn (shape_by plan.now) first))
+        MatchResult result (IsFinished (IsLaidOn (shape_by plan.now) first))
         (IsPlanFault near.items plan.now) }
 {
     let sizes = plan.sizes().ok_or(ImageFault::Sizes)?;
@@ -97,7 +97,7 @@ pub(crate) fn begin_on(
 /// Makes an image of format 1 on the device of this medium one of format 2. None of its calls waits
 /// yet.
 pub(crate) fn migrate_on(mut medium: WindowMedium) -> Result<Work, StartFault>
-    ensures ok { IfOk result (IsWhole (IsMigratedOn medium)) }
+    ensures ok { IfOk result (IsFinished (IsMigratedOn medium)) }
     ensures err { length medium.outbox ≡ 0
         → IfErr result (λ why. (after : Window) × IsMigratedNot medium after why) }
 {

@@ -1,6 +1,6 @@
 use Rattle.std.proofs.Common.{◌≤◌, inr, refl, subst, ap, length, arith, rules}
 use Rattle.window.specs.Window.{Window, fresh}
-use Rattle.image_calls.specs.Images.{IsMigratedOn, IsMigratedNot, IsWhole}
+use Rattle.image_calls.specs.Images.{IsMigratedOn, IsMigratedNot, IsFinished}
 use Rattle.image_calls.proofs.{AtRest.begins, Migrations.{never, no_medium}}
 use Rattle.image_calls.proofs.machine.ImageMachine.migrate.Goals as goal
 
@@ -17,11 +17,11 @@ pub returns-in-Ok : goal.returns-in-Ok
 returns-in-Ok c =
     let first = fresh c.args.sectors c.args.near.items c.args.device.now.bytes 0 c.room_to_migrate-room.result in
     let over = c.over.ensures in
-    let made = subst (λ (m : Window). IsWhole (IsMigratedOn m) c.in-Ok.work) c.in_ok-medium.ensures.ok c.in-Ok.ensures.ok in
+    let made = subst (λ (m : Window). IsFinished (IsMigratedOn m) c.in-Ok.work) c.in_ok-medium.ensures.ok c.in-Ok.ensures.ok in
     let since = over.since first refl made.0.waits in (
       c.room_to_migrate-room.result,
       rw c.deref.ensures.value at c.room_to_migrate-room.ensures,
-      begins (IsWhole (IsMigratedOn first)) first c.in-Ok.work c.over.result over.is made since over.rest,
+      begins (IsFinished (IsMigratedOn first)) first c.in-Ok.work c.over.result over.is made since over.rest,
     )
 
 pub returns-in-Err : goal.returns-in-Err
