@@ -8,9 +8,12 @@ use std::fs::File;
 /// A plain file of the system, open and locked.
 pub type LockedFile = SystemFile<OpenedFile<File>>;
 
+/// A file that was opened or made, where there is one.
+pub type LeftFile = Option<LockedFile>;
+
 /// Does nothing. Its contract says by which calls of the system a file did what it was asked, where
 /// one was opened or made.
-pub fn foresee(left: &Option<LockedFile>)
+pub fn foresee(left: &LeftFile)
     ensures { AreCalls left.now }
 {
     if let Some(file) = left {

@@ -3,6 +3,7 @@
 //! file was asked.
 #![tactic(auto)]
 
+mod ended;
 mod fault;
 mod left;
 mod migration;
@@ -13,7 +14,8 @@ mod refusal;
 mod streams;
 mod words;
 
-pub use left::{LockedFile, foresee};
+pub use ended::{Ended, Stopped};
+pub use left::{LeftFile, LockedFile, foresee};
 pub use migration::migration_line;
 pub use number::read_number;
 pub use output::write_out;

@@ -7,3 +7,4 @@ pub mod Exports
 pub mod Imports
 pub mod Misses
 pub mod Bytes
+pub mod Alone

@@ -4,9 +4,8 @@ ghost use Rattle.std.specs.Io.KnownBytes.{Appends};
 ghost use Rattle.console.specs.Streams.{AppendsSome};
 ghost use Rattle.images.specs.Texts.{blocks_text};
 
-use crate::ended::Stopped;
 use crate::text::blocks_line;
-use console::{LockedFile, Refusal, write_out};
+use console::{LeftFile, LockedFile, Refusal, Stopped, write_out};
 use device_file::CopyBuffer;
 use std::alloc::{AllocError, Global};
 use std::io::Write;
@@ -45,15 +44,15 @@ pub(crate) fn say_done<O: Write>(
     file: LockedFile,
     out: &mut O,
     room: &CopyRoom,
-) -> Result<LockedFile, Stopped>
+) -> Result<LockedFile, Stopped<LeftFile>>
     ensures told { IfOk result (λ back. (back ≡ file)
         × Appends (O.contents out.old) (O.contents out.new) room.now.line.items) }
     ensures untold { IfErr result (λ stopped.
-        (stopped ≡ record { refusal = Refusal.Streams; file = Some file })
+        (stopped.left ≡ Some file) × (stopped.refusal ≡ Refusal.Streams)
         × AppendsSome (O.contents out.old) (O.contents out.new) room.now.line.items) }
 {
     match write_out(out, &room.line) {
         Ok(()) => Ok(file),
-        Err(_) => Err(Stopped::with(Refusal::Streams, file)),
+        Err(_) => Err(Stopped::with(Refusal::Streams, Some(file))),
     }
 }

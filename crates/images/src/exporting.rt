@@ -26,11 +26,11 @@ ghost use Rattle.images.specs.Opened.{HasNoFirst, WithFirst, made_in};
 ghost use Rattle.images.specs.Program.{IsExport, IsExportRefused};
 
 use crate::copying::{CopyRoom, copy_room, say_done};
-use crate::ended::{LeftFiles, Refused, Stopped};
 use crate::gauge::Gauge;
 use crate::image::{FilePlace, new_target};
+use crate::left::LeftFiles;
 use crate::opening::{first_of, open_file, window_over};
-use console::{LockedFile, Refusal};
+use console::{LeftFile, LockedFile, Refusal, Stopped};
 use device_file::{
     CopyBuffer, CopyFault, CopyRange, DeviceFile, FileCall, FileFault, FirstSectors, Meter, Run,
     carry_moved, copy_sectors,
@@ -51,33 +51,20 @@ pub(crate) fn export<R: Files<File = File> + AllocGlobal, O: Write, E: Write + I
     device: &DeviceHolds,
     out: &mut O,
     err: &mut E,
-) -> Result<LeftFiles, Refused>
+) -> Result<LeftFiles, Stopped<LeftFiles>>
     ensures done { IfOk result (λ left. IsExport image.now device.now.bytes (made_in raw.entry)
         (O.contents out.old) (O.contents out.new) left.file left.raw) }
-    ensures refused { IfErr result (λ refused. IsExportRefused image.now device.now.bytes
-        (made_in raw.entry) (O.contents out.old) (O.contents out.new) refused.files.file
-        refused.files.raw refused.refusal) }
+    ensures refused { IfErr result (λ stopped. IsExportRefused image.now device.now.bytes
+        (made_in raw.entry) (O.contents out.old) (O.contents out.new) stopped.left.file
+        stopped.left.raw stopped.refusal) }
 {
     let file = open_file(raw.rt, image, Access::Look)?;
     match export_file(raw, &file, device, out, err) {
-        Ok(plain) => Ok(both(file, plain)),
-        Err(stopped) => Err(Refused {
-            refusal: stopped.refusal,
-            files: LeftFiles {
-                file: Some(file),
-                raw: stopped.file,
-            },
-        }),
-    }
-}
-
-// The image of an export, and the plain file.
-fn both(image: LockedFile, plain: LockedFile) -> LeftFiles
-    ensures { result ≡ record { file = Some image; raw = Some plain } }
-{
-    LeftFiles {
-        file: Some(image),
-        raw: Some(plain),
+        Ok(plain) => Ok(LeftFiles::new(Some(file), Some(plain))),
+        Err(stopped) => Err(Stopped::with(
+            stopped.refusal,
+            LeftFiles::new(Some(file), stopped.left),
+        )),
     }
 }
 
@@ -100,13 +87,13 @@ pub fn export_file<
     device: &DeviceHolds,
     out: &mut O,
     err: &mut E,
-) -> Result<LockedFile, Stopped>
+) -> Result<LockedFile, Stopped<LeftFile>>
     ensures ok { IfOk result (λ plain. IsExportedOf (S.holds image.now) (S.refuses image.now)
         (S.size image.now) device.now.bytes (O.contents out.old) (O.contents out.new)
         (made_in raw.entry) (Some plain)) }
     ensures err { IfErr result (λ stopped. IsNotExportedOf (S.holds image.now)
         (S.refuses image.now) (S.size image.now) device.now.bytes (O.contents out.old)
-        (O.contents out.new) (made_in raw.entry) stopped.file stopped.refusal) }
+        (O.contents out.new) (made_in raw.entry) stopped.left stopped.refusal) }
 {
     match ready_to_copy(raw.rt.alloc(), image, device) {
         Ok(mut ready) => make_copy(raw, image, &mut ready, out, err),
@@ -164,19 +151,19 @@ fn make_copy<R: Files<File = File>, S: DeviceFile, O: Write, E: Write + IsTermin
     ready: &mut Ready,
     out: &mut O,
     err: &mut E,
-) -> Result<LockedFile, Stopped>
+) -> Result<LockedFile, Stopped<LeftFile>>
     requires { ready.old.room.line.items ≡ exported_text ready.old.image.sizes.blocks }
     ensures ok { IfOk result (λ copied. IsPlainCopy (S.holds image.now) (S.refuses image.now)
         ready.old.image.sizes ready.old.image.window.outbox (O.contents out.old)
         (O.contents out.new) (made_in raw.entry) (Some copied)) }
     ensures err { IfErr result (λ stopped. IsNoCopyMade (S.holds image.now) (S.refuses image.now)
         ready.old.image.sizes ready.old.image.window.outbox (O.contents out.old)
-        (O.contents out.new) (made_in raw.entry) stopped.file stopped.refusal) }
+        (O.contents out.new) (made_in raw.entry) stopped.left stopped.refusal) }
 {
     let mut plain = new_target(raw, ready.image.sizes.blocks)?;
     match export_watched(image, ready, &mut plain, err) {
         Ok(()) => say_done(plain, out, &ready.room),
-        Err(fault) => Err(Stopped::with(refusal_of(fault), plain)),
+        Err(fault) => Err(Stopped::with(refusal_of(fault), Some(plain))),
     }
 }
 

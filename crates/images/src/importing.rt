@@ -10,13 +10,13 @@ ghost use Rattle.images.specs.Opened.{IsTargetUnmade, made_at};
 ghost use Rattle.images.specs.Program.{IsImport, IsImportRefused};
 
 use crate::copying::{CopyRoom, copy_room, say_done};
-use crate::ended::{LeftFile, LeftFiles, Refused, Stopped};
 use crate::gauge::Gauge;
 use crate::image::{FilePlace, new_target, sizes_of};
+use crate::left::LeftFiles;
 use crate::making::ask_to_be;
 use crate::opening::open_plain;
 use crate::task::ImageOptions;
-use console::{LockedFile, Refusal};
+use console::{LeftFile, LockedFile, Refusal, Stopped};
 use device_file::{CopyBuffer, CopyFault, CopyRange, DeviceFile, Meter, Run, copy_sectors};
 use journal::Super;
 use std::fs::{File, Files};
@@ -37,43 +37,27 @@ pub(crate) fn import<R: Files<File = File> + AllocGlobal, O: Write, E: Write + I
     image: NewImage<R>,
     out: &mut O,
     err: &mut E,
-) -> Result<LeftFiles, Refused>
+) -> Result<LeftFiles, Stopped<LeftFiles>>
     ensures done { IfOk result (λ left. IsImport raw.now
         (made_at image.entry.path.now image.entry.options.existing) (O.contents out.old)
         (O.contents out.new) left.file left.raw image.entry.options.format
         image.entry.options.slots) }
-    ensures refused { IfErr result (λ refused. IsImportRefused raw.now
+    ensures refused { IfErr result (λ stopped. IsImportRefused raw.now
         (made_at image.entry.path.now image.entry.options.existing) (O.contents out.old)
-        (O.contents out.new) refused.files.file refused.files.raw image.entry.options.format
-        image.entry.options.slots refused.refusal) }
+        (O.contents out.new) stopped.left.file stopped.left.raw image.entry.options.format
+        image.entry.options.slots stopped.refusal) }
 {
     let plain = open_plain(image.rt, raw)?;
     let mut room = match copy_room(image.rt.alloc(), b"imported ", plain.sectors()) {
         Ok(room) => room,
-        Err(refusal) => return Err(refused_with(refusal, None, plain)),
+        Err(refusal) => return Err(Stopped::with(refusal, LeftFiles::new(None, Some(plain)))),
     };
     match import_from(&plain, image, &mut room, out, err) {
-        Ok(file) => Ok(LeftFiles {
-            file: Some(file),
-            raw: Some(plain),
-        }),
-        Err(stopped) => Err(refused_with(stopped.refusal, stopped.file, plain)),
-    }
-}
-
-// Why an import of this plain file was refused.
-fn refused_with(refusal: Refusal, file: LeftFile, plain: LockedFile) -> Refused
-    ensures { result ≡ record {
-      refusal = refusal;
-      files = record { file = file; raw = Some plain };
-    } }
-{
-    Refused {
-        refusal,
-        files: LeftFiles {
-            file,
-            raw: Some(plain),
-        },
+        Ok(file) => Ok(LeftFiles::new(Some(file), Some(plain))),
+        Err(stopped) => Err(Stopped::with(
+            stopped.refusal,
+            LeftFiles::new(stopped.left, Some(plain)),
+        )),
     }
 }
 
@@ -85,7 +69,7 @@ fn import_from<R: Files<File = File>, S: DeviceFile, O: Write, E: Write + IsTerm
     room: &mut CopyRoom,
     out: &mut O,
     err: &mut E,
-) -> Result<LockedFile, Stopped>
+) -> Result<LockedFile, Stopped<LeftFile>>
     requires { room.old.line.items ≡ imported_text (S.size plain.now) }
     ensures ok { IfOk result (λ file. IsImage (S.holds plain.now) (S.refuses plain.now)
         image.entry.options.format (S.size plain.now) image.entry.options.slots
@@ -94,7 +78,7 @@ fn import_from<R: Files<File = File>, S: DeviceFile, O: Write, E: Write + IsTerm
     ensures err { IfErr result (λ stopped. IsNoImage (S.holds plain.now) (S.refuses plain.now)
         image.entry.options.format (S.size plain.now) image.entry.options.slots
         (O.contents out.old) (O.contents out.new)
-        (made_at image.entry.path.now image.entry.options.existing) stopped.file
+        (made_at image.entry.path.now image.entry.options.existing) stopped.left
         stopped.refusal) }
 {
     let options = image.options;
@@ -104,7 +88,7 @@ fn import_from<R: Files<File = File>, S: DeviceFile, O: Write, E: Write + IsTerm
     let mut file = new_image(image, &sizes)?;
     match import_watched(plain, &sizes, &mut file, room, err) {
         Ok(()) => say_done(file, out, room),
-        Err(fault) => Err(Stopped::with(refusal_of(fault), file)),
+        Err(fault) => Err(Stopped::with(refusal_of(fault), Some(file))),
     }
 }
 

@@ -2,12 +2,12 @@
 #![tactic(auto)]
 
 mod copying;
-mod ended;
 mod exporting;
 mod gauge;
 mod image;
 mod importing;
 mod laws;
+mod left;
 mod making;
 mod migrating;
 mod opening;
@@ -16,11 +16,11 @@ mod showing;
 mod task;
 mod text;
 
-pub use ended::{Ended, Stopped};
 pub use exporting::{RecoveredImage, export_blocks, export_file, recover_in_window};
 pub use image::FilePlace;
 pub use importing::import_blocks;
 pub use laws::{copy_laws, making_laws};
+pub use left::LeftFiles;
 pub use making::ask_to_be;
 pub use migrating::migrate_file;
 pub use program::{command, run_program};

@@ -8,10 +8,9 @@ ghost use Rattle.images.specs.Migrating.{IsMigratedOf, IsNotMigratedOf};
 ghost use Rattle.images.specs.Migrating.{migration_room};
 ghost use Rattle.images.specs.Program.{IsMigration, IsMigrationRefused};
 
-use crate::ended::{LeftFile, Stopped};
 use crate::exporting::room_to_recover;
 use crate::opening::{first_of, open_file, window_over};
-use console::{Refusal, migration_line, write_out};
+use console::{LeftFile, Refusal, Stopped, migration_line, write_out};
 use device_file::{DeviceFile, FileFault, FirstSectors, Run, carry_out};
 use journal::{LogFormat, Super};
 use medium::Access;
@@ -27,28 +26,20 @@ pub(crate) fn migrate<R: Files<File = File> + AllocGlobal, O: Write>(
     image: &str,
     device: &DeviceHolds,
     out: &mut O,
-) -> Result<LeftFile, Stopped>
+) -> Result<LeftFile, Stopped<LeftFile>>
     ensures done { IfOk result (IsMigration image.now device.now.bytes
         (O.contents out.old) (O.contents out.new)) }
     ensures refused { IfErr result (λ stopped. IsMigrationRefused image.now device.now.bytes
-        (O.contents out.old) (O.contents out.new) stopped.file stopped.refusal) }
+        (O.contents out.old) (O.contents out.new) stopped.left stopped.refusal) }
 {
     let mut file = open_file(rt, image, Access::Change)?;
     let was_one = match migrate_file(rt.alloc(), &mut file, device) {
         Ok(was_one) => was_one,
-        Err(refusal) => {
-            return Err(Stopped {
-                refusal,
-                file: Some(file),
-            });
-        }
+        Err(refusal) => return Err(Stopped::with(refusal, Some(file))),
     };
     match write_out(out, migration_line(was_one)) {
         Ok(()) => Ok(Some(file)),
-        Err(_) => Err(Stopped {
-            refusal: Refusal::Streams,
-            file: Some(file),
-        }),
+        Err(_) => Err(Stopped::with(Refusal::Streams, Some(file))),
     }
 }
 

@@ -24,15 +24,15 @@ ghost use Rattle.device_file.specs.Carried.{AreCalls};
 ghost use Rattle.images.specs.Task.{image_wanted, wanted_of};
 ghost use Rattle.journal.specs.Formats.{shape_of};
 
-use crate::ended::{Ended, LeftFile, LeftFiles, Refused, Stopped};
 use crate::exporting::export;
 use crate::image::{FilePlace, new_file, super_of};
 use crate::importing::{NewImage, import};
+use crate::left::LeftFiles;
 use crate::making::ask_to_be;
 use crate::migrating::migrate;
 use crate::showing::show;
 use crate::task::{ImageTask, NewSizes, Task, read_words};
-use console::{ArgumentFault, Refusal, foresee, words_of, write_out};
+use console::{ArgumentFault, Ended, LeftFile, Refusal, Stopped, words_of, write_out};
 use device_file::Run;
 use journal::Super;
 use std::fs::{File, Files};
@@ -64,32 +64,20 @@ pub fn command<R: Files<File = File> + AllocGlobal, O: Write, E: Write + IsTermi
     device: &DeviceHolds,
     out: &mut O,
     err: &mut E,
-) -> Ended
+) -> Ended<LeftFiles>
     ensures statuses { result.status ≤ 5 }
     ensures done { result.status ≡ 0 → IsObeyed device.now.bytes (O.contents out.old)
-        (O.contents out.new) result.file result.raw (map (λ word. word.now) words.now) }
+        (O.contents out.new) result.left.file result.left.raw (map (λ word. word.now) words.now) }
     ensures refused { EndsFor result.status (IsRefusedFor device.now.bytes (O.contents out.old)
-        (O.contents out.new) result.file result.raw (map (λ word. word.now) words.now)) }
-    ensures calls { AreCalls result.file × AreCalls result.raw }
+        (O.contents out.new) result.left.file result.left.raw (map (λ word. word.now) words.now)) }
+    ensures calls { AreCalls result.left.file × AreCalls result.left.raw }
 {
     match dispatch(rt, words, device, out, err) {
-        Ok(left) => end(0, left),
-        Err(refused) => refuse(refused, words, err),
-    }
-}
-
-// How a command ended, of whose files is said by which calls of the system they did what they were
-// asked.
-fn end(status: u8, left: LeftFiles) -> Ended
-    ensures is { result ≡ record { status = status; file = left.file; raw = left.raw } }
-    ensures calls { AreCalls left.file × AreCalls left.raw }
-{
-    foresee(&left.file);
-    foresee(&left.raw);
-    Ended {
-        status,
-        file: left.file,
-        raw: left.raw,
+        Ok(left) => {
+            left.foresee();
+            Ended { status: 0, left }
+        }
+        Err(stopped) => refuse(stopped, words, err),
     }
 }
 
@@ -100,16 +88,16 @@ fn dispatch<R: Files<File = File> + AllocGlobal, O: Write, E: Write + IsTerminal
     device: &DeviceHolds,
     out: &mut O,
     err: &mut E,
-) -> Result<LeftFiles, Refused>
+) -> Result<LeftFiles, Stopped<LeftFiles>>
     ensures done { IfOk result (λ left. IsObeyed device.now.bytes (O.contents out.old)
         (O.contents out.new) left.file left.raw (map (λ word. word.now) words.now)) }
-    ensures refused { IfErr result (λ refused. IsRefusedFor device.now.bytes (O.contents out.old)
-        (O.contents out.new) refused.files.file refused.files.raw (map (λ word. word.now) words.now)
-        refused.refusal) }
+    ensures refused { IfErr result (λ stopped. IsRefusedFor device.now.bytes (O.contents out.old)
+        (O.contents out.new) stopped.left.file stopped.left.raw (map (λ word. word.now) words.now)
+        stopped.refusal) }
 {
     match read_words(words) {
         Some(task) => do_task(rt, task, device, out, err),
-        None => Err(Refused::from(Refusal::Words)),
+        None => Err(Stopped::from(Refusal::Words)),
     }
 }
 
@@ -120,15 +108,18 @@ fn do_task<R: Files<File = File> + AllocGlobal, O: Write, E: Write + IsTerminal>
     device: &DeviceHolds,
     out: &mut O,
     err: &mut E,
-) -> Result<LeftFiles, Refused>
+) -> Result<LeftFiles, Stopped<LeftFiles>>
     ensures done { IfOk result (λ left. HasDone device.now.bytes (O.contents out.old)
         (O.contents out.new) left.file left.raw (wanted_of task.entry)) }
-    ensures refused { IfErr result (λ refused. HasNotDone device.now.bytes (O.contents out.old)
-        (O.contents out.new) refused.files.file refused.files.raw (wanted_of task.entry)
-        refused.refusal) }
+    ensures refused { IfErr result (λ stopped. HasNotDone device.now.bytes (O.contents out.old)
+        (O.contents out.new) stopped.left.file stopped.left.raw (wanted_of task.entry)
+        stopped.refusal) }
 {
     match task {
-        Task::Image(task) => alone(do_image(rt, task, device, out)),
+        Task::Image(task) => match do_image(rt, task, device, out) {
+            Ok(file) => Ok(LeftFiles::new(file, None)),
+            Err(stopped) => Err(Stopped::with(stopped.refusal, LeftFiles::new(stopped.left, None))),
+        },
         Task::Import {
             raw,
             image: path,
@@ -143,16 +134,17 @@ fn do_task<R: Files<File = File> + AllocGlobal, O: Write, E: Write + IsTerminal>
 }
 
 // Does what a command line asks for that names one file at most.
+#[tactic(auto, using(crate::proofs::Alone::alone_ok, crate::proofs::Alone::alone_err))]
 fn do_image<R: Files<File = File> + AllocGlobal, O: Write>(
     rt: &R,
     task: ImageTask,
     device: &DeviceHolds,
     out: &mut O,
-) -> Result<LeftFile, Stopped>
+) -> Result<LeftFile, Stopped<LeftFile>>
     ensures done { IfOk result (λ back. HasDone device.now.bytes (O.contents out.old)
         (O.contents out.new) back None (image_wanted task.entry)) }
     ensures refused { IfErr result (λ stopped. HasNotDone device.now.bytes (O.contents out.old)
-        (O.contents out.new) stopped.file None (image_wanted task.entry) stopped.refusal) }
+        (O.contents out.new) stopped.left None (image_wanted task.entry) stopped.refusal) }
 {
     match task {
         ImageTask::Help => say_help(out),
@@ -167,24 +159,12 @@ fn do_image<R: Files<File = File> + AllocGlobal, O: Write>(
     }
 }
 
-// How a command of one file ended: there is no plain one.
-fn alone(ended: Result<LeftFile, Stopped>) -> Result<LeftFiles, Refused>
-    ensures ok { IfOk result (λ left. (left.raw ≡ None) × (ended ≡ Ok left.file)) }
-    ensures err { IfErr result (λ refused. (refused.files.raw ≡ None)
-        × (ended ≡ Err (record { refusal = refused.refusal; file = refused.files.file }))) }
-{
-    match ended {
-        Ok(file) => Ok(LeftFiles { file, raw: None }),
-        Err(stopped) => Err(Refused::from(stopped)),
-    }
-}
-
 // Tells the commands.
-fn say_help<O: Write>(out: &mut O) -> Result<LeftFile, Stopped>
+fn say_help<O: Write>(out: &mut O) -> Result<LeftFile, Stopped<LeftFile>>
     ensures done { IfOk result (λ back. IsTold (O.contents out.old) (O.contents out.new)
         back help_text) }
     ensures refused { IfErr result (λ stopped. IsUntold (O.contents out.old) (O.contents out.new)
-        stopped.file help_text stopped.refusal) }
+        stopped.left help_text stopped.refusal) }
 {
     match write_out(out, HELP) {
         Ok(()) => Ok(None),
@@ -193,11 +173,11 @@ fn say_help<O: Write>(out: &mut O) -> Result<LeftFile, Stopped>
 }
 
 // Tells the version.
-fn say_version<O: Write>(out: &mut O) -> Result<LeftFile, Stopped>
+fn say_version<O: Write>(out: &mut O) -> Result<LeftFile, Stopped<LeftFile>>
     ensures done { IfOk result
         (λ back. IsTold (O.contents out.old) (O.contents out.new) back version_text) }
     ensures refused { IfErr result (λ stopped. IsUntold (O.contents out.old) (O.contents out.new)
-        stopped.file version_text stopped.refusal) }
+        stopped.left version_text stopped.refusal) }
 {
     match write_out(out, VERSION) {
         Ok(()) => Ok(None),
@@ -211,11 +191,11 @@ fn make<R: Files<File = File> + AllocGlobal, O: Write>(
     place: FilePlace<R>,
     wanted: &NewSizes,
     out: &mut O,
-) -> Result<LeftFile, Stopped>
+) -> Result<LeftFile, Stopped<LeftFile>>
     ensures done { IfOk result (λ back. IsMake (O.contents out.old) (O.contents out.new) back
         (made_in place.entry) wanted.now) }
     ensures refused { IfErr result (λ stopped. IsMakeRefused (O.contents out.old)
-        (O.contents out.new) stopped.file (made_in place.entry) wanted.now stopped.refusal) }
+        (O.contents out.new) stopped.left (made_in place.entry) wanted.now stopped.refusal) }
 {
     let sizes = super_of(wanted)?;
     match Run::new(place.rt.alloc()) {
@@ -230,11 +210,11 @@ fn make_with<R: Files<File = File>, O: Write>(
     sizes: &Super,
     run: &mut Run,
     out: &mut O,
-) -> Result<LeftFile, Stopped>
+) -> Result<LeftFile, Stopped<LeftFile>>
     ensures done { IfOk result (λ back. IsMadeAs (O.contents out.old) (O.contents out.new) back
         (made_in place.entry) (shape_of sizes.now)) }
     ensures refused { IfErr result (λ stopped. IsNotMade (O.contents out.old)
-        (O.contents out.new) stopped.file (made_in place.entry) (shape_of sizes.now)
+        (O.contents out.new) stopped.left (made_in place.entry) (shape_of sizes.now)
         stopped.refusal) }
 {
     let mut file = match new_file(place.rt, place.path, sizes.sectors(), place.existing) {
@@ -242,36 +222,26 @@ fn make_with<R: Files<File = File>, O: Write>(
         Err(refusal) => return Err(Stopped::from(refusal)),
     };
     if let Err(fault) = ask_to_be(&mut file, run, sizes) {
-        return Err(Stopped {
-            refusal: Refusal::File(fault),
-            file: Some(file),
-        });
+        return Err(Stopped::with(Refusal::File(fault), Some(file)));
     }
     match write_out(out, b"made\n") {
         Ok(()) => Ok(Some(file)),
-        Err(_) => Err(Stopped {
-            refusal: Refusal::Streams,
-            file: Some(file),
-        }),
+        Err(_) => Err(Stopped::with(Refusal::Streams, Some(file))),
     }
 }
 
 // Writes why a command was refused, where that can be written, and tells how it ended.
-fn refuse<E: Write>(refused: Refused, words: &[&str], err: &mut E) -> Ended
-    ensures is { result ≡ record {
-      status = status_of refused.refusal;
-      file = refused.files.file;
-      raw = refused.files.raw;
-    } }
-    ensures calls { AreCalls refused.files.file × AreCalls refused.files.raw }
+fn refuse<E: Write>(stopped: Stopped<LeftFiles>, words: &[&str], err: &mut E) -> Ended<LeftFiles>
+    ensures is { result ≡ record { status = status_of stopped.refusal; left = stopped.left } }
+    ensures calls { AreCalls stopped.left.file × AreCalls stopped.left.raw }
 {
     // A refusal names the second file behind the command's name, or the first.
-    let name = match refused.refusal {
+    let name = match stopped.refusal {
         Refusal::Target(_) => words.get(2),
         _ => words.get(1),
     };
-    refused.refusal.report(name.copied(), err);
-    end(refused.refusal.status(), refused.files)
+    stopped.left.foresee();
+    stopped.report(name.copied(), err)
 }
 
 /// Does what the program's arguments ask for, and gives the exit status. Where they are not had, it
@@ -283,23 +253,23 @@ pub fn run_program<R: Files<File = File> + AllocGlobal, O: Write, E: Write + IsT
     device: &DeviceHolds,
     out: &mut O,
     err: &mut E,
-) -> Ended
+) -> Ended<LeftFiles>
     ensures statuses { result.status ≤ 5 }
     ensures done { result.status ≡ 0 → MatchResult args (λ all. IsObeyed device.now.bytes
-        (O.contents out.old) (O.contents out.new) result.file result.raw
+        (O.contents out.old) (O.contents out.new) result.left.file result.left.raw
         (drop 1 (map string_bytes all.items))) (λ fault. ⊥) }
     ensures refused { EndsFor result.status (λ refusal. MatchResult args (λ all. IsProgramRefused
-        device.now.bytes (O.contents out.old) (O.contents out.new) result.file result.raw
+        device.now.bytes (O.contents out.old) (O.contents out.new) result.left.file result.left.raw
         (drop 1 (map string_bytes all.items)) refusal) (λ fault. HasNoWords device.now.bytes
-        (O.contents out.old) (O.contents out.new) result.file result.raw fault refusal)) }
-    ensures calls { AreCalls result.file × AreCalls result.raw }
+        (O.contents out.old) (O.contents out.new) result.left.file result.left.raw fault refusal)) }
+    ensures calls { AreCalls result.left.file × AreCalls result.left.raw }
 {
     let args = match args {
         Ok(args) => args,
-        Err(fault) => return refuse(Refused::from(Refusal::from(fault)), &[], err),
+        Err(fault) => return refuse(Stopped::from(Refusal::from(fault)), &[], err),
     };
     match words_of(rt.alloc(), args.as_slice()) {
         Ok(words) => command(rt, words.as_slice(), device, out, err),
-        Err(_) => refuse(Refused::from(Refusal::NoMemory), &[], err),
+        Err(_) => refuse(Stopped::from(Refusal::NoMemory), &[], err),
     }
 }

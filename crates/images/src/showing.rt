@@ -3,10 +3,9 @@ ghost use Rattle.std.specs.Prelude.{OnOk, IfOk, IfErr};
 ghost use Rattle.images.specs.Program.{IsShow, IsShowRefused};
 ghost use Rattle.images.specs.Showing.{IsShown, IsNotShown, IsShownOf, IsNotShownOf};
 
-use crate::ended::{LeftFile, Stopped};
 use crate::opening::{first_of, open_file, window_over};
 use crate::text::text_of;
-use console::{Refusal, write_out};
+use console::{LeftFile, Refusal, Stopped, write_out};
 use device_file::{DeviceFile, FirstSectors};
 use medium::Access;
 use recovery::inspect;
@@ -22,19 +21,16 @@ pub(crate) fn show<R: Files<File = File> + AllocGlobal, O: Write>(
     image: &str,
     device: &DeviceHolds,
     out: &mut O,
-) -> Result<LeftFile, Stopped>
+) -> Result<LeftFile, Stopped<LeftFile>>
     ensures done { IfOk result (IsShow image.now device.now.bytes (O.contents out.old)
         (O.contents out.new)) }
     ensures refused { IfErr result (λ stopped. IsShowRefused image.now device.now.bytes
-        (O.contents out.old) (O.contents out.new) stopped.file stopped.refusal) }
+        (O.contents out.old) (O.contents out.new) stopped.left stopped.refusal) }
 {
     let file = open_file(rt, image, Access::Look)?;
     match show_file(rt.alloc(), &file, device, out) {
         Ok(()) => Ok(Some(file)),
-        Err(refusal) => Err(Stopped {
-            refusal,
-            file: Some(file),
-        }),
+        Err(refusal) => Err(Stopped::with(refusal, Some(file))),
     }
 }
 

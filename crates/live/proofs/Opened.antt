@@ -63,10 +63,7 @@ module _ (sectors : ℕ) (bytes device : List ℕ) (some : 0 < sectors) where
       let zero = at_0 1 2 (omega arith) count in
       record {
         empty = refl;
-        log = record {
-          some = omega (arith, some, count);
-          log = λ shape has. absurd (spells shape (subst (IsSuper shape) zero has.super));
-        };
+        log = record { some = omega (arith, some, count); log = λ shape has. absurd (spells shape (subst (IsSuper shape) zero has.super)) };
         room = inr (λ shape has. spells shape (subst (IsSuper shape) zero has.super), omega arith);
         span = omega arith;
         foresees = λ new. covers_fresh sectors bytes device 240 1 (over 1) new refl;

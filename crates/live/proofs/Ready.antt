@@ -53,33 +53,25 @@ module _ {D : Type 0} where
       let stood = opened.store.stood in
       let has : HasShape (state_of first).size (layout_on started) (state_of first).content =
       record { super = stood.keeps.super; fits = stood.fits } in record {
-        log = omega (arith, follows.near_stays, ready.log.log (layout_on started) has);
-        room = omega (
-          arith,
-          follows.room_stays,
-          room_by (state_of first).size first.room (state_of first).content (layout_on started) ready.room has,
-        );
-        span = omega (arith, ready.span, follows.span_stays);
+        log = rw follows.near_stays (ready.log.log (layout_on started) has);
+        room = rw follows.room_stays (room_by (state_of first).size first.room (state_of first).content (layout_on started) ready.room has);
+        span = rw follows.span_stays ready.span;
       }
 
   fit_played : (old played : DiskOn D) → IsReady old → ComesAfter (window_of old) (window_of played)
       → layout_on played ≡ layout_on old → IsFit played
   fit_played old played ready follows layout = record {
-    log = omega (arith, ready.log, follows.near_stays, ap (λ (s : Shape). s.home) layout);
-    room = omega (arith, ready.room, follows.room_stays, ap (λ (s : Shape). room_of s.format s.slots) layout);
-    span = omega (arith, ready.span, follows.span_stays);
+    log = rw (layout, follows.near_stays) ready.log;
+    room = rw (layout, follows.room_stays) ready.room;
+    span = rw follows.span_stays ready.span;
   }
 
   ready_carried : (told : D → Told) {at_once : D → List DeviceCall → D → Type 0} (played new : DiskOn D) → IsFit played
       → Carries told at_once (medium_of played) (medium_of new) → IsRearmed played new → (medium_of new).fault ≡ None → IsReady new
   ready_carried told played new fit carries others well =
       let is = carries.carried.lets_go.is in
-      let layout = ap (λ (d : DiskOn D). layout_on d) others in record {
-        empty = carries.all well;
-        log = omega (arith, fit.log, ap (λ (w : Window). w.near) is, ap (λ (s : Shape). s.home) layout);
-        room = omega (arith, fit.room, ap (λ (w : Window). w.room) is, ap (λ (s : Shape). room_of s.format s.slots) layout);
-        span = omega (arith, fit.span, ap (λ (w : Window). w.span) is);
-      }
+      let layout = ap (λ (d : DiskOn D). layout_on d) others in
+      record { empty = carries.all well; log = rw (layout, is) fit.log; room = rw (layout, is) fit.room; span = rw is fit.span }
 
   -- a disk that started, and whose file carried out all
   pub ready_started : {told : D → Told} {at_once : D → List DeviceCall → D → Type 0} {most : ℕ} {medium : FileWindow D} {new : DiskOn D}
@@ -97,10 +89,11 @@ module _ {D : Type 0} where
 
   -- ---- an event
 
-  few : (old played : DiskOn D) → IsReady old
-      → sent (state_of (window_of played)) ≤ sent (state_of (window_of old)) + (room_of (layout_on old).format (layout_on old).slots)
+  few : (old played : DiskOn D) (event : Event) (answer : Answer)
+      → IsStep (state_of (window_of old)) (state_of (window_of played)) old event answer played → IsReady old
       → length (window_of old).outbox + sent (state_of (window_of played)) ≤ sent (state_of (window_of old)) + (window_of old).room
-  few old played ready sends = omega (arith, sends, ready.room, ap (λ l. length l) ready.empty)
+  few old played event answer step ready =
+      omega (arith, step.few.sent, enough (layout_on old).format (layout_on old).slots, ready.room, ap (λ l. length l) ready.empty)
 
   named_in_sight : (old : DiskOn D) (event : Event) → IsReady old → SeesHome old event → (s : ℕ)
       → ReadsBack old.unit s ⊎ ReadsAt old event s → is_in_sight (window_of old) s ≡ true
@@ -112,7 +105,7 @@ module _ {D : Type 0} where
       → IsStep (state_of (window_of old)) (state_of (window_of played)) old event answer played
       → ComesAfter (window_of old) (window_of played) → IsReady old → KeepsAll (window_of old) (window_of played)
   event_kept old played event answer step follows ready = none_kept_out (window_of old) (window_of played) follows
-      (few old played ready (omega (arith, step.few.sent, enough (layout_on old).format (layout_on old).slots)))
+      (few old played event answer step ready)
 
   pub event_served : (old played : DiskOn D) (event : Event) (answer : Answer)
       → IsStep (state_of (window_of old)) (state_of (window_of played)) old event answer played
@@ -120,8 +113,7 @@ module _ {D : Type 0} where
       → RefusesNone (window_of old) (window_of played)
   event_served old played event answer step served ready home =
       none_refused (λ s. ReadsBack old.unit s ⊎ ReadsAt old event s) (window_of old) (window_of played) served
-      (named_in_sight old event ready home) step.looks
-      (few old played ready (omega (arith, step.few.sent, enough (layout_on old).format (layout_on old).slots)))
+      (named_in_sight old event ready home) step.looks (few old played event answer step ready)
 
   -- ---- sectors are shown before a packet
 
@@ -129,21 +121,11 @@ module _ {D : Type 0} where
   same_home : (old new : DiskOn D) → IsRearmed old new → (packet : List ℕ) (home : HomeSectors) → ReadsHome new packet home
       → ReadsHome old packet home
   same_home old new others packet home reads =
-      let there : DiskOn D = record old {
-        unit = record old.unit {
-          store = record old.unit.store { medium = medium_of new };
-        };
-      } in
-      let back = subst (λ (d : DiskOn D). ReadsHome d packet home) others reads in record {
+      let back = subst (λ (d : DiskOn D). ReadsHome d packet home) others reads in
+      let w = back.wrapper in record {
         unhalted = back.unhalted;
         expected = back.expected;
-        wrapper = record {
-          command = back.wrapper.command;
-          spelled = back.wrapper.spelled;
-          case = back.wrapper.case;
-          is_case = back.wrapper.is_case;
-          reads = back.wrapper.reads;
-        };
+        wrapper = record { command = w.command; spelled = w.spelled; case = w.case; is_case = w.is_case; reads = w.reads };
       }
 
   -- and no others
@@ -173,12 +155,8 @@ module _ {D : Type 0} where
         → IsReady new
     ready_shown old new first count sees ready =
         let is = sees.shown.shown.others in
-        let layout = ap (λ (d : DiskOn D). layout_on d) sees.others in record {
-          empty = ap (λ (w : Window). w.outbox) is ∙ ready.empty;
-          log = omega (arith, ready.log, ap (λ (w : Window). w.near) is, ap (λ (s : Shape). s.home) layout);
-          room = omega (arith, ready.room, ap (λ (w : Window). w.room) is, ap (λ (s : Shape). room_of s.format s.slots) layout);
-          span = omega (arith, ready.span, ap (λ (w : Window). w.span) is);
-        }
+        let layout = ap (λ (d : DiskOn D). layout_on d) sees.others in
+        record { empty = rw is ready.empty; log = rw (layout, is) ready.log; room = rw (layout, is) ready.room; span = rw is ready.span }
 
     -- all that the packet has read is in sight then
     shown_sees : (old new : DiskOn D) (packet : List ℕ) (first count : ℕ) → IsReady old → Wants old packet first count

@@ -64,7 +64,7 @@ module _ (device : List ℕ) (was now left after : Option (List ℕ)) (back : Op
         | inl (inl (none, given), unread, kept) ↦ same given
         | inl (inr on, unread, kept) ↦ elim on.refused [
           | inl start ↦ same (start.unasked ∙ on.on.over.file_is)
-          | inr part ↦ absurd (player_not_three part.starts.carried.carried.part (medium_of part.disk).fault part.starts.carried.named
+          | inr part ↦ absurd (player_not_three part.so.carried.carried.part (medium_of part.disk).fault part.so.carried.named
               (rw part.fault_is (sym (ap status_of part.refused_is) ∙ three)))
         ]
         | inr serving ↦ absurd (serving_not_three _ _ _ _ _ was now left after serving.first serving.last serving.fault serving.stopped

@@ -1,5 +1,5 @@
 -- No start and no event misses.
-use Rattle.std.proofs.{Common.{◌≡◌, ◌<◌, ◌≤◌, ◌+◌, ℕ, length, inl, inr, arith, ap}, Math.Nat.{le-max_left, le-max_right}}
+use Rattle.std.proofs.{Common.{◌<◌, ◌≤◌, ◌+◌, ℕ, length, inl, inr, arith, ap}, Math.Nat.{le-max_left, le-max_right}}
 use Rattle.medium.specs.{Medium.State, Sent.sent, declared.fault.MediumFault.MediumFault}
 use Rattle.journal.specs.{declared.log_format.LogFormat.LogFormat, declared.log_format.LogFormat.TheVariants.{One, Two}}
 use Rattle.recovery.specs.{Causes.{IsDeviceFault, start_fault_of}, Calls.{most_start_sends, LooksAtLog}}
@@ -21,14 +21,11 @@ enough_start Two slots = le-max_right 1479 (most_start_sends Two slots)
 -- ---- a start
 
 module _ (first after : Window) (ready : IsReadyToStart first) (leaves : StartLeaves (state_of first) (state_of after)) where
-  none_waits : length first.outbox ≡ 0
-  none_waits = ap (λ l. length l) ready.empty
-
   fits_by : HasRoomToStart (state_of first).size (state_of first).content first.room
       → length first.outbox + sent (state_of after) ≤ sent (state_of first) + first.room
   fits_by (inl (shape, has, room)) =
-      omega (arith, none_waits, room, leaves.bounded.sends.most shape has, enough_start shape.format shape.slots)
-  fits_by (inr (none, room)) = omega (arith, none_waits, room, leaves.bounded.sends.none none)
+      omega (arith, ap (λ l. length l) ready.empty, room, leaves.bounded.sends.most shape has, enough_start shape.format shape.slots)
+  fits_by (inr (none, room)) = omega (arith, ap (λ l. length l) ready.empty, room, leaves.bounded.sends.none none)
 
   pub start_misses : ComesAfter first after → LooksAtLog (state_of first) (state_of after) → IsServed first after
       → RefusesNone first after

@@ -52,21 +52,22 @@ HasNoWindow refuses size refusal =
     ((why : OpenFault) × IsUnopened refuses size why × (refusal ≡ refusal_of_open why))
     ⊎ (refusal ≡ refused.NoMemory)
 
+-- the file of a disk that is so refused a call, and comes back
+pub record IsRefusedOf {D : Type 0} (So : DiskOn D → Type 0) (back : D) (refusal : Refusal)
+    : Type 0 where
+  pub disk : DiskOn D
+  pub so : So disk
+  pub fault : FileFault
+  pub fault_is : (medium_of disk).fault ≡ Some fault
+  pub refused_is : refusal ≡ refused.File fault
+  pub given : back ≡ (medium_of disk).file
+
 -- Of a disk that started: what waits was asked of the file, and nothing else changed.
 module _ {D : Type 0} (told : D → Told) (at_once : D → List DeviceCall → D → Type 0)
     (started : DiskOn D) where
   pub record IsCarried (new : DiskOn D) : Type 0 where
     pub carried : Carries told at_once (medium_of started) (medium_of new)
     pub others : IsRearmed started new
-
-  -- the file refused a call of that, and comes back
-  pub record IsCarriedInPart (back : D) (refusal : Refusal) : Type 0 where
-    pub disk : DiskOn D
-    pub carried : IsCarried disk
-    pub fault : FileFault
-    pub fault_is : (medium_of disk).fault ≡ Some fault
-    pub refused_is : refusal ≡ refused.File fault
-    pub given : back ≡ (medium_of disk).file
 
 -- What a file was asked. Packets have at most `most` bytes.
 module _ {D : Type 0} (told : D → Told) (at_once : D → List DeviceCall → D → Type 0) (most : ℕ)
@@ -102,17 +103,9 @@ module _ {D : Type 0} (told : D → Told) (at_once : D → List DeviceCall → D
     pub refused_is : refusal ≡ refused.Image fault
     pub unasked : back ≡ medium.file
 
-  -- a disk started, and the file refused a call that it sent
-  pub record IsStartedInPart (back : D) (refusal : Refusal) : Type 0 where
-    pub disk : DiskOn D
-    pub starts : Starts disk
-    pub fault : FileFault
-    pub fault_is : (medium_of disk).fault ≡ Some fault
-    pub refused_is : refusal ≡ refused.File fault
-    pub given : back ≡ (medium_of disk).file
-
+  -- or a disk started, and the file refused a call that it sent
   abbrev pub IsRefusedStart : D → Refusal → Type 0
-  IsRefusedStart back refusal = IsNotStarted back refusal ⊎ IsStartedInPart back refusal
+  IsRefusedStart back refusal = IsNotStarted back refusal ⊎ IsRefusedOf Starts back refusal
 
   -- a disk started, and the file carried out all that it sent: it is ready for events
   pub record IsStarted (new : DiskOn D) : Type 0 where

@@ -1,7 +1,6 @@
 //! An image file of any size, served line by line: what the program `usbdisk_live` does.
 #![tactic(auto)]
 
-mod ended;
 mod file;
 mod missing;
 mod player;
@@ -10,7 +9,6 @@ mod serving;
 mod starting;
 mod streams;
 
-pub use ended::{Ended, Stopped};
 pub use file::FileWindow;
 pub use player::{FileDisk, TRANSFER};
 pub use program::{live_command, run_live};

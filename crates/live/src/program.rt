@@ -1,27 +1,25 @@
 //! The work of the program that serves an image file line by line.
-ghost use Rattle.std.specs.Prelude.{◌≡◌, ◌↔◌, None, IfOk, IfErr, MatchResult};
+ghost use Rattle.std.specs.Prelude.{◌≡◌, ◌↔◌, IfOk, IfErr, MatchResult};
 ghost use Rattle.std.specs.Prelude.{map, drop, string_bytes};
 ghost use Rattle.spec.specs.Packets.{bytes_of};
 ghost use Rattle.device_file.specs.Carried.{AreCalls};
-ghost use Rattle.console.specs.Status.{EndsFor, status_of};
+ghost use Rattle.console.specs.Status.{EndsFor};
 ghost use Rattle.live.specs.Program.{HasDoneLive, HasNoWords, IsLiveOn, IsLiveRefusedFor};
 ghost use Rattle.live.specs.Program.{IsLiveStatus, IsProgramRefused, IsStoppedOn};
 ghost use Rattle.runner.specs.Live.{IsLiveLine};
 
-use crate::ended::{Ended, Stopped};
 use crate::serving::serve_file;
 use crate::starting::DiskOptions;
 use crate::streams::Streams;
-use console::{ArgumentFault, LockedFile, Refusal, foresee, guard_streams, words_of};
+use console::{
+    ArgumentFault, Ended, LeftFile, LockedFile, Refusal, Stopped, foresee, guard_streams, words_of,
+};
 use medium::Access;
 use runner::read_live_words;
 use std::alloc::Global;
 use std::fs::{File, Files};
 use std::io::{Read, Write};
 use window::DeviceHolds;
-
-/// The file of an image, where one was opened.
-type LeftFile = Option<LockedFile>;
 
 /// Serves an image file, line by line of an input, and gives the exit status.
 ///
@@ -36,29 +34,25 @@ pub fn live_command<R: Files<File = File> + AllocGlobal, I: Read, O: Write, E: W
     device: &DeviceHolds,
     streams: &mut Streams<I, O>,
     err: &mut E,
-) -> Ended
-    ensures statuses { IsLiveStatus result.status result.file }
+) -> Ended<LeftFile>
+    ensures statuses { IsLiveStatus result.status result.left }
     ensures done { result.status ≡ 0 → HasDoneLive device.now.bytes (O.contents streams.old.out)
         (O.contents streams.new.out) (I.remaining streams.old.input) (I.remaining streams.new.input)
-        result.file (map (λ word. word.now) words.now) × (err.new ≡ err.old) }
+        result.left (map (λ word. word.now) words.now) × (err.new ≡ err.old) }
     ensures words { (result.status ≡ 2) ↔ (IsLiveLine (map (λ word. word.now) words.now) → ⊥) }
     ensures refused { EndsFor result.status (IsLiveRefusedFor device.now.bytes
         (O.contents streams.old.out) (O.contents streams.new.out) (I.remaining streams.old.input)
-        (I.remaining streams.new.input) result.file (map (λ word. word.now) words.now)) }
-    ensures calls { AreCalls result.file }
+        (I.remaining streams.new.input) result.left (map (λ word. word.now) words.now)) }
+    ensures calls { AreCalls result.left }
 {
     match serve_image(rt, words, device, streams) {
-        Ok(file) => {
-            foresee(&file);
-            Ended { status: 0, file }
+        Ok(left) => {
+            foresee(&left);
+            Ended { status: 0, left }
         }
         Err(stopped) => {
-            stopped.refusal.report(words.first().copied(), err);
-            foresee(&stopped.file);
-            Ended {
-                status: stopped.refusal.status(),
-                file: stopped.file,
-            }
+            foresee(&stopped.left);
+            stopped.report(words.first().copied(), err)
         }
     }
 }
@@ -71,27 +65,27 @@ pub fn run_live<R: Files<File = File> + AllocGlobal, I: Read, O: Write, E: Write
     device: &DeviceHolds,
     streams: &mut Streams<I, O>,
     err: &mut E,
-) -> Ended
-    ensures statuses { IsLiveStatus result.status result.file }
+) -> Ended<LeftFile>
+    ensures statuses { IsLiveStatus result.status result.left }
     ensures done { result.status ≡ 0 → MatchResult args (λ all. HasDoneLive device.now.bytes
         (O.contents streams.old.out) (O.contents streams.new.out) (I.remaining streams.old.input)
-        (I.remaining streams.new.input) result.file (drop 1 (map string_bytes all.items)))
+        (I.remaining streams.new.input) result.left (drop 1 (map string_bytes all.items)))
         (λ fault. ⊥) × (err.new ≡ err.old) }
     ensures refused { EndsFor result.status (λ refusal. MatchResult args (λ all. IsProgramRefused
         device.now.bytes (O.contents streams.old.out) (O.contents streams.new.out)
-        (I.remaining streams.old.input) (I.remaining streams.new.input) result.file
+        (I.remaining streams.old.input) (I.remaining streams.new.input) result.left
         (drop 1 (map string_bytes all.items)) refusal) (λ fault. HasNoWords
         (O.contents streams.old.out) (O.contents streams.new.out) (I.remaining streams.old.input)
-        (I.remaining streams.new.input) result.file fault refusal)) }
-    ensures calls { AreCalls result.file }
+        (I.remaining streams.new.input) result.left fault refusal)) }
+    ensures calls { AreCalls result.left }
 {
     let args = match args {
         Ok(args) => args,
-        Err(fault) => return refuse(Refusal::from(fault), err),
+        Err(fault) => return Stopped::from(Refusal::from(fault)).report(None, err),
     };
     match words_of(rt.alloc(), args.as_slice()) {
         Ok(words) => live_command(rt, words.as_slice(), device, streams, err),
-        Err(_) => refuse(Refusal::NoMemory, err),
+        Err(_) => Stopped::from(Refusal::NoMemory).report(None, err),
     }
 }
 
@@ -108,18 +102,18 @@ fn serve_image<R: Files<File = File> + AllocGlobal, I: Read, O: Write>(
         back (map (λ word. word.now) words.now)) }
     ensures refused { IfErr result (λ stopped. IsLiveRefusedFor device.now.bytes
         (O.contents streams.old.out) (O.contents streams.new.out) (I.remaining streams.old.input)
-        (I.remaining streams.new.input) stopped.file (map (λ word. word.now) words.now)
+        (I.remaining streams.new.input) stopped.left (map (λ word. word.now) words.now)
         stopped.refusal) }
 {
     let Some((image, size)) = read_live_words(words) else {
-        return Err(stopped(Refusal::Words));
+        return Err(Stopped::from(Refusal::Words));
     };
     let Some(_streams) = guard_streams(rt) else {
-        return Err(stopped(Refusal::NullDevice));
+        return Err(Stopped::from(Refusal::NullDevice));
     };
     match device_file::open(rt, image, Access::Change) {
         Ok(file) => serve_opened(rt.alloc(), file, DiskOptions { device, size }, streams),
-        Err(fault) => Err(stopped(Refusal::File(fault))),
+        Err(fault) => Err(Stopped::from(Refusal::File(fault))),
     }
 }
 
@@ -135,35 +129,11 @@ fn serve_opened<I: Read, O: Write>(
         (I.remaining streams.new.input) back file (bytes_of options.entry.size)) }
     ensures refused { IfErr result (λ stopped. IsStoppedOn options.entry.device.now.bytes
         (O.contents streams.old.out) (O.contents streams.new.out) (I.remaining streams.old.input)
-        (I.remaining streams.new.input) stopped.file file (bytes_of options.entry.size)
+        (I.remaining streams.new.input) stopped.left file (bytes_of options.entry.size)
         stopped.refusal) }
 {
     match serve_file(alloc, file, options, streams) {
         Ok(file) => Ok(Some(file)),
-        Err(stopped) => Err(Stopped {
-            refusal: stopped.refusal,
-            file: Some(stopped.file),
-        }),
-    }
-}
-
-// Nothing was opened.
-fn stopped(refusal: Refusal) -> Stopped<LeftFile>
-    ensures { result ≡ record { refusal = refusal; file = None } }
-{
-    Stopped {
-        refusal,
-        file: None,
-    }
-}
-
-// Refuses before the words are known.
-fn refuse<E: Write>(refusal: Refusal, err: &mut E) -> Ended
-    ensures { result ≡ record { status = status_of refusal; file = None } }
-{
-    refusal.report(None, err);
-    Ended {
-        status: refusal.status(),
-        file: None,
+        Err(stopped) => Err(Stopped::with(stopped.refusal, Some(stopped.left))),
     }
 }

@@ -3,10 +3,9 @@ ghost use Rattle.std.specs.Prelude.{◌≡◌, Option, IfOk, IfErr};
 ghost use Rattle.spec.specs.Packets.{bytes_of};
 ghost use Rattle.live.specs.Serving.{IsServedOn, IsNotServedOn, refusal_of_serving};
 
-use crate::ended::Stopped;
 use crate::starting::{DiskOptions, start_on};
 use crate::streams::Streams;
-use console::Refusal;
+use console::{Refusal, Stopped};
 use device_file::{DeviceFile, FileFault};
 use runner::{ServeFault, serve_player};
 use std::alloc::Global;
@@ -34,7 +33,7 @@ pub fn serve_file<D: DeviceFile, I: Read, O: Write>(
     ensures refused { IfErr result (λ stopped. IsNotServedOn D.told D.at_once D.holds D.refuses
         D.size options.entry.device.now.bytes (bytes_of options.entry.size) file
         (O.contents streams.old.out) (O.contents streams.new.out) (I.remaining streams.old.input)
-        (I.remaining streams.new.input) stopped.file stopped.refusal) }
+        (I.remaining streams.new.input) stopped.left stopped.refusal) }
 {
     let mut disk = match start_on(alloc, file, options) {
         Ok(disk) => disk,
@@ -42,10 +41,7 @@ pub fn serve_file<D: DeviceFile, I: Read, O: Write>(
     };
     match serve_player(&mut disk, &mut streams.input, &mut streams.out) {
         Ok(()) => Ok(disk.into_file()),
-        Err(fault) => Err(Stopped {
-            refusal: refusal_of(fault, disk.fault()),
-            file: disk.into_file(),
-        }),
+        Err(fault) => Err(Stopped::with(refusal_of(fault, disk.fault()), disk.into_file())),
     }
 }
 

@@ -2,16 +2,15 @@
 ghost use Rattle.std.specs.Prelude.{◌≡◌, None, IfOk, IfErr, length};
 ghost use Rattle.spec.specs.Packets.{bytes_of};
 ghost use Rattle.live.specs.Missing.{medium_of};
-ghost use Rattle.live.specs.Starting.{HasNoWindow, IsCarried, IsCarriedInPart, IsNotStartedOn};
+ghost use Rattle.live.specs.Starting.{HasNoWindow, IsCarried, IsNotStartedOn, IsRefusedOf};
 ghost use Rattle.live.specs.Starting.{IsRefusedStart, IsStarted};
 ghost use Rattle.live.specs.Starting.{IsStartedOn, IsWindowOf, room_for};
 ghost use Rattle.live.specs.Ready.{IsReadyToStart, room_of};
 
-use crate::ended::Stopped;
 use crate::file::FileWindow;
 use crate::player::{FileDisk, TRANSFER};
 use bot_machine::{Disk, PacketSize, Retiring};
-use console::Refusal;
+use console::{Refusal, Stopped};
 use device_file::{DeviceFile, FirstSectors, Run};
 use journal::Super;
 use medium::Outlet;
@@ -42,21 +41,16 @@ pub(crate) fn start_on<D: DeviceFile>(
     ensures started { IfOk result (IsStartedOn D.told D.at_once D.holds D.size
         options.entry.device.now.bytes (bytes_of options.entry.size) file) }
     ensures refused { IfErr result (λ stopped. IsNotStartedOn D.told D.at_once D.holds D.size
-        options.entry.device.now.bytes (bytes_of options.entry.size) file D.refuses stopped.file
+        options.entry.device.now.bytes (bytes_of options.entry.size) file D.refuses stopped.left
         stopped.refusal) }
 {
     let window = match window_over(alloc, &file, options.device) {
         Ok(window) => window,
-        Err(refusal) => return Err(Stopped { refusal, file }),
+        Err(refusal) => return Err(Stopped::with(refusal, file)),
     };
     let (bytes, run) = match memory(alloc) {
         Ok(memory) => memory,
-        Err(_) => {
-            return Err(Stopped {
-                refusal: Refusal::NoMemory,
-                file,
-            });
-        }
+        Err(_) => return Err(Stopped::with(Refusal::NoMemory, file)),
     };
     match start_disk(alloc, FileWindow::new(window, file, run), options.size) {
         Ok(disk) => Ok(FileDisk::new(disk, bytes)),
@@ -125,14 +119,11 @@ fn start_disk<D: DeviceFile>(
     requires { IsReadyToStart medium.window }
     ensures started { IfOk result (IsStarted D.told D.at_once (bytes_of size) medium) }
     ensures refused { IfErr result (λ stopped. IsRefusedStart D.told D.at_once (bytes_of size)
-        medium stopped.file stopped.refusal) }
+        medium stopped.left stopped.refusal) }
 {
     match Disk::start_by(alloc, medium, disk_identity(), size, Retiring::Ahead) {
         Ok(disk) => carry_start(disk),
-        Err(error) => Err(Stopped {
-            refusal: Refusal::Image(error.fault),
-            file: error.medium.into_file(),
-        }),
+        Err(error) => Err(Stopped::with(Refusal::Image(error.fault), error.medium.into_file())),
     }
 }
 
@@ -142,15 +133,12 @@ fn carry_start<D: DeviceFile>(
 ) -> Result<Disk<FileWindow<D>>, Stopped<D>>
     ensures ok { IfOk result (λ carried. IsCarried D.told D.at_once disk carried
         × ((medium_of carried).fault ≡ None)) }
-    ensures err { IfErr result (λ stopped. IsCarriedInPart D.told D.at_once disk stopped.file
-        stopped.refusal) }
+    ensures err { IfErr result (λ stopped.
+        IsRefusedOf (IsCarried D.told D.at_once disk) stopped.left stopped.refusal) }
 {
     disk.pop();
     match disk.medium().fault() {
         None => Ok(disk),
-        Some(fault) => Err(Stopped {
-            refusal: Refusal::File(fault),
-            file: disk.into_medium().into_file(),
-        }),
+        Some(fault) => Err(Stopped::with(Refusal::File(fault), disk.into_medium().into_file())),
     }
 }

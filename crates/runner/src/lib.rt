@@ -2,7 +2,6 @@
 #![tactic(auto)]
 
 mod check;
-mod ended;
 mod events;
 mod fault;
 mod held;
@@ -27,7 +26,6 @@ mod task;
 mod text;
 mod words;
 
-pub use ended::Ended;
 pub use fault::{ScriptError, ScriptFault};
 pub use identity::disk_identity;
 pub use laws::lives_laws;

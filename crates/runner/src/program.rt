@@ -4,7 +4,7 @@ ghost use Rattle.std.specs.Prelude.{MatchResult, OnOk, map, drop, string_bytes};
 ghost use Rattle.std.specs.Io.KnownBytes.{Appends};
 ghost use Rattle.console.specs.Streams.{AppendsSome};
 ghost use Rattle.spec.specs.Packets.{bytes_of};
-ghost use Rattle.console.specs.Status.{EndsFor, status_of};
+ghost use Rattle.console.specs.Status.{EndsFor};
 ghost use Rattle.runner.specs.Task.{IsCommandLine};
 ghost use Rattle.runner.specs.Program.{HasDone, HasNoWords, IsBack, IsFormat, IsFormatRefused};
 ghost use Rattle.runner.specs.Program.{IsMigrated};
@@ -13,14 +13,13 @@ ghost use Rattle.runner.specs.Outcome.{IsPlayed};
 ghost use Rattle.runner.specs.Program.{IsPlayRefused, IsRefusedFor, IsRun};
 ghost use Rattle.runner.specs.Program.{IsRunRefused, IsSim, IsSimRefused};
 
-use crate::ended::{Ended, Stopped, stopped_with};
 use crate::fault::ScriptError;
 use crate::image::{ImageSizes, hold, make_image, open_image, sim_medium};
 use crate::script::run_script;
 use crate::sim::sim_script;
 use crate::task::{Task, read_words};
 use bot_machine::PacketSize;
-use console::{ArgumentFault, Refusal, migration_line, words_of, write_out};
+use console::{ArgumentFault, Ended, Refusal, Stopped, migration_line, words_of, write_out};
 use medium::{FileMedium, Medium};
 use std::alloc::Global;
 use std::fs;
@@ -43,19 +42,19 @@ pub fn command<R: Files<File = File> + AllocGlobal, O: Write, E: Write>(
     words: &[&str],
     out: &mut O,
     err: &mut E,
-) -> Ended
+) -> Ended<LeftImage>
     ensures statuses { result.status ≤ 5 }
     ensures done { result.status ≡ 0 → HasDone (O.contents out.old) (O.contents out.new)
-        result.medium (map (λ word. word.now) words.now) × (err.new ≡ err.old) }
+        result.left (map (λ word. word.now) words.now) × (err.new ≡ err.old) }
     ensures words { result.status ≡ 2 → IsCommandLine (map (λ word. word.now) words.now) → ⊥ }
     ensures other_words { (IsCommandLine (map (λ word. word.now) words.now) → ⊥)
         → (result.status ≡ 2) ⊎ (result.status ≡ 5) }
     ensures refused { EndsFor result.status (IsRefusedFor (O.contents out.old) (O.contents out.new)
-        result.medium (map (λ word. word.now) words.now)) }
+        result.left (map (λ word. word.now) words.now)) }
 {
     match dispatch(rt, words, out) {
-        Ok(medium) => Ended { status: 0, medium },
-        Err(stopped) => refuse(stopped, err),
+        Ok(left) => Ended { status: 0, left },
+        Err(stopped) => stopped.report(None, err),
     }
 }
 
@@ -66,34 +65,23 @@ pub fn run_program<R: Files<File = File> + AllocGlobal, O: Write, E: Write>(
     args: Result<Vec<String>, ArgumentFault>,
     out: &mut O,
     err: &mut E,
-) -> Ended
+) -> Ended<LeftImage>
     ensures statuses { result.status ≤ 5 }
     ensures done { result.status ≡ 0 → MatchResult args (λ all. HasDone (O.contents out.old)
-        (O.contents out.new) result.medium (drop 1 (map string_bytes all.items))) (λ fault. ⊥)
+        (O.contents out.new) result.left (drop 1 (map string_bytes all.items))) (λ fault. ⊥)
         × (err.new ≡ err.old) }
     ensures refused { EndsFor result.status (λ refusal. MatchResult args (λ all. IsRefusedFor
-        (O.contents out.old) (O.contents out.new) result.medium
+        (O.contents out.old) (O.contents out.new) result.left
         (drop 1 (map string_bytes all.items)) refusal) (λ fault. HasNoWords (O.contents out.old)
-        (O.contents out.new) result.medium fault refusal)) }
+        (O.contents out.new) result.left fault refusal)) }
 {
     let args = match args {
         Ok(args) => args,
-        Err(fault) => return refuse(Stopped::from(Refusal::from(fault)), err),
+        Err(fault) => return Stopped::from(Refusal::from(fault)).report(None, err),
     };
     match words_of(rt.alloc(), args.as_slice()) {
         Ok(words) => command(rt, words.as_slice(), out, err),
-        Err(_) => refuse(Stopped::from(Refusal::NoMemory), err),
-    }
-}
-
-// Writes why a command was refused, where that can be written, and tells how it ended.
-fn refuse<E: Write>(stopped: Stopped<LeftImage>, err: &mut E) -> Ended
-    ensures { result ≡ record { status = status_of stopped.refusal; medium = stopped.medium } }
-{
-    stopped.refusal.report(None, err);
-    Ended {
-        status: stopped.refusal.status(),
-        medium: stopped.medium,
+        Err(_) => Stopped::from(Refusal::NoMemory).report(None, err),
     }
 }
 
@@ -107,7 +95,7 @@ fn dispatch<R: Files<File = File> + AllocGlobal, O: Write>(
     ensures done { IfOk result (λ back. HasDone (O.contents out.old) (O.contents out.new) back
         (map (λ word. word.now) words.now)) }
     ensures refused { IfErr result (λ stopped. IsRefusedFor (O.contents out.old)
-        (O.contents out.new) stopped.medium (map (λ word. word.now) words.now) stopped.refusal) }
+        (O.contents out.new) stopped.left (map (λ word. word.now) words.now) stopped.refusal) }
 {
     match read_words(rt.alloc(), words)? {
         Task::Format { image, sizes } => make(rt, image, sizes, out),
@@ -139,7 +127,7 @@ fn make<R: Files<File = File> + AllocGlobal, O: Write>(
     ensures done { IfOk result (λ back. IsFormat (O.contents out.old) (O.contents out.new) back
         image.now sizes.format sizes.blocks sizes.slots) }
     ensures refused { IfErr result (λ stopped. IsFormatRefused (O.contents out.old)
-        (O.contents out.new) stopped.medium image.now sizes.format sizes.blocks sizes.slots
+        (O.contents out.new) stopped.left image.now sizes.format sizes.blocks sizes.slots
         stopped.refusal) }
 {
     let medium = make_image(rt, image, sizes)?;
@@ -154,13 +142,13 @@ fn say_done<M: Medium, O: Write>(
 ) -> Result<Option<M>, Stopped<Option<M>>>
     ensures done { IfOk result (λ back. (back ≡ Some medium)
         × Appends (O.contents out.old) (O.contents out.new) text.now) }
-    ensures refused { IfErr result (λ stopped. (stopped.medium ≡ Some medium)
+    ensures refused { IfErr result (λ stopped. (stopped.left ≡ Some medium)
         × (stopped.refusal ≡ Refusal.FileFailed)
         × AppendsSome (O.contents out.old) (O.contents out.new) text.now) }
 {
     match write_out(out, text) {
         Ok(()) => Ok(Some(medium)),
-        Err(_) => Err(stopped_with(Refusal::FileFailed, medium)),
+        Err(_) => Err(Stopped::with(Refusal::FileFailed, Some(medium))),
     }
 }
 
@@ -174,7 +162,7 @@ fn migrate<R: Files<File = File> + AllocGlobal, O: Write>(
     ensures done { IfOk result (λ back.
         IsMigration (O.contents out.old) (O.contents out.new) back image.now) }
     ensures refused { IfErr result (λ stopped. IsMigrationRefused (O.contents out.old)
-        (O.contents out.new) stopped.medium image.now stopped.refusal) }
+        (O.contents out.new) stopped.left image.now stopped.refusal) }
 {
     let _streams = hold(rt)?;
     let medium = open_image(rt, image)?;
@@ -190,11 +178,11 @@ fn migrate_medium<M: Medium, O: Write>(
         M.state medium back × M.follows medium back)) }
     ensures refused { IfErr result (λ stopped. IsBack (λ back. IsNotMigrated (O.contents out.old)
         (O.contents out.new) M.state medium back stopped.refusal × M.follows medium back)
-        stopped.medium) }
+        stopped.left) }
 {
     match recovery::migrate(&mut medium) {
         Ok((_, was_one)) => say_done(medium, migration_line(was_one), out),
-        Err(fault) => Err(stopped_with(Refusal::ImageFault(fault), medium)),
+        Err(fault) => Err(Stopped::with(Refusal::ImageFault(fault), Some(medium))),
     }
 }
 
@@ -210,12 +198,12 @@ fn run<R: Files<File = File> + AllocGlobal, O: Write>(
     ensures done { IfOk result (λ back.
         IsRun (O.contents out.old) (O.contents out.new) back image.now (bytes_of size)) }
     ensures refused { IfErr result (λ stopped. IsRunRefused (O.contents out.old)
-        (O.contents out.new) stopped.medium image.now (bytes_of size) stopped.refusal) }
+        (O.contents out.new) stopped.left image.now (bytes_of size) stopped.refusal) }
 {
     let _streams = hold(rt)?;
     let medium = open_image(rt, image)?;
     let Ok(mut script) = fs::open(rt, script) else {
-        return Err(stopped_with(Refusal::FileFailed, medium));
+        return Err(Stopped::with(Refusal::FileFailed, Some(medium)));
     };
     play_on(rt.alloc(), medium, &mut script, out, size)
 }
@@ -233,11 +221,14 @@ fn play_on<M: Medium, R: Read, O: Write>(
         × M.follows medium back)) }
     ensures refused { IfErr result (λ stopped. IsBack (λ back. IsPlayRefused M.state
         (bytes_of size) (R.remaining script.old) (O.contents out.old) (O.contents out.new) medium
-        back stopped.refusal × M.follows medium back) stopped.medium) }
+        back stopped.refusal × M.follows medium back) stopped.left) }
 {
     match run_script(alloc, medium, script, out, size) {
         Ok(medium) => Ok(Some(medium)),
-        Err(ScriptError { fault, medium }) => Err(stopped_with(Refusal::from(fault), medium)),
+        Err(ScriptError { fault, medium }) => Err(Stopped::with(
+            Refusal::from(fault),
+            Some(medium),
+        )),
     }
 }
 

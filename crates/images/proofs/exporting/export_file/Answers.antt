@@ -42,7 +42,7 @@ returns-in-Ok-clause-err g c = if_err c.make_copy.result (λ stopped why. inr (r
 })) c.make_copy.ensures.err
 
 pub returns-in-Err-clause-err : goal.returns-in-Err-clause-err
-returns-in-Err-clause-err g c = rw c.from.ensures
+returns-in-Err-clause-err g c = rw (c.from.ensures.0, c.from.ensures.1)
     (unexported (g.S.DeviceFile.holds c.args.image.now) (g.S.DeviceFile.refuses c.args.image.now)
     (g.S.DeviceFile.size c.args.image.now) c.args.device.now.bytes (g.O.Write.contents c.args.out.now) _ c.in-Err.refusal
     c.in-Err.ensures.err)

@@ -5,7 +5,7 @@ use Rattle.window.specs.declared.call.DeviceCall.{DeviceCall}
 use Rattle.journal.specs.declared.super_sector.Super.{Super}
 use Rattle.device_file.specs.{FileValue.{FileValue, IsMade}, declared.existing.Existing.Existing}
 use Rattle.images.specs.{Exported.{IsNoCopyMade, IsPlainCopy, exported_text}, Exporting.HasBlocks, Opened.made_at}
-use Rattle.images.specs.declared.ended.Stopped.{Stopped}
+use Rattle.console.specs.declared.ended.Stopped.{Stopped}
 use Rattle.console.specs.declared.refusal.Refusal.TheVariants as refused
 use Rattle.images.proofs.exporting.make_copy.Goals as goal
 
@@ -23,15 +23,16 @@ module _ {holds : ℕ → List ℕ → Type 0} {refuses : ℕ → ℕ → Type 0
     written = rw is at told.1;
   }
 
-  untold : (stopped : Stopped) → (stopped ≡ record { refusal = refused.Streams; file = Some new }) × AppendsSome was now line
-      → IsNoCopyMade holds refuses sizes waiting was now (made_at path existing) stopped.file stopped.refusal
+  untold : (stopped : Stopped (Option FileValue))
+      → (stopped.left ≡ Some new) × (stopped.refusal ≡ refused.Streams) × AppendsSome was now line
+      → IsNoCopyMade holds refuses sizes waiting was now (made_at path existing) stopped.left stopped.refusal
   untold stopped told = inr (inr (record {
     plain = new;
-    given = ap (λ (s : Stopped). s.file) told.0;
+    given = told.0;
     size = same ∙ made.sectors_are;
     asked = rw made.told_is at asked;
-    failed = ap (λ (s : Stopped). s.refusal) told.0;
-    written = rw is at told.1;
+    failed = told.1;
+    written = rw is at told.2;
   }))
 
 pub returns-in-Ok-clause-ok : goal.returns-in-Ok-clause-ok

@@ -2,7 +2,7 @@ use Rattle.std.proofs.{Common.{inl, inr, refl}, KnownBytes.Keeps-refl}
 use Rattle.images.proofs.importing.import.Goals as goal
 
 pub returns-in-Err-clause-refused : goal.returns-in-Err-clause-refused
-returns-in-Err-clause-refused g c = rw c.refused_with.ensures (inr (record {
+returns-in-Err-clause-refused g c = rw (c.with.ensures, c.new.ensures) (inr (record {
   plain = c.in_ok-plain.plain;
   opened = record { given = refl; opened = c.in_ok-plain.ensures.ok };
   not_imported =
@@ -10,14 +10,14 @@ returns-in-Err-clause-refused g c = rw c.refused_with.ensures (inr (record {
 }))
 
 pub returns-in-Ok-import_from-clause-done : goal.returns-in-Ok-import_from-clause-done
-returns-in-Ok-import_from-clause-done g c = record {
+returns-in-Ok-import_from-clause-done g c = rw c.new-in-Ok-import_from.ensures (record {
   plain = c.in_ok-plain.plain;
   opened = record { given = refl; opened = c.in_ok-plain.ensures.ok };
   imported = c.in-Ok-import_from.ensures.ok;
-}
+})
 
 pub returns-clause-refused : goal.returns-clause-refused
-returns-clause-refused g c = rw c.refused_with-in-Err-import_from.ensures (inr (record {
+returns-clause-refused g c = rw (c.with-in-Err-import_from.ensures, c.new-in-Err-import_from.ensures) (inr (record {
   plain = c.in_ok-plain.plain;
   opened = record { given = refl; opened = c.in_ok-plain.ensures.ok };
   not_imported = inr c.in-Err-import_from.ensures.err;

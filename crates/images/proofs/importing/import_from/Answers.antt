@@ -3,7 +3,7 @@ use Rattle.console.{specs.Streams.AppendsSome, proofs.Options.{if_ok, if_err}}
 use Rattle.journal.specs.{Places.{Shape, new_shape, sectors_of}, declared.log_format.LogFormat.LogFormat}
 use Rattle.device_file.specs.{FileValue.{FileValue, IsMade}, declared.existing.Existing.Existing}
 use Rattle.images.specs.{Imported.{IsImage, IsNoImage, imported_text}, Importing.IsImported, Limits.AreLimits, Opened.made_at}
-use Rattle.images.specs.declared.ended.Stopped.{Stopped}
+use Rattle.console.specs.declared.ended.Stopped.{Stopped}
 use Rattle.console.specs.declared.refusal.Refusal.TheVariants as refused
 use Rattle.images.proofs.importing.import_from.Goals as goal
 
@@ -23,16 +23,17 @@ module _ {holds : ℕ → List ℕ → Type 0} {refuses : ℕ → ℕ → Type 0
     written = rw is at told.1;
   }
 
-  untold : (stopped : Stopped) → (stopped ≡ record { refusal = refused.Streams; file = Some new }) × AppendsSome was now line
-      → IsNoImage holds refuses format blocks slots was now (made_at path existing) stopped.file stopped.refusal
+  untold : (stopped : Stopped (Option FileValue))
+      → (stopped.left ≡ Some new) × (stopped.refusal ≡ refused.Streams) × AppendsSome was now line
+      → IsNoImage holds refuses format blocks slots was now (made_at path existing) stopped.left stopped.refusal
   untold stopped told = inr (inr (inr (record {
     limits = fits.1;
     file = new;
-    given = ap (λ (s : Stopped). s.file) told.0;
+    given = told.0;
     size = same ∙ rw fits.0 at made.sectors_are;
     asked = rw (fits.0, made.told_is) at asked;
-    failed = ap (λ (s : Stopped). s.refusal) told.0;
-    written = rw is at told.1;
+    failed = told.1;
+    written = rw is at told.2;
   })))
 
 pub returns-in-Ok-clause-ok : goal.returns-in-Ok-clause-ok

@@ -20,13 +20,13 @@ not_migrated_of path device old new refusal opened same why = rw same (subst
     (λ told. IsNotMigratedOf unnamed old.size device told new.told untold refusal) opened.told_is why)
 
 pub returns-in-Err-clause-refused : goal.returns-in-Err-clause-refused
-returns-in-Err-clause-refused g c = inr (inl (record {
+returns-in-Err-clause-refused g c = rw c.with.ensures (inr (inl (record {
   file = c.migrate_file.new.file;
   given = refl;
   not_migrated = not_migrated_of c.args.image.now c.args.device.now.bytes c.in_ok-file.file c.migrate_file.new.file c.in-Err.refusal
       c.in_ok-file.ensures.ok c.in-Err.ensures.size c.in-Err.ensures.err;
   kept = Keeps-refl (g.O.Write.contents c.args.out.now);
-}))
+})))
 
 pub returns-in-Ok-write_out-clause-done : goal.returns-in-Ok-write_out-clause-done
 returns-in-Ok-write_out-clause-done g c = record {
@@ -41,7 +41,7 @@ returns-in-Ok-write_out-clause-done g c = record {
 }
 
 pub returns-in-Err-write_out-clause-refused : goal.returns-in-Err-write_out-clause-refused
-returns-in-Err-write_out-clause-refused g c = inr (inr (record {
+returns-in-Err-write_out-clause-refused g c = rw c.with-in-Err-write_out.ensures (inr (inr (record {
   file = c.migrate_file.new.file;
   given = refl;
   was_one = c.in-Ok.was_one;
@@ -51,4 +51,4 @@ returns-in-Err-write_out-clause-refused g c = inr (inr (record {
   written = subst
       (λ (text : List ℕ). AppendsSome (g.O.Write.contents c.args.out.now) (g.O.Write.contents c.write_out.new.out) text)
       c.migration_line.ensures c.in-Err-write_out.ensures.err;
-}))
+})))

@@ -1,7 +1,5 @@
 use Rattle.std.proofs.Common.{◌∙◌, ap, inl, inr, refl, map, drop}
 use Rattle.std.{proofs.KnownBytes.Keeps-refl, specs.Prelude.string_bytes}
-use Rattle.console.specs.declared.refusal.Refusal.TheVariants as refused
-use Rattle.images.specs.declared.ended.Ended.{Ended}
 use Rattle.images.proofs.program.run_program.Goals as goal
 
 pub returns-in-Ok-words_of-clause-refused : goal.returns-in-Ok-words_of-clause-refused
@@ -13,13 +11,6 @@ returns-in-Ok-words_of-clause-refused g c not =
 
 pub returns-clause-refused : goal.returns-clause-refused
 returns-clause-refused g c not =
-    let ended = rw c.from-in-Err-words_of.ensures at c.refuse-in-Err-words_of.ensures.is in (
-      refused.NoMemory,
-      ap (λ (e : Ended). e.status) ended,
-      rw c.in-Ok.is (inl (record {
-        none = ap (λ (e : Ended). e.file) ended;
-        no_plain = ap (λ (e : Ended). e.raw) ended;
-        refused_is = refl;
-        kept = Keeps-refl (g.O.Write.contents c.args.out.now);
-      })),
-    )
+    let nothing = c.from-in-Err-words_of.ensures in
+    rw (c.refuse-in-Err-words_of.ensures.is, nothing.0, c.in-Ok.is)
+    (_, refl, inl (record { none = nothing.1.0; no_plain = nothing.1.1; refused_is = refl; kept = Keeps-refl _ }))

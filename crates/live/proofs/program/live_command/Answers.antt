@@ -1,4 +1,4 @@
-use Rattle.std.proofs.Common.{◌∙◌, sym, arith}
+use Rattle.std.proofs.Common.{refl, arith}
 use Rattle.console.proofs.Statuses.{refused_status}
 use Rattle.live.proofs.Refusals.{no_line_at_two, two_without_line, three_unasked}
 use Rattle.live.proofs.program.live_command.Goals as goal
@@ -11,17 +11,14 @@ returns-in-Ok-clause-words g c =
 pub returns-in-Ok-clause-statuses : goal.returns-in-Ok-clause-statuses
 returns-in-Ok-clause-statuses g c = record { most = omega arith; unasked = λ three. absurd (omega (arith, three)) }
 
-pub returns-in-Err-clause-statuses : goal.returns-in-Err-clause-statuses
-returns-in-Err-clause-statuses g c = record {
-  most = rw c.status.ensures (refused_status c.in-Err.stopped.refusal).most;
-  unasked = λ three. three_unasked _ _ _ _ _ _ _ _ c.in-Err.ensures.refused (sym c.status.ensures ∙ three);
-}
-
-pub returns-in-Err-clause-done : goal.returns-in-Err-clause-done
-returns-in-Err-clause-done g c zero = absurd ((refused_status c.in-Err.stopped.refusal).some (sym c.status.ensures ∙ zero))
-
-pub returns-in-Err-clause-words : goal.returns-in-Err-clause-words
-returns-in-Err-clause-words g c = (
-  λ two. no_line_at_two _ _ _ _ _ _ _ _ c.in-Err.ensures.refused (sym c.status.ensures ∙ two),
-  λ never. c.status.ensures ∙ two_without_line _ _ _ _ _ _ _ _ c.in-Err.ensures.refused never,
-)
+pub returns-in-Err : goal.returns-in-Err
+returns-in-Err g c =
+    let status = refused_status c.in-Err.stopped.refusal in
+    let why = c.in-Err.ensures.refused in
+    rw c.report.ensures (record {
+      statuses = record { most = status.most; unasked = three_unasked _ _ _ _ _ _ _ _ why };
+      done = λ zero. absurd (status.some zero);
+      words = (no_line_at_two _ _ _ _ _ _ _ _ why, two_without_line _ _ _ _ _ _ _ _ why);
+      refused = λ not. (c.in-Err.stopped.refusal, refl, why);
+      calls = c.foresee-in-Err.ensures;
+    })

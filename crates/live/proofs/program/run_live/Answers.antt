@@ -1,16 +1,11 @@
 use Rattle.std.{proofs.{Common.{◌∙◌, ap, inl, inr, refl, map, drop}, KnownBytes.Keeps-refl}, specs.Prelude.string_bytes}
-use Rattle.console.specs.declared.refusal.Refusal.TheVariants as refused
 use Rattle.live.proofs.program.run_live.Goals as goal
 
 pub returns-clause-refused : goal.returns-clause-refused
-returns-clause-refused g c not = rw (c.refuse-in-Err-words_of.ensures, c.in-Ok.is) (
-  refused.NoMemory,
-  refl,
-  inl (record {
-    refused_is = refl;
-    untouched = record { none = refl; unread = refl; kept = Keeps-refl (g.O.Write.contents c.args.streams.now.out) };
-  }),
-)
+returns-clause-refused g c not =
+    let nothing = c.from-in-Err-words_of.ensures in
+    rw (c.report-in-Err-words_of.ensures, nothing.0, nothing.1, c.in-Ok.is)
+    (_, refl, inl (record { refused_is = refl; untouched = record { none = refl; unread = refl; kept = Keeps-refl _ } }))
 
 pub returns-in-Ok-words_of : goal.returns-in-Ok-words_of
 returns-in-Ok-words_of g c =

@@ -26,7 +26,7 @@ returns-in-Ok-serve_player-clause-served g c = record {
 }
 
 pub returns-in-Err-serve_player-clause-refused : goal.returns-in-Err-serve_player-clause-refused
-returns-in-Err-serve_player-clause-refused g c = inr (record {
+returns-in-Err-serve_player-clause-refused g c = rw c.with.ensures (inr (record {
   first = c.in-Ok.disk;
   started = c.in-Ok.ensures.started;
   last = c.serve_player.new.player;
@@ -34,4 +34,4 @@ returns-in-Err-serve_player-clause-refused g c = inr (record {
   stopped = rw (← packets c.in-Ok.ensures.started) c.in-Err-serve_player.ensures.stopped;
   refused_is = c.refusal_of.ensures ∙ ap (λ why. refusal_of_serving c.in-Err-serve_player.fault why) c.fault.ensures;
   given = c.into_file-in-Err-serve_player.ensures;
-})
+}))

@@ -1,19 +1,18 @@
-use Rattle.std.proofs.Common.{◌∙◌, refl, sym, ap}
-use Rattle.live.specs.declared.file.FileWindow.{FileWindow}
+use Rattle.std.proofs.Common.{refl}
 use Rattle.live.proofs.starting.carry_start.Goals as goal
 
 pub returns-in-None-clause-ok : goal.returns-in-None-clause-ok
 returns-in-None-clause-ok g c = (
   record { carried = c.pop.ensures.armed; others = c.pop.ensures.others },
-  sym (ap (λ (m : FileWindow g.row.D.Denot). m.fault) c.medium.ensures.is) ∙ sym c.fault.ensures ∙ c.in-None.is,
+  rw (c.fault.ensures, c.medium.ensures.is) at c.in-None.is,
 )
 
 pub returns-in-Some-clause-err : goal.returns-in-Some-clause-err
-returns-in-Some-clause-err g c = record {
+returns-in-Some-clause-err g c = rw c.with.ensures (record {
   disk = c.pop.new.self;
-  carried = record { carried = c.pop.ensures.armed; others = c.pop.ensures.others };
+  so = record { carried = c.pop.ensures.armed; others = c.pop.ensures.others };
   fault = c.in-Some.fault;
-  fault_is = sym (ap (λ (m : FileWindow g.row.D.Denot). m.fault) c.medium.ensures.is) ∙ sym c.fault.ensures ∙ c.in-Some.is;
+  fault_is = rw (c.fault.ensures, c.medium.ensures.is) at c.in-Some.is;
   refused_is = refl;
-  given = c.into_file.ensures ∙ ap (λ (m : FileWindow g.row.D.Denot). m.file) c.into_medium.ensures;
-}
+  given = rw (c.into_file.ensures, c.into_medium.ensures);
+})

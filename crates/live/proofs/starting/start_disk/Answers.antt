@@ -15,7 +15,7 @@ returns-in-Err-clause-refused g c =
     let leaves = c.in-Err.ensures.leaves in
     let follows = leaves.medium.follows.follows in
     let misses = start_misses first after c.requires leaves.leaves follows leaves.medium.looks (served_after first after follows) in
-    inl (record {
+    rw c.with.ensures (inl (record {
       after = c.in-Err.error.medium;
       fault = c.in-Err.error.fault;
       cause = c.in-Err.ensures.cause;
@@ -25,7 +25,7 @@ returns-in-Err-clause-refused g c =
       follows = leaves.medium.follows;
       refused_is = refl;
       unasked = c.into_file.ensures ∙ leaves.medium.follows.file_stays;
-    })
+    }))
 
 -- a disk that started, of whose file all or a part was asked
 starts : (g : given.Over) (c : After-carry_start g) (new : DiskOn g.row.D.Denot)
@@ -55,7 +55,7 @@ returns-in-Ok-clause-started g c = if_ok c.carry_start.result (λ new both.
 pub returns-in-Ok-clause-refused : goal.returns-in-Ok-clause-refused
 returns-in-Ok-clause-refused g c = if_err c.carry_start.result (λ stopped part. inr (record {
   disk = part.disk;
-  starts = starts g (goal.at.returns-in-Ok-clause-refused g c).After-carry_start part.disk part.carried;
+  so = starts g (goal.at.returns-in-Ok-clause-refused g c).After-carry_start part.disk part.so;
   fault = part.fault;
   fault_is = part.fault_is;
   refused_is = part.refused_is;

@@ -1,5 +1,5 @@
-use Rattle.std.proofs.Common.{ap, map, refl, sym, ◌∙◌}
-use Rattle.runner.{specs.declared.ended.Ended.Ended, proofs.Refusals.{no_line_at_two, two_or_five}}
+use Rattle.std.proofs.Common.{map, refl}
+use Rattle.runner.proofs.Refusals.{no_line_at_two, two_or_five}
 use Rattle.console.proofs.Statuses.{refused_status}
 use Rattle.runner.proofs.program.command.Goals as goal
 
@@ -8,16 +8,16 @@ returns-in-Ok-clause-other_words g c not = let done = c.in-Ok.ensures.done in ab
 
 pub returns-in-Err-clause-done : goal.returns-in-Err-clause-done
 returns-in-Err-clause-done g c zero =
-    absurd ((refused_status c.in-Err.stopped.refusal).some (sym (ap (λ (e : Ended). e.status) c.refuse.ensures) ∙ zero))
+    absurd ((refused_status c.in-Err.stopped.refusal).some (rw c.report.ensures at zero))
 
 pub returns-in-Err-clause-words : goal.returns-in-Err-clause-words
 returns-in-Err-clause-words g c two =
     no_line_at_two _ _ _ _ (map (λ word. word.now) c.args.words.now) c.in-Err.ensures.refused
-    (sym (ap (λ (e : Ended). e.status) c.refuse.ensures) ∙ two)
+    (rw c.report.ensures at two)
 
 pub returns-in-Err-clause-other_words : goal.returns-in-Err-clause-other_words
 returns-in-Err-clause-other_words g c never =
-    rw c.refuse.ensures (two_or_five _ _ _ _ (map (λ word. word.now) c.args.words.now) c.in-Err.ensures.refused never)
+    rw c.report.ensures (two_or_five _ _ _ _ (map (λ word. word.now) c.args.words.now) c.in-Err.ensures.refused never)
 
 pub returns-in-Err-clause-refused : goal.returns-in-Err-clause-refused
-returns-in-Err-clause-refused g c not = rw c.refuse.ensures (c.in-Err.stopped.refusal, refl, c.in-Err.ensures.refused)
+returns-in-Err-clause-refused g c not = rw c.report.ensures (c.in-Err.stopped.refusal, refl, c.in-Err.ensures.refused)

@@ -1,5 +1,5 @@
-use Rattle.std.proofs.Common.{◌≡◌, None, inr, map}
-use Rattle.runner.{specs.Program.IsRefusedFor, proofs.{Refusals.not_read, Taken.if-err}}
+use Rattle.std.proofs.{Common.{inr, map}, lemmas.Result.err_from_is_err_and}
+use Rattle.runner.proofs.Refusals.{not_read}
 use Rattle.console.proofs.Options.{if_ok, if_err}
 use Rattle.runner.proofs.program.dispatch.Goals as goal
 
@@ -32,12 +32,10 @@ returns-in-Run-clause-refused g c =
 
 pub returns-in-Err-clause-refused : goal.returns-in-Err-clause-refused
 returns-in-Err-clause-refused g c =
-    rw c.from.ensures (inr (inr (_, c.in_ok-image.ensures.spelled, rw c.in-Sim.is c.in-Err.ensures.refused)))
+    rw (c.from.ensures.0, c.from.ensures.1) (inr (inr (_, c.in_ok-image.ensures.spelled, rw c.in-Sim.is c.in-Err.ensures.refused)))
 
 pub returns-in_err-image-clause-refused : goal.returns-in_err-image-clause-refused
 returns-in_err-image-clause-refused g c =
-    let out = g.O.Write.contents c.args.out.now in
-    let words = map (λ word. word.now) c.args.words.now in
-    if-err c.from_residual.result (λ stopped. stopped ≡ record { refusal = c.in_err-image.field-0.0; medium = None })
-    (λ stopped. IsRefusedFor out out stopped.medium words stopped.refusal) c.from_residual.ensures.1
-    (λ stopped same. rw same (not_read out words c.in_err-image.field-0.0 c.in_err-image.ensures.refused))
+    let p = err_from_is_err_and c.from_residual.result c.from_residual.ensures.1 in
+    rw (p.1, p.2.0, p.2.1)
+    (not_read (g.O.Write.contents c.args.out.now) (map (λ word. word.now) c.args.words.now) _ c.in_err-image.ensures.refused)

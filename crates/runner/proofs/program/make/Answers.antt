@@ -20,7 +20,7 @@ pub returns-in_err-medium-clause-refused : goal.returns-in_err-medium-clause-ref
 returns-in_err-medium-clause-refused g c =
     let made = c.in_err-medium.ensures in
     let p = err_from_is_err_and c.from_residual.result c.from_residual.ensures.1 in
-    rw (p.1, p.2) (not_made _ _ _ _ _ _ made.size made.refused)
+    rw (p.1, p.2.0, p.2.1) (not_made _ _ _ _ _ _ made.size made.refused)
 
 pub returns-clause-done : goal.returns-clause-done
 returns-clause-done g c =

@@ -49,7 +49,7 @@ pub returns-in-Err-clause-refused : goal.returns-in-Err-clause-refused
 returns-in-Err-clause-refused g c =
     let why = c.in-Err.ensures in
     let kept = Keeps-refl (g.O.Write.contents c.args.out.now) in
-    rw c.stopped_with.ensures (
+    rw c.with.ensures (
       c.migrate.new.m,
       refl,
       (

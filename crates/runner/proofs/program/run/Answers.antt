@@ -6,17 +6,17 @@ use Rattle.runner.proofs.program.run.Goals as goal
 pub returns-in_err-_streams-clause-refused : goal.returns-in_err-_streams-clause-refused
 returns-in_err-_streams-clause-refused g c =
     let p = err_from_is_err_and c.from_residual.result c.from_residual.ensures.1 in
-    rw (p.1, p.2) (inl (inr (inl c.in_err-_streams.ensures), untouched (g.O.Write.contents c.args.out.now)))
+    rw (p.1, p.2.0, p.2.1) (inl (inr (inl c.in_err-_streams.ensures), untouched (g.O.Write.contents c.args.out.now)))
 
 pub returns-in_err-medium-clause-refused : goal.returns-in_err-medium-clause-refused
 returns-in_err-medium-clause-refused g c =
     let p = err_from_is_err_and c.from_residual-in_err-medium.result c.from_residual-in_err-medium.ensures.1 in
-    rw (p.1, p.2) (inl (c.in_err-medium.ensures.refused, untouched (g.O.Write.contents c.args.out.now)))
+    rw (p.1, p.2.0, p.2.1) (inl (c.in_err-medium.ensures.refused, untouched (g.O.Write.contents c.args.out.now)))
 
 pub returns-in_default-clause-refused : goal.returns-in_default-clause-refused
 returns-in_default-clause-refused g c =
     let opened = c.in_ok-medium.ensures.opened in
-    rw c.stopped_with.ensures
+    rw c.with.ensures
     (inr (record {
       opened = c.in_ok-medium.medium;
       is_opened = opened;

@@ -1,5 +1,5 @@
 use Rattle.std.{proofs.Common.{◌∙◌, ap, inl, refl, map, drop}, specs.Prelude.string_bytes}
-use Rattle.runner.{specs.declared.ended.Ended.Ended, proofs.Refusals.untouched}
+use Rattle.runner.proofs.Refusals.{untouched}
 use Rattle.console.specs.declared.refusal.Refusal.TheVariants.{NoMemory}
 use Rattle.runner.proofs.program.run_program.Goals as goal
 
@@ -16,8 +16,6 @@ returns-in-Ok-words_of g c =
 
 pub returns-clause-refused : goal.returns-clause-refused
 returns-clause-refused g c not =
-    let ended = rw c.from-in-Err-words_of.ensures at c.refuse-in-Err-words_of.ensures in (
-      NoMemory,
-      ap (λ (e : Ended). e.status) ended,
-      rw c.in-Ok.is (inl (refl, (ap (λ (e : Ended). e.medium) ended, (untouched (g.O.Write.contents c.args.out.now)).1))),
-    )
+    let nothing = c.from-in-Err-words_of.ensures in
+    rw (c.report-in-Err-words_of.ensures, nothing.0, nothing.1, c.in-Ok.is)
+    (NoMemory, refl, inl (refl, untouched (g.O.Write.contents c.args.out.now)))

@@ -1,13 +1,13 @@
-use Rattle.std.proofs.Common.{◌∙◌, ap, refl, sym}
-use Rattle.live.{specs.declared.file.FileWindow.FileWindow, proofs.Ready.plays_prepared}
+use Rattle.std.proofs.Common.{refl}
+use Rattle.live.proofs.Ready.{plays_prepared}
 use Rattle.live.proofs.player.FileDiskPlayer.play.Goals as goal
 
 pub returns-in-Some-clause-stopped : goal.returns-in-Some-clause-stopped
 returns-in-Some-clause-stopped g c =
-    let fault = sym (ap (λ (m : FileWindow g.row.D.Denot). m.fault) c.medium.ensures.is) ∙ sym c.fault.ensures ∙ c.in-Some.is in
+    let fault = rw (c.fault.ensures, c.medium.ensures.is) at c.in-Some.is in
     rw (← c.self.view_is) (_, plays_prepared _ _ _ _ _ _ _ _ _ _ c.prepare.ensures c.play_ready-answer.ensures fault)
 
 pub returns-clause-played : goal.returns-clause-played
 returns-clause-played g c =
-    let fault = sym (ap (λ (m : FileWindow g.row.D.Denot). m.fault) c.medium.ensures.is) ∙ sym c.fault.ensures ∙ c.in_default.is in
+    let fault = rw (c.fault.ensures, c.medium.ensures.is) at c.in_default.is in
     rw (← c.self.view_is) (_, plays_prepared _ _ _ _ _ _ _ _ _ _ c.prepare.ensures c.play_ready-answer.ensures fault, refl)
