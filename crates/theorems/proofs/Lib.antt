@@ -12,3 +12,4 @@ pub mod Logging
 pub mod Making
 pub mod Steady
 pub mod Headroom
+pub mod PacketsHidden

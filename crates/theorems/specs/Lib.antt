@@ -8,3 +8,5 @@ pub mod Room
 pub mod Steady
 pub mod Striking
 pub mod Transfers
+pub mod Lagging
+pub mod HiddenLag

@@ -1,4 +1,5 @@
 //! What holds of every conversation by the rules alone.
+ghost use Rattle.theorems.specs.HiddenLag.{LagsAreHidden};
 ghost use Rattle.theorems.specs.Striking.{TicksAreStruck};
 ghost use Rattle.theorems.specs.Transfers.{SizesAreAlike};
 
@@ -13,4 +14,11 @@ pub fn conversation_laws()
 #[tactic(auto, using(crate::proofs::Transfers::sizes_alike))]
 pub fn packet_laws()
     ensures { SizesAreAlike }
+{}
+
+/// Does nothing: its contract says that a host cannot tell a disk whose device is behind from one
+/// that acts on each packet at once.
+#[tactic(auto, using(crate::proofs::PacketsHidden::lags_hidden))]
+pub fn lagging_laws()
+    ensures { LagsAreHidden }
 {}

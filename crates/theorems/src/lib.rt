@@ -5,5 +5,5 @@
 mod conversations;
 mod orders;
 
-pub use conversations::{conversation_laws, packet_laws};
+pub use conversations::{conversation_laws, lagging_laws, packet_laws};
 pub use orders::{log_laws, order_laws};
