@@ -16,15 +16,20 @@ impl Drop for Handle {
     }
 }
 
+/// What only this crate can make, so that no safe code elsewhere reaches a handle and copies it.
+pub struct Key(());
+
+pub const KEY: Key = Key(());
+
 /// What has a handle of the library.
 pub trait Holds {
-    fn handle(&mut self) -> &mut sys::usbdisk;
+    fn handle(&mut self, key: Key) -> &mut sys::usbdisk;
 }
 
 macro_rules! holds {
     ($name:ident) => {
         impl Holds for $name {
-            fn handle(&mut self) -> &mut sys::usbdisk {
+            fn handle(&mut self, _key: $crate::calls::Key) -> &mut sys::usbdisk {
                 &mut self.0 .0
             }
         }
@@ -77,6 +82,14 @@ pub enum State {
 /// What a [`Disk`](crate::Disk), a [`Store`](crate::Store) and the work on an
 /// [`Image`](crate::Image) share: they tell their calls of the device, one at a time. The program has
 /// the device carry it out, by DMA, in a thread or at once.
+///
+/// Only types of this crate are `Calls`, and none lends its handle:
+///
+/// ```compile_fail
+/// fn reach<C: usbdisk::Calls>(calls: &mut C) -> &mut usbdisk::sys::usbdisk {
+///     calls.handle()
+/// }
+/// ```
 pub trait Calls: Holds {
     /// The next call of the device, which is under way from then on, until [`Calls::done`]. Of a write
     /// the bytes are in the buffer, as many sectors as wait in a row and as it has room for: they are
@@ -88,7 +101,7 @@ pub trait Calls: Holds {
         let mut call = sys::usbdisk_call::default();
         let (bytes, size) = (buffer.as_mut_ptr(), buffer.len());
         // SAFETY: the handle is lent to this call alone, and bytes and size are of one slice.
-        Misuse::check(unsafe { sys::usbdisk_next(self.handle(), &mut call, bytes, size) })?;
+        Misuse::check(unsafe { sys::usbdisk_next(self.handle(KEY), &mut call, bytes, size) })?;
         let (sector, count) = (call.sector, call.count as usize);
         Ok(match call.kind {
             1 => Call::Write { sector, count },
@@ -110,14 +123,14 @@ pub trait Calls: Holds {
     fn done(&mut self, is_carried_out: bool, bytes: &[u8]) -> Result<(), Misuse> {
         let (from, size) = (bytes.as_ptr(), bytes.len());
         // SAFETY: the handle is lent to this call alone, and bytes and size are of one slice.
-        Misuse::check(unsafe { sys::usbdisk_done(self.handle(), is_carried_out, from, size) })
+        Misuse::check(unsafe { sys::usbdisk_done(self.handle(KEY), is_carried_out, from, size) })
     }
 
     /// What it is at.
     fn state(&mut self) -> State {
         let mut fault = 0;
         // SAFETY: the handle is lent to this call alone.
-        match unsafe { sys::usbdisk_state(self.handle(), &mut fault) } {
+        match unsafe { sys::usbdisk_state(self.handle(KEY), &mut fault) } {
             0 => State::Starting,
             1 => State::Serving,
             2 => State::Faulted,
@@ -127,7 +140,8 @@ pub trait Calls: Holds {
     }
 
     /// Has the device carry out all that waits, one call behind the other: whether there was one. It ends
-    /// with the first one that the device refuses; what is asked for then the next call carries out.
+    /// with the first one that the device refuses; what is asked for then the next call carries out. A
+    /// call in which the device panics counts as refused.
     ///
     /// [`Misuse::BadLength`]: as [`Calls::next`], or a read has no room in the buffer, and counts as
     /// refused. A [`Fault`]: it has failed.
@@ -142,8 +156,9 @@ pub trait Calls: Holds {
             if call == Call::Nothing {
                 break;
             }
+            let under_way = UnderWay(self);
             let (ended, size) = carry_out(call, device, buffer);
-            self.done(ended.is_ok(), &buffer[..size])?;
+            under_way.done(ended.is_ok(), &buffer[..size])?;
             ended?;
             has_worked = true;
         }
@@ -151,6 +166,24 @@ pub trait Calls: Holds {
             State::Failed(fault) => Err(fault.into()),
             _ => Ok(has_worked),
         }
+    }
+}
+
+// The call that the device is at. If the device panics, it is dropped with that call still under way.
+struct UnderWay<'c, C: Calls + ?Sized>(&'c mut C);
+
+impl<C: Calls + ?Sized> UnderWay<'_, C> {
+    fn done(self, is_carried_out: bool, bytes: &[u8]) -> Result<(), Misuse> {
+        let ended = self.0.done(is_carried_out, bytes);
+        core::mem::forget(self);
+        ended
+    }
+}
+
+impl<C: Calls + ?Sized> Drop for UnderWay<'_, C> {
+    fn drop(&mut self) {
+        // (a call is under way, and of a refused one no bytes are looked at: there is no misuse)
+        let _ended = self.0.done(false, &[]);
     }
 }
 

@@ -1,5 +1,5 @@
 //! The disk, by the transfers of a controller.
-use crate::calls::{holds, Calls, Handle, Holds};
+use crate::calls::{holds, Calls, Handle, Holds, KEY};
 use crate::{sys, Identity, Misuse, Refusal};
 
 /// What an endpoint is to answer.
@@ -47,7 +47,7 @@ impl Disk {
     }
 
     /// The same of a disk with at most so many records of the log in memory, until their blocks are home;
-    /// 0 for three. More than 64 counts as 64, and more than there are slots as many as there are slots.
+    /// 0 for four. More than 64 counts as 64, and more than there are slots as many as there are slots.
     /// One more takes 128,720 bytes in format 2 and 26,952 in format 1. In format 2 a disk that keeps
     /// three or more makes one flush for each forced WRITE, for ever; one that keeps fewer makes three.
     ///
@@ -67,7 +67,7 @@ impl Disk {
             kept,
         };
         // SAFETY: the handle holds nothing, and both are lent for the call.
-        Refusal::check(unsafe { sys::usbdisk_start(disk.handle(), &options) })?;
+        Refusal::check(unsafe { sys::usbdisk_start(disk.handle(KEY), &options) })?;
         Ok(disk)
     }
 
@@ -79,7 +79,7 @@ impl Disk {
     pub fn out(&mut self, bytes: &[u8]) -> (Answer, usize) {
         let (mut taken, from, size) = (0, bytes.as_ptr(), bytes.len());
         // SAFETY: the handle is lent to this call alone, and bytes and size are of one slice.
-        let code = unsafe { sys::usbdisk_out(self.handle(), from, size, &mut taken) };
+        let code = unsafe { sys::usbdisk_out(self.handle(KEY), from, size, &mut taken) };
         (Answer::of(code).unwrap_or(Answer::Stall), taken)
     }
 
@@ -92,7 +92,7 @@ impl Disk {
     pub fn in_(&mut self, room: &mut [u8]) -> Result<(Answer, usize), Misuse> {
         let (mut given, to, size) = (0, room.as_mut_ptr(), room.len());
         // SAFETY: the handle is lent to this call alone, and room and size are of one slice.
-        let code = unsafe { sys::usbdisk_in(self.handle(), to, size, &mut given) };
+        let code = unsafe { sys::usbdisk_in(self.handle(KEY), to, size, &mut given) };
         Ok((Answer::of(code)?, given))
     }
 
@@ -104,7 +104,7 @@ impl Disk {
     pub fn setup(&mut self, request: &[u8; 8], data: &mut [u8; 2]) -> (Answer, usize) {
         let (mut size, from, to) = (0, request.as_ptr(), data.as_mut_ptr());
         // SAFETY: the handle is lent to this call alone, 8 bytes, and 2.
-        let code = unsafe { sys::usbdisk_setup(self.handle(), from, to, &mut size) };
+        let code = unsafe { sys::usbdisk_setup(self.handle(KEY), from, to, &mut size) };
         (Answer::of(code).unwrap_or(Answer::Stall), size as usize)
     }
 
@@ -122,7 +122,7 @@ impl Disk {
     /// are read, and of a disk that failed or faulted, it stays true.
     pub fn idle(&mut self) -> bool {
         // SAFETY: the handle is lent to this call alone.
-        unsafe { sys::usbdisk_idle(self.handle()) == 1 }
+        unsafe { sys::usbdisk_idle(self.handle(KEY)) == 1 }
     }
 
     /// The device is to read `count` sectors from sector `first` on before a READ of the host lacks them,
@@ -132,6 +132,6 @@ impl Disk {
     /// the last packet that was taken sectors were read, or are to be.
     pub fn ahead(&mut self, first: u64, count: u32) -> bool {
         // SAFETY: the handle is lent to this call alone.
-        unsafe { sys::usbdisk_ahead(self.handle(), first, count) == 1 }
+        unsafe { sys::usbdisk_ahead(self.handle(KEY), first, count) == 1 }
     }
 }

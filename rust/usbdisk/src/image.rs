@@ -1,5 +1,5 @@
 //! Images on a device.
-use crate::calls::{holds, Calls, Handle, Holds};
+use crate::calls::{holds, Calls, Handle, Holds, KEY};
 use crate::{sys, Device, Error, Plan, Refusal, SECTOR};
 
 /// The work on an image. It tells its calls of the device ([`Calls`]), and the image is there when it is
@@ -38,7 +38,7 @@ impl Image {
     fn begin(making: Making, plan: &Plan) -> Result<Self, Refusal> {
         let mut image = Image(Handle::NONE);
         // SAFETY: the handle holds nothing, and both are lent for the call.
-        Refusal::check(unsafe { making(image.handle(), plan) })?;
+        Refusal::check(unsafe { making(image.handle(KEY), plan) })?;
         Ok(image)
     }
 }

@@ -1,5 +1,5 @@
 //! The store without the transport, by blocks.
-use crate::calls::{holds, Calls, Handle, Holds};
+use crate::calls::{holds, Calls, Handle, Holds, KEY};
 use crate::{sys, Identity, Refusal};
 
 /// A store: blocks of 512 bytes, for a stack that speaks SCSI itself. It tells its calls of the device
@@ -31,7 +31,7 @@ impl Store {
             kept,
         };
         // SAFETY: the handle holds nothing, and both are lent for the call.
-        Refusal::check(unsafe { sys::usbdisk_store_start(store.handle(), &options) })?;
+        Refusal::check(unsafe { sys::usbdisk_store_start(store.handle(KEY), &options) })?;
         Ok(store)
     }
 
@@ -40,7 +40,7 @@ impl Store {
     pub fn sizes(&mut self) -> Result<(u64, usize), Refusal> {
         let (mut blocks, mut limit) = (0, 0);
         // SAFETY: the handle is lent to this call alone.
-        let code = unsafe { sys::usbdisk_store_sizes(self.handle(), &mut blocks, &mut limit) };
+        let code = unsafe { sys::usbdisk_store_sizes(self.handle(KEY), &mut blocks, &mut limit) };
         Refusal::check(code).map(|()| (blocks, limit as usize))
     }
 
@@ -48,7 +48,7 @@ impl Store {
     pub fn read(&mut self, block: u64, bytes: &mut [u8]) -> Result<(), Refusal> {
         let (to, size) = (bytes.as_mut_ptr(), bytes.len());
         // SAFETY: the handle is lent to this call alone; pointer and size are of one slice.
-        Refusal::check(unsafe { sys::usbdisk_store_read(self.handle(), block, to, size) })
+        Refusal::check(unsafe { sys::usbdisk_store_read(self.handle(KEY), block, to, size) })
     }
 
     /// Writes whole blocks from `block` on, by one write, of which a cut leaves all or nothing. The next
@@ -56,18 +56,18 @@ impl Store {
     pub fn write(&mut self, block: u64, bytes: &[u8]) -> Result<(), Refusal> {
         let (from, size) = (bytes.as_ptr(), bytes.len());
         // SAFETY: the handle is lent to this call alone; pointer and size are of one slice.
-        Refusal::check(unsafe { sys::usbdisk_store_write(self.handle(), block, from, size) })
+        Refusal::check(unsafe { sys::usbdisk_store_write(self.handle(KEY), block, from, size) })
     }
 
     /// Makes every accepted write durable.
     pub fn sync(&mut self) -> Result<(), Refusal> {
         // SAFETY: the handle is lent to this call alone.
-        Refusal::check(unsafe { sys::usbdisk_store_sync(self.handle()) })
+        Refusal::check(unsafe { sys::usbdisk_store_sync(self.handle(KEY)) })
     }
 
     /// Steps in the background, for when nothing else is to be done, as [`Disk::idle`](crate::Disk::idle).
     pub fn idle(&mut self) -> bool {
         // SAFETY: the handle is lent to this call alone.
-        unsafe { sys::usbdisk_idle(self.handle()) == 1 }
+        unsafe { sys::usbdisk_idle(self.handle(KEY)) == 1 }
     }
 }
