@@ -25,8 +25,9 @@
  * What a loss of power leaves, wherever the device is: the next start finds the accepted writes in
  * order, none in part, and all that were promised to the host. A status that promises (of a WRITE
  * with FUA or with the write cache off, a READ with FUA, a SYNCHRONIZE CACHE, a MODE SELECT while
- * the write cache is on) is handed out when the device has carried out all that waited. No other
- * answer waits for the device, but while a promise does. docs/MAKERS.md tells what the device must
+ * the write cache is on) is handed out when the device has carried out all that waited. Until then
+ * Bulk-In gives nothing at all: no halt, and not the answer to a command behind a class reset. With
+ * no such status waiting, no answer waits for the device. docs/MAKERS.md tells what the device must
  * promise.
  *
  * Link the program with libusbdisk_c.a, and define the two functions at the end of this file.
@@ -37,8 +38,11 @@
  * waits. Memory is taken by the calls that start something, and by usbdisk_done while that starts.
  *
  * Errors: a call that answers one of the errors, from 16 on, changed nothing, neither what the
- * handle holds nor what its pointers point to. No pointer may be null, also where the size beside
- * it is 0, and no two may overlap. */
+ * handle holds nor what its pointers point to. Of several that apply the first is answered: EMPTY
+ * or STARTED, then OTHER_KIND, then those of the arguments in the order in which the call names
+ * them. No pointer may be null, also where the size beside it is 0, and no two may overlap.
+ *
+ * This header is C99 and C++; the port layer is C11. */
 #ifndef USBDISK_H
 #define USBDISK_H
 
@@ -50,8 +54,8 @@
 extern "C" {
 #endif
 
-/* The version, 1.12.0: two bytes hold the first number, and one byte each of the others. The library
- * tells its own. Where the two differ, header and library are not of one version. */
+/* The version, 1.12.0: two bytes hold the first number, and one byte each of the others. The
+ * library tells its own. Where the two differ, header and library are not of one version. */
 #define USBDISK_VERSION 0x010C00u
 
 uint32_t usbdisk_version(void);
@@ -150,13 +154,37 @@ uint64_t usbdisk_memory(uint32_t format, uint64_t slots);
 /* The same where `kept` is that of its options. */
 uint64_t usbdisk_memory_kept(uint32_t format, uint64_t slots, uint32_t kept);
 
-/* Who the disk is, as INQUIRY tells it: printable ASCII, padded with spaces, with no final 0. */
+/* Who the disk is, as INQUIRY tells it: printable ASCII, padded with spaces, with no final 0. C++
+ * takes no string literal of full length for such a field: usbdisk_identify fills it there too. */
 struct usbdisk_identity {
     char vendor[8];
     char product[16];
     char revision[4];
     char serial[12];
 };
+
+/* Fills a field with a text and spaces behind it. Answers whether the text fits. */
+static inline bool usbdisk_put_text(char *field, size_t size, const char *text)
+{
+    size_t at;
+    for (at = 0; at < size; at++)
+        field[at] = *text ? *text++ : ' ';
+    return !*text;
+}
+
+/* Makes an identity of strings. False, and `*who` stays, where one is longer than its field. */
+static inline bool usbdisk_identify(struct usbdisk_identity *who, const char *vendor,
+                                    const char *product, const char *revision, const char *serial)
+{
+    struct usbdisk_identity it;
+    bool fits = usbdisk_put_text(it.vendor, sizeof it.vendor, vendor) &&
+                usbdisk_put_text(it.product, sizeof it.product, product) &&
+                usbdisk_put_text(it.revision, sizeof it.revision, revision) &&
+                usbdisk_put_text(it.serial, sizeof it.serial, serial);
+    if (fits)
+        *who = it;
+    return fits;
+}
 
 /* What is started. All is copied: nothing of it has to stay.
  *
@@ -237,7 +265,7 @@ uint32_t usbdisk_state(struct usbdisk *disk, uint32_t *fault);
 
 /* Bytes came to the Bulk-Out endpoint: a transfer of the host, or a part of one that ends where a
  * packet does. They are taken packet by packet, each as many bytes as a packet has, the last maybe
- * fewer; no bytes are one empty packet. `*taken` tells how many were taken.
+ * fewer; no bytes are one empty packet. `*taken` tells how many were taken, at NAK and STALL too.
  *
  * Answers ACK: all of them. NAK: the disk waits for its device (it starts, it reads, the packet is
  * a READ that lacks sectors, or it asks for writes: see below), or the host has not taken the
@@ -256,6 +284,11 @@ uint32_t usbdisk_out(struct usbdisk *disk, const uint8_t *bytes, size_t size, si
  * one has no room, or there is none now. The bytes behind them stay. It asks the device for
  * nothing.
  *
+ * A packet is given where the rest of the room has place for a whole one, 64 or 512 bytes, though
+ * it may be shorter: a room of a multiple of that leaves none behind. Data whose last packet is a
+ * whole one may be followed by the status, 13 bytes, in the same call; the host takes both as they
+ * come, packet by packet. At NAK and at STALL `*given` is 0.
+ *
  * Answers ACK: here they are. NAK: there is none now; so also while a status that promises waits
  * for the device. STALL: the endpoint is halted. Where packets came before a NAK or a STALL, the
  * answer is ACK; ask again. Errors: EMPTY, OTHER_KIND; BAD_LENGTH where there is no room for a
@@ -266,7 +299,9 @@ uint32_t usbdisk_in(struct usbdisk *disk, uint8_t *room, size_t size, size_t *gi
  * the class reset, GET MAX LUN, CLEAR_FEATURE(ENDPOINT_HALT) and GET_STATUS of an endpoint. `setup`
  * is the setup packet, for interface 0 and the endpoints 81h and 02h: with other numbers rewrite
  * its byte 4, which in the first two is the interface. At ACK `*size` bytes, 0 to 2, go to the
- * host. A class reset drops an answer that waits, and takes no accepted write back. It is answered
+ * host. A class reset drops an answer that waits, and takes no accepted write back. Calls of the
+ * device that wait or are under way go on behind it, so Bulk-In answers NAK while a status that
+ * promises would have waited for them. It is answered
  * whatever the device is at, but by STALL until the first sectors are read: connect to the bus when
  * the state is SERVING. Answers ACK, STALL, EMPTY or OTHER_KIND. */
 uint32_t usbdisk_setup(struct usbdisk *disk, const uint8_t setup[8], uint8_t data[2],

@@ -4,27 +4,6 @@
 
 enum { PACKET = 512 };
 
-/* Fills a field of the identity. Whether the text has ended in it. */
-static bool put_field(char *field, size_t size, const char *text)
-{
-    for (size_t i = 0; i < size; i++)
-        field[i] = *text ? *text++ : ' ';
-    return !*text;
-}
-
-bool usbdisk_identify(struct usbdisk_identity *who, const char *vendor, const char *product,
-                      const char *revision, const char *serial)
-{
-    struct usbdisk_identity it;
-    bool fits = put_field(it.vendor, sizeof it.vendor, vendor) &&
-                put_field(it.product, sizeof it.product, product) &&
-                put_field(it.revision, sizeof it.revision, revision) &&
-                put_field(it.serial, sizeof it.serial, serial);
-    if (fits)
-        *who = it;
-    return fits;
-}
-
 /* What the READs that follow each other will ask for next. */
 struct guess {
     uint64_t behind; /* the sector behind the last READ */

@@ -66,11 +66,6 @@ enum { USBDISK_IO_OVERFLOW = 64 };
 /* What this number means, of a start, a transfer or an image; for people, in lower case. */
 const char *usbdisk_text(uint32_t code);
 
-/* Who the disk is, by strings, which are padded with spaces. False, and `*who` stays, where one is
- * longer than its field: 8, 16, 4 and 12 characters. */
-bool usbdisk_identify(struct usbdisk_identity *who, const char *vendor, const char *product,
-                      const char *revision, const char *serial);
-
 /* Starts a disk on what the device holds, recovers it, and has the device carry that out. The
  * device stays yours, and has to stay where it is; the identity is copied. packet: 64 at full
  * speed, 512 at high speed.
