@@ -233,6 +233,9 @@ static void play_hit(void)
     must(!usbdisk_in(&disk, bytes, 1024, &moved) && moved == 512 + 13 && bytes[511] == 0x5A &&
              !bytes[512 + 12],
          "its bytes and its status");
+    must(!usbdisk_out(&disk, read_five, 31, &moved) && !usbdisk_in(&disk, bytes, 1023, &moved) &&
+             moved == 512 && !usbdisk_in(&disk, bytes, 512, &moved) && moved == 13,
+         "a packet has less room than a whole one");
     end(&disk);
 }
 
