@@ -143,9 +143,9 @@ static bool begin(struct gadget *gadget)
     return true;
 }
 
-/* One word of the command line, and its value where it has one. Answers how many were taken. */
-static int read_word(struct gadget *gadget, char **words)
+static bool take_word(void *to, const char *word, const char *value)
 {
+    struct gadget *gadget = to;
     const struct {
         const char *word, **place;
     } places[] = {
@@ -154,26 +154,14 @@ static int read_word(struct gadget *gadget, char **words)
         { "--udc", &gadget->controller },
     };
     for (size_t i = 0; i < sizeof places / sizeof *places; i++)
-        if (!strcmp(words[0], places[i].word) && words[1]) {
-            *places[i].place = words[1];
-            return 2;
+        if (!strcmp(word, places[i].word)) {
+            *places[i].place = value;
+            return true;
         }
-    if (strcmp(words[0], "--no-bind"))
-        return read_option(&gadget->options, words);
+    if (strcmp(word, "--no-bind"))
+        return take_option(&gadget->options, word, value);
     gadget->binds = false;
-    return 1;
-}
-
-/* Reads the words of the command. False: they are not as in the usage. */
-static bool read_words(struct gadget *gadget, char **words)
-{
-    while (*words) {
-        int taken = read_word(gadget, words);
-        if (!taken)
-            return false;
-        words += taken;
-    }
-    return gadget->options.image != NULL;
+    return true;
 }
 
 /* The unit of systemd hides some folders, and the system says that there is no such file. */
@@ -215,17 +203,16 @@ int main(int count, char **words)
         .folder = "/sys/kernel/config/usb_gadget/usbdisk",
         .binds = true,
     };
+    static const struct option known[] = { { "functionfs", required_argument, NULL, 0 },
+                                           { "gadget", required_argument, NULL, 0 },
+                                           { "udc", required_argument, NULL, 0 },
+                                           { "no-bind", no_argument, NULL, 0 },
+                                           OPTIONS_KNOWN,
+                                           { NULL, 0, NULL, 0 } };
+    static const struct command command = { usage, options_usage, "-:v", known, take_word };
+    (void)count;
     if (!program_begin("usbdisk-gadget"))
         return STATUS_FILE;
-    if (count == 2 && !strcmp(words[1], "--help"))
-        printf("%s%s", usage, options_usage);
-    else if (count == 2 && !strcmp(words[1], "--version"))
-        puts("usbdisk-gadget " VERSION);
-    else if (read_words(&gadget, words + 1))
-        return run(&gadget);
-    else {
-        fprintf(stderr, "%s%s", usage, options_usage);
-        return STATUS_USAGE;
-    }
-    return fflush(stdout) ? STATUS_FILE : 0;
+    int ended = read_command(&command, words, &gadget, &gadget.options.image);
+    return ended == GO_ON ? run(&gadget) : ended;
 }

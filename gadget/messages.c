@@ -121,6 +121,11 @@ void say_of_host(const char *format, ...)
     va_end(words);
 }
 
+const char *program_name(void)
+{
+    return messages.name;
+}
+
 void say_all(void)
 {
     messages.says_all = true;

@@ -32,9 +32,12 @@ static bool is_serial(const char *text)
            strspn(text, "0123456789ABCDEF") == strlen(text);
 }
 
-/* Takes a value that fits its option. `is_known` tells whether there is such an option. */
-static bool read_value(struct options *options, const char *word, const char *value, bool *is_known)
+bool take_option(struct options *options, const char *word, const char *value)
 {
+    if (!strcmp(word, "-v")) {
+        say_all();
+        return true;
+    }
     const struct {
         const char *word, **place;
         bool fits;
@@ -44,33 +47,11 @@ static bool read_value(struct options *options, const char *word, const char *va
         { "--product", &options->names.product, is_text(value, 16) },
         { "--revision", &options->names.revision, is_text(value, 4) },
     };
-    *is_known = true;
     for (size_t i = 0; i < sizeof names / sizeof *names; i++)
         if (!strcmp(word, names[i].word)) {
             *names[i].place = value;
             return names[i].fits;
         }
-    *is_known = !strcmp(word, "--on-fault");
-    options->unplugs = *is_known ? !strcmp(value, "unplug") : options->unplugs;
-    return *is_known && (options->unplugs || !strcmp(value, "serve"));
-}
-
-int read_option(struct options *options, char **words)
-{
-    bool is_known;
-    if (!strcmp(words[0], "-v")) {
-        say_all();
-        return 1;
-    }
-    if (words[0][0] != '-' && !options->image) {
-        options->image = words[0];
-        return 1;
-    }
-    if (!words[1])
-        return 0;
-    if (read_value(options, words[0], words[1], &is_known))
-        return 2;
-    if (is_known)
-        say("%s does not fit: %s", words[0], words[1]);
-    return 0;
+    options->unplugs = !strcmp(value, "unplug");
+    return options->unplugs || !strcmp(value, "serve");
 }

@@ -2,6 +2,7 @@
 #ifndef OPTIONS_H
 #define OPTIONS_H
 
+#include "command.h"
 #include "disk.h"
 
 struct options {
@@ -14,8 +15,15 @@ struct options {
 /* The lines of the usage that tell of them. */
 extern const char options_usage[];
 
-/* One word of the command line, and its value where it has one. Answers how many words were taken;
- * 0 where the word is none of these, or where its value does not fit, which is said. */
-int read_option(struct options *options, char **words);
+/* They, for the table of a command. */
+#define OPTIONS_KNOWN                                                                              \
+    { "on-fault", required_argument, NULL, 0 }, { "serial", required_argument, NULL, 0 },          \
+        { "vendor", required_argument, NULL, 0 }, { "product", required_argument, NULL, 0 },       \
+    {                                                                                              \
+        "revision", required_argument, NULL, 0                                                     \
+    }
+
+/* Takes one of them, or -v. False: its value does not fit. */
+bool take_option(struct options *options, const char *word, const char *value);
 
 #endif

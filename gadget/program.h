@@ -13,6 +13,9 @@
  * False: a call of the system failed. */
 bool program_begin(const char *name);
 
+/* The name that program_begin was handed. */
+const char *program_name(void);
+
 /* A line to standard error. It never waits: where there is no room it is dropped, and the next line
  * that has room tells how many were. */
 void say(const char *format, ...) __attribute__((format(printf, 1, 2)));

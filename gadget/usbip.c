@@ -4,7 +4,6 @@
 #include "program.h"
 #include "usbip.h"
 #include <inttypes.h>
-#include <stdio.h>
 #include <string.h>
 #include <unistd.h>
 
@@ -29,32 +28,18 @@ struct words {
     uint64_t port, packet;
 };
 
-/* One word, and its value where it has one. Answers how many were taken, or 0. */
-static int read_word(struct words *all, char **words)
+static bool take_word(void *to, const char *word, const char *value)
 {
-    if (words[1] && !strcmp(words[0], "--port"))
-        return read_number(words[1], 0, 65535, &all->port) ? 2 : 0;
-    if (words[1] && !strcmp(words[0], "--packet"))
-        return read_number(words[1], 64, 512, &all->packet) &&
-                       (all->packet == 64 || all->packet == 512)
-                   ? 2
-                   : 0;
-    if (!words[1] || strcmp(words[0], "--listen"))
-        return read_option(&all->options, words);
-    all->address = words[1];
-    return 2;
-}
-
-static bool read_words(struct words *all, char **words)
-{
-    *all = (struct words){ .address = "127.0.0.1", .port = PORT, .packet = 512 };
-    while (*words) {
-        int taken = read_word(all, words);
-        if (!taken)
-            return false;
-        words += taken;
-    }
-    return all->options.image != NULL;
+    struct words *all = to;
+    if (!strcmp(word, "--port"))
+        return read_number(value, 0, 65535, &all->port);
+    if (!strcmp(word, "--packet"))
+        return read_number(value, 64, 512, &all->packet) &&
+               (all->packet == 64 || all->packet == 512);
+    if (strcmp(word, "--listen"))
+        return take_option(&all->options, word, value);
+    all->address = value;
+    return true;
 }
 
 static bool open_listener(struct server *server, const struct words *words)
@@ -107,18 +92,16 @@ static int run(struct server *server, const struct words *words)
 int main(int count, char **words)
 {
     static struct server server;
-    struct words all;
+    static const struct option known[] = { { "port", required_argument, NULL, 0 },
+                                           { "packet", required_argument, NULL, 0 },
+                                           { "listen", required_argument, NULL, 0 },
+                                           OPTIONS_KNOWN,
+                                           { NULL, 0, NULL, 0 } };
+    static const struct command command = { usage, options_usage, "-:v", known, take_word };
+    struct words all = { .address = "127.0.0.1", .port = PORT, .packet = 512 };
+    (void)count;
     if (!program_begin("usbdisk-usbip"))
         return STATUS_FILE;
-    if (count == 2 && !strcmp(words[1], "--help"))
-        printf("%s%s", usage, options_usage);
-    else if (count == 2 && !strcmp(words[1], "--version"))
-        puts("usbdisk-usbip " VERSION);
-    else if (read_words(&all, words + 1))
-        return run(&server, &all);
-    else {
-        fprintf(stderr, "%s%s", usage, options_usage);
-        return STATUS_USAGE;
-    }
-    return fflush(stdout) ? STATUS_FILE : 0;
+    int ended = read_command(&command, words, &all, &all.options.image);
+    return ended == GO_ON ? run(&server, &all) : ended;
 }

@@ -378,7 +378,7 @@ def it_is_called_as_it_is_told():
     for words in (["--serial", "12345"], ["--serial", "0123456789ab"], ["--vendor", "NINE CHAR"], ["--vendor", ""],
                   ["--product", "\u00e4"], ["--revision", "12345"], ["--on-fault", "ends"]):
         run = subprocess.run([PROGRAM, "disk.img", *words], stderr=subprocess.PIPE, timeout=60, check=False)
-        assert run.returncode == 2 and f"{words[0]} does not fit: {words[1]}" in run.stderr.decode(), words
+        assert run.returncode == 2 and f"{words[0]} {words[1]}: the value does not fit" in run.stderr.decode(), words
 
 
 def it_is_unplugged_where_the_device_has_failed():

@@ -291,9 +291,12 @@ def it_refuses_by_name():
         patched(0, b"R")
         os.truncate("disk.img", length)
         refused(3, "no image" if length % 512 or not length else "the sizes in sector 0 do not fit")
-    for words in ([], ["a", "b"], ["--port"], ["a", "--port", "x"], ["a", "--port", "65536"], ["a", "--packet", "63"], ["a", "--no", "1"]):
+    for words, told in (([], "IMAGE: is left out"), (["a", "b"], "b: a second IMAGE"), (["--port"], "--port: its value is left out"),
+                        (["a", "--port", "x"], "--port x: the value does not fit"), (["--port", "65536", "a"], "--port 65536: the value does not fit"),
+                        (["a", "--packet", "63"], "--packet 63: the value does not fit"), (["--prt", "1", "a"], "--prt: no such word"),
+                        (["-vx", "a"], "-x: no such word"), (["--", "a", "--port"], "--port: a second IMAGE")):
         run = subprocess.run([PROGRAM, *words], stderr=subprocess.PIPE, timeout=120, check=False)
-        assert run.returncode == 2 and run.stderr.startswith(b"usbdisk-usbip IMAGE"), words
+        assert run.returncode == 2 and run.stderr.decode() == f"usbdisk-usbip: {told}; usbdisk-usbip --help tells the words\n", (words, run.stderr)
     for word, begin in (("--help", b"usbdisk-usbip IMAGE"), ("--version", b"usbdisk-usbip ")):
         assert subprocess.run([PROGRAM, word], stdout=subprocess.PIPE, timeout=120, check=True).stdout.startswith(begin), word
 

@@ -1,0 +1,25 @@
+/* The words of usbdisk-make. */
+#ifndef MAKE_WORDS_H
+#define MAKE_WORDS_H
+
+#include <stdbool.h>
+#include <stdint.h>
+
+/* The limits of an image, and how many sectors the largest has. */
+#define MOST_SLOTS 64
+#define MOST_BLOCKS ((uint64_t)1 << 31)
+#define MOST_SECTORS (MOST_BLOCKS + 2 + 249 * MOST_SLOTS)
+
+struct make_words {
+    const char *image;
+    uint64_t size, blocks, slots, format, align;
+    bool shows, migrates, zeroes, replaces, makes;
+};
+
+/* Reads the words of `main`. Answers GO_ON where they go together, or the exit status: said why. */
+int read_make_words(struct make_words *options, char **words);
+
+/* Where home begins, which is how many sectors an image takes beside its blocks. */
+uint64_t home_of(const struct make_words *options);
+
+#endif
