@@ -1,7 +1,7 @@
-/* usbdisk-make: makes an image on a file, a partition or a device, tells what one is, and brings
- * one to format 2. */
+/* usbdisk-make: makes an image on a file, a partition or a device, tells what one is, brings one to
+ * format 2, and copies blocks in and out. */
 #include "command.h"
-#include "make_place.h"
+#include "make_copy.h"
 #include "make_words.h"
 #include "program.h"
 #include <inttypes.h>
@@ -30,11 +30,8 @@ static uint64_t wanted_blocks(const struct make_words *options, uint64_t sectors
 static bool may_make(const struct make_words *options, struct place *place, uint64_t sectors)
 {
     char cause[160];
-    const char *held = place_holds(place);
-    if (held && !options->replaces) {
-        snprintf(cause, sizeof cause, "it holds %s: --replace makes an image in its place", held);
-        return refuse(&place->disk, STATUS_FILE, cause);
-    }
+    if (!place_is_free(place, options->replaces))
+        return false;
     if (!sectors)
         return refuse(&place->disk, STATUS_REFUSED,
                       "it is empty: --size SIZE or --blocks N tells how long it is to be");
@@ -44,15 +41,6 @@ static bool may_make(const struct make_words *options, struct place *place, uint
              "too small: with %" PRIu64 " slots an image has %" PRIu64 " bytes or more",
              options->slots, (home_of(options) + 1) * 512);
     return refuse(&place->disk, STATUS_REFUSED, cause);
-}
-
-/* What the port layer answers in place of an image. What the device refused is said already. */
-static bool refuse_image(struct place *place, uint32_t fault)
-{
-    if (fault >= USBDISK_READ_REFUSED && fault <= USBDISK_FLUSH_REFUSED)
-        return false;
-    int status = fault == USBDISK_NO_MEMORY ? STATUS_MEMORY : STATUS_REFUSED;
-    return refuse(&place->disk, status, usbdisk_text(fault));
 }
 
 /* Makes the image: a log alone around the blocks that are there, or all of it. False: said why. */
@@ -76,19 +64,6 @@ static bool make(const struct make_words *options, struct place *place)
            " MiB)\n",
            options->format, options->slots, blocks, blocks / 2048, blocks % 2048 * 10 / 2048);
     return true;
-}
-
-/* Reads what image there is. False: said why. */
-static bool read_layout(struct place *place, struct usbdisk_layout *layout)
-{
-    uint8_t sector[512];
-    if (!place->disk.sectors || !read_sectors(&place->disk, sector, 0, 1))
-        return refuse(&place->disk, STATUS_FILE,
-                      place->disk.sectors ? "sector 0 is not read" : "it is empty");
-    uint32_t fault = usbdisk_look(sector, layout);
-    if (!fault && layout->sectors > place->disk.sectors)
-        fault = USBDISK_BAD_SIZE;
-    return !fault || refuse_image(place, fault);
 }
 
 /* Starts a disk on it in memory alone, up to the first WRITE: by then all is read that may be wrong
@@ -143,8 +118,26 @@ static bool migrate(struct place *place)
     return true;
 }
 
+/* With a plain file or device, which is opened, and let go of. */
+static bool copy(const struct make_words *options, struct place *place)
+{
+    struct place raw;
+    bool imports = options->imports != NULL;
+    const char *path = imports ? options->imports : options->exports;
+    if (place_is_at(place, path))
+        return refuse(&place->disk, STATUS_USAGE, "it cannot be copied to itself");
+    bool is_done = place_open(&raw, path, imports ? PLACE_READ : PLACE_MAKE) &&
+                   (imports ? import_blocks : export_blocks)(options, place, &raw);
+    place_close(&raw, is_done);
+    if (!is_done && !place->disk.status)
+        place->disk.status = raw.disk.status;
+    return is_done;
+}
+
 static bool work(const struct make_words *options, struct place *place)
 {
+    if (options->imports || options->exports)
+        return copy(options, place);
     if (options->shows)
         return show(place);
     return options->migrates ? migrate(place) : make(options, place);
@@ -152,7 +145,7 @@ static bool work(const struct make_words *options, struct place *place)
 
 static enum place_use use_of(const struct make_words *options)
 {
-    if (options->shows)
+    if (options->shows || options->exports)
         return PLACE_READ;
     return options->migrates ? PLACE_CHANGE : PLACE_MAKE;
 }

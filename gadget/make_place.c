@@ -60,6 +60,7 @@ bool place_open(struct place *place, const char *path, enum place_use use)
         return refuse_call(&place->disk, "its length is not known");
     place->is_device = S_ISBLK(what.st_mode);
     place->disk.sectors = (uint64_t)length / 512;
+    place->has_rest = length % 512 != 0;
     return true;
 }
 
@@ -90,7 +91,7 @@ static const char *blkid_found(int file)
 
 /* A device that bears no mark may be taken, whatever a former owner left there. Of a file only
  * zeros are nothing. */
-const char *place_holds(const struct place *place)
+static const char *holds(const struct place *place)
 {
     static uint8_t bytes[SEEN];
     ssize_t size = pread(place->disk.file, bytes, sizeof bytes, 0);
@@ -107,8 +108,18 @@ const char *place_holds(const struct place *place)
     return NULL;
 }
 
-/* So many sectors more are written: how far it is, on one line of a terminal. */
-static void tell(struct place *place, uint64_t count)
+bool place_is_free(struct place *place, bool replaces)
+{
+    char cause[160];
+    const char *held = replaces ? NULL : holds(place);
+    if (!held)
+        return true;
+    snprintf(cause, sizeof cause, "it holds %s: --replace makes an image in its place", held);
+    return refuse(&place->disk, STATUS_FILE, cause);
+}
+
+/* On one line of the terminal. */
+void place_tell(struct place *place, uint64_t count)
 {
     uint64_t told = place->done / TOLD;
     place->done += count;
@@ -118,8 +129,7 @@ static void tell(struct place *place, uint64_t count)
                 (unsigned long long)place->all / 2048, is_last ? "\n" : "");
 }
 
-/* Whether a signal asks to end; signals come in a wait alone. */
-static bool is_stopped(void)
+bool place_is_stopped(void)
 {
     wait_for(NULL, 0, 0);
     return is_asked_to_end();
@@ -133,12 +143,12 @@ static bool write_zeros(struct place *place, uint64_t first, uint64_t end)
     place->all = end - first;
     for (uint64_t at = first; at < end;) {
         uint64_t count = end - at < RUN ? end - at : RUN;
-        if (is_stopped())
+        if (place_is_stopped())
             return refuse(&place->disk, STATUS_FILE, "stopped: no image is made");
         if (!write_sectors(&place->disk, zeros, at, count))
             return refuse_call(&place->disk, "no room for it");
         at += count;
-        tell(place, count);
+        place_tell(place, count);
     }
     return true;
 }
@@ -158,6 +168,43 @@ bool place_fill(struct place *place, uint64_t sectors)
     return true;
 }
 
+bool place_is_at(const struct place *place, const char *path)
+{
+    struct stat here, there;
+    return fstat(place->disk.file, &here) == 0 && stat(path, &there) == 0 &&
+           here.st_dev == there.st_dev && here.st_ino == there.st_ino;
+}
+
+/* A device may be wiped where an image begins. */
+static bool wipe(struct place *place)
+{
+    static const uint8_t zeros[512];
+    return (write_sectors(&place->disk, zeros, 0, 1) && flush(&place->disk)) ||
+           refuse_call(&place->disk, "a write was refused");
+}
+
+bool place_empty(struct place *place, uint64_t sectors)
+{
+    if (place->is_device && sectors > place->disk.sectors)
+        return refuse(&place->disk, STATUS_REFUSED, "too small: it is shorter than that");
+    if (place->is_device)
+        return wipe(place);
+    if (ftruncate(place->disk.file, 0) || ftruncate(place->disk.file, (off_t)(sectors * 512)))
+        return refuse_call(&place->disk, "no room for it");
+    place->disk.sectors = sectors;
+    place->is_empty = true;
+    return true;
+}
+
+/* A file system that tells no holes has none. */
+uint64_t place_next_data(const struct place *place, uint64_t sector)
+{
+    off_t at = lseek(place->disk.file, (off_t)(sector * 512), SEEK_DATA);
+    if (at < 0)
+        return errno == ENXIO ? UINT64_MAX : sector;
+    return (uint64_t)at / 512;
+}
+
 static bool read_for(void *context, uint64_t first, uint8_t *bytes, size_t count)
 {
     struct place *place = context;
@@ -168,11 +215,11 @@ static bool read_for(void *context, uint64_t first, uint8_t *bytes, size_t count
 static bool write_for(void *context, uint64_t first, const uint8_t *bytes, size_t count)
 {
     struct place *place = context;
-    if (is_stopped())
+    if (place_is_stopped())
         return refuse(&place->disk, STATUS_FILE, "stopped on the way: run it again");
     if (!write_sectors(&place->disk, bytes, first, count))
         return refuse_call(&place->disk, "a write was refused");
-    tell(place, count);
+    place_tell(place, count);
     return true;
 }
 
@@ -214,4 +261,24 @@ void place_close(struct place *place, bool has_image)
     if (place->is_new && !has_image)
         unlink(place->disk.path);
     close_device(&place->disk);
+}
+
+bool refuse_image(struct place *place, uint32_t fault)
+{
+    if (fault >= USBDISK_READ_REFUSED && fault <= USBDISK_FLUSH_REFUSED)
+        return false;
+    int status = fault == USBDISK_NO_MEMORY ? STATUS_MEMORY : STATUS_REFUSED;
+    return refuse(&place->disk, status, usbdisk_text(fault));
+}
+
+bool read_layout(struct place *place, struct usbdisk_layout *layout)
+{
+    uint8_t sector[512];
+    if (!place->disk.sectors || !read_sectors(&place->disk, sector, 0, 1))
+        return refuse(&place->disk, STATUS_FILE,
+                      place->disk.sectors ? "sector 0 is not read" : "it is empty");
+    uint32_t fault = usbdisk_look(sector, layout);
+    if (!fault && layout->sectors > place->disk.sectors)
+        fault = USBDISK_BAD_SIZE;
+    return !fault || refuse_image(place, fault);
 }

@@ -11,6 +11,8 @@ static const char usage[] =
     "[--zero] [--replace]\n"
     "usbdisk-make IMAGE --show\n"
     "usbdisk-make IMAGE --migrate\n"
+    "usbdisk-make IMAGE --import RAW [--slots K] [--format 1|2] [--align SIZE] [--replace]\n"
+    "usbdisk-make IMAGE --export RAW [--replace]\n"
     "\n"
     "Makes the image of a USB disk on a file, a partition or a device, around the blocks that lie "
     "there, quickly.\n"
@@ -30,6 +32,9 @@ static const char usage[] =
     "  --show         tells what image it is, and whether a disk starts on it; writes nothing\n"
     "  --migrate      brings an image of format 1 with 5 slots or more to format 2; its blocks "
     "stay\n"
+    "  --import RAW   makes an image of all that a plain file or device holds, which stays\n"
+    "  --export RAW   makes a plain file of the blocks that a disk on the image would serve; the "
+    "image stays\n"
     "  --help, --version\n";
 
 /* The unit behind a number: 1 where there is none, 0 where it is none. */
@@ -91,12 +96,20 @@ static bool take_flag(struct make_words *options, const char *word)
     return false;
 }
 
+static bool take_path(struct make_words *options, const char *word, const char *path)
+{
+    *(word[2] == 'i' ? &options->imports : &options->exports) = path;
+    return *path != 0;
+}
+
 static bool take_word(void *to, const char *word, const char *value)
 {
     struct make_words *options = to;
     if (take_flag(options, word))
         return true;
-    options->makes = true;
+    if (!strcmp(word, "--import") || !strcmp(word, "--export"))
+        return take_path(options, word, value);
+    options->makes = options->shapes = true;
     if (!strcmp(word, "--size"))
         return read_size(value, &options->size);
     if (!strcmp(word, "--blocks"))
@@ -129,6 +142,11 @@ static bool may_begin_home(const struct make_words *options)
 /* Whether the words go together: GO_ON, or the exit status. */
 static int judge_words(const struct make_words *options)
 {
+    const bool copies = options->imports || options->exports;
+    if (copies && (options->shows || options->migrates || options->zeroes || options->size ||
+                   options->blocks || (options->exports && (options->imports || options->shapes))))
+        return refuse_word(options->imports ? "--import" : "--export",
+                           "goes with --replace, and of an import --slots, --format and --align");
     if (options->shows && (options->migrates || options->makes))
         return refuse_word("--show", "goes with no other word");
     if (options->migrates && options->makes)
@@ -144,11 +162,12 @@ static int judge_words(const struct make_words *options)
 int read_make_words(struct make_words *options, char **words)
 {
     static const struct option known[] = {
-        { "size", required_argument, NULL, 0 },  { "blocks", required_argument, NULL, 0 },
-        { "slots", required_argument, NULL, 0 }, { "format", required_argument, NULL, 0 },
-        { "align", required_argument, NULL, 0 }, { "zero", no_argument, NULL, 0 },
-        { "replace", no_argument, NULL, 0 },     { "show", no_argument, NULL, 0 },
-        { "migrate", no_argument, NULL, 0 },     { NULL, 0, NULL, 0 },
+        { "size", required_argument, NULL, 0 },   { "blocks", required_argument, NULL, 0 },
+        { "slots", required_argument, NULL, 0 },  { "format", required_argument, NULL, 0 },
+        { "align", required_argument, NULL, 0 },  { "zero", no_argument, NULL, 0 },
+        { "replace", no_argument, NULL, 0 },      { "show", no_argument, NULL, 0 },
+        { "migrate", no_argument, NULL, 0 },      { "import", required_argument, NULL, 0 },
+        { "export", required_argument, NULL, 0 }, { NULL, 0, NULL, 0 },
     };
     static const struct command command = { usage, NULL, "-:", known, take_word };
     *options = (struct make_words){ .slots = 6, .format = 2, .align = 512 };

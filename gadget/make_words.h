@@ -13,7 +13,9 @@
 struct make_words {
     const char *image;
     uint64_t size, blocks, slots, format, align;
+    const char *imports, *exports; /* a plain file or device, or NULL */
     bool shows, migrates, zeroes, replaces, makes;
+    bool shapes; /* tells what image is made */
 };
 
 /* Reads the words of `main`. Answers GO_ON where they go together, or the exit status: said why. */
