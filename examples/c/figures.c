@@ -65,10 +65,15 @@ static bool is_memory_told(uint32_t format, uint64_t slots, bool tells)
 }
 
 /* A store takes so much less than a disk, whatever the slots. */
+static uint64_t store_takes_less(uint32_t format)
+{
+    return format == 1 ? 18768 : 221616;
+}
+
 static bool is_store_told(uint32_t format, uint64_t slots)
 {
     struct usbdisk store = USBDISK_NONE;
-    uint64_t told = usbdisk_memory_kept(format, slots, options.kept) - (format == 1 ? 18768 : 221616);
+    uint64_t told = usbdisk_memory_kept(format, slots, options.kept) - store_takes_less(format);
     heap_most = heap_now;
     bool good = !usbdisk_store_start(&store, &options) && serves_in(&store, told);
     return ends(&store, "a store", told, good);
@@ -95,6 +100,9 @@ int main(int count, char **words)
         for (uint64_t slots = 1; slots <= 64; slots++)
             good &= are_told(format, slots, !quiet && (slots == 6 || slots == 64));
     good &= measure_stacks(&most);
+    for (uint32_t format = 1; format <= 2 && !quiet; format++)
+        printf("a store of format %u: %llu bytes less\n", format,
+               (unsigned long long)store_takes_less(format));
     if (!quiet)
         printf("stack: %zu bytes in a start, %zu in an event\n", most.start, most.event);
     printf("%s\n", good ? "memory as told" : "a figure is wrong");
