@@ -12,7 +12,7 @@ use Rattle.medium.specs.FileStory.{Told, Calls, AsksFor, KeepsBytes, Gives, Take
 
 -- no call
 pub no_calls : (P : FileCall → Type 0) (t : Told) → Calls P t t
-no_calls P t = record { path_stays = refl; calls = []; asked = sym (append-nil t.asked); each = All-nil P }
+no_calls P t = record { path_stays = refl; calls = []; asked = sym (append-nil t.asked); each = All-nil P; looks_stay = refl }
 
 -- one call more
 pub one_call : (P : FileCall → Type 0) (call : FileCall) (good : Bool) (old mid new : Told) → Calls P old mid → AsksFor good call mid new
@@ -22,6 +22,7 @@ one_call P call good old mid new c a p = record {
   calls = c.calls ++ call ∷ [];
   asked = a.asked ∙ ap (λ (l : List FileCall). l ++ call ∷ []) c.asked ∙ append_assoc old.asked c.calls (call ∷ []);
   each = All-append P c.calls (call ∷ []) c.each (All-cons P call [] p (All-nil P));
+  looks_stay = a.looks_stay ∙ c.looks_stay;
 }
 
 -- of these bytes the first `done` were put, from this place on

@@ -17,3 +17,4 @@ pub mod SimSizes
 pub mod Driving
 pub mod Tallies
 pub mod RememberedMoments
+pub mod Noted

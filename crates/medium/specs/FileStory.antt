@@ -2,6 +2,7 @@
 use Rattle.std.specs.Prelude.{◌≡◌, ◌⊎◌, ℕ, ◌+◌, ◌-◌, ◌<◌, ◌≤◌, Bool, List, [], ◌∷◌, ◌++◌, length}
 use Rattle.std.specs.Prelude.{All, max, true}
 use Rattle.std.specs.Prelude.{slice_index, get_or, if◌then◌else◌, nat_le, replicate}
+use Rattle.std.specs.List.{Contains}
 use Rattle.std.specs.Fs.{new_options, with_read, with_write, with_create, with_create_new}
 use Rattle.std.specs.declared.fs.options.OpenOptions.{OpenOptions}
 use Rattle.medium.specs.declared.file_call.Access.{Access}
@@ -10,6 +11,14 @@ use Rattle.medium.specs.declared.file_call.FileCall.{FileCall}
 use Rattle.medium.specs.declared.file_call.FileCall.TheVariants.{Open, Lock, Measure, Resize, Read}
 use Rattle.medium.specs.declared.file_call.FileCall.TheVariants.{Write, Sync}
 use Rattle.medium.specs.declared.file_call.Answered.{Answered}
+
+-- Answers that no look at a file gives. No call changes these lists. Another crate learns from the
+-- answer of a look that a list does not have it, and from nothing else.
+pub record Looks : Type 0 where
+  -- places with bytes: no look gives this byte of this place
+  pub ungiven : List (ℕ × ℕ)
+  -- places with counts: no look for so many bytes from this place on is refused or gives none
+  pub unmissed : List (ℕ × ℕ)
 
 pub record Told : Type 0 where
   -- the bytes of the path at which it was opened
@@ -22,6 +31,7 @@ pub record Told : Type 0 where
   pub asked : List FileCall
   -- how many times it refused
   pub refusals : ℕ
+  pub looks : Looks
 
 -- it was asked for this, and did it or refused
 abbrev pub answered : Bool → FileCall → Told → Told
@@ -82,6 +92,7 @@ pub record AsksFor (good : Bool) (call : FileCall) (old new : Told) : Type 0 whe
   pub path_stays : new.path ≡ old.path
   pub asked : new.asked ≡ old.asked ++ call ∷ []
   pub refusals : new.refusals ≡ (if good then old.refusals else old.refusals + 1)
+  pub looks_stay : new.looks ≡ old.looks
 
 -- it holds what it held
 pub record KeepsBytes (old new : Told) : Type 0 where
@@ -143,6 +154,7 @@ pub record Calls (P : FileCall → Type 0) (old new : Told) : Type 0 where
   pub calls : List FileCall
   pub asked : new.asked ≡ old.asked ++ calls
   pub each : All P calls
+  pub looks_stay : new.looks ≡ old.looks
 
 -- the file holds these bytes, from the first on
 abbrev pub HoldsFirst : List ℕ → Told → Type 0
@@ -153,6 +165,7 @@ pub record IsMeasured (bytes : ℕ) (old new : Told) : Type 0 where
   pub path_stays : new.path ≡ old.path
   pub asked : new.asked ≡ old.asked ++ Lock ∷ Measure ∷ []
   pub size : new.size ≡ bytes
+  pub looks_stay : new.looks ≡ old.looks
 
 -- The file at this path was opened to be changed, locked, measured, and then only read: these are
 -- its bytes.
@@ -184,15 +197,21 @@ pub record MayPut (at count : ℕ) (old new : Told) : Type 0 where
   pub calls : Calls (IsWriteWithin at count) old new
   pub takes : TakesWithin at count old new
 
--- a read gave bytes at these places
-pub record IsGiven (gives : ℕ → List ℕ → Type 0) (at : ℕ) (bytes : List ℕ) (i : ℕ) : Type 0 where
-  pub place : ℕ
-  pub piece : List ℕ
-  pub given : gives place piece
-  pub from : place ≤ at + i
-  pub inside : at + i < place + length piece
-  pub same : slice_index bytes i ≡ slice_index piece (at + i - place)
+-- a look gave this byte of this place
+abbrev pub IsGiven : Looks → ℕ → ℕ → Type 0
+IsGiven looks place byte = ¬ Contains looks.ungiven (place, byte)
 
--- each of these bytes, from this place on, is one that a read gave there
-abbrev pub AreGiven : (ℕ → List ℕ → Type 0) → ℕ → List ℕ → Type 0
-AreGiven gives at bytes = (i : ℕ) → i < length bytes → IsGiven gives at bytes i
+-- a look for so many bytes from this place on was refused or gave none
+abbrev pub IsUnanswered : Looks → ℕ → ℕ → Type 0
+IsUnanswered looks place count = ¬ Contains looks.unmissed (place, count)
+
+-- each of these bytes, from this place on, is one that a look gave there
+abbrev pub AreGiven : Looks → ℕ → List ℕ → Type 0
+AreGiven looks at bytes = (i : ℕ) → i < length bytes → IsGiven looks (at + i) (slice_index bytes i)
+
+-- a look for the last of count bytes from this place on was refused or gave none
+pub record IsMissed (looks : Looks) (at count : ℕ) : Type 0 where
+  pub place : ℕ
+  pub from : at ≤ place
+  pub inside : place < at + count
+  pub missed : IsUnanswered looks place (at + count - place)

@@ -21,4 +21,5 @@ pub mod SimLaws
 pub mod SimView
 pub mod Tally
 pub mod Telling
+pub mod Witness
 pub mod Writes

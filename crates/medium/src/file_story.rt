@@ -2,6 +2,7 @@
 ghost use Rattle.std.specs.Prelude.{◌≡◌, []};
 ghost use Rattle.std.specs.Borrow.{ftrue};
 ghost use Rattle.medium.specs.FileStory.{Told, noted};
+ghost use Rattle.medium.specs.Witness.{TakesAny, takes_any_code};
 
 use crate::file_call::Answered;
 use std::marker::Model;
@@ -9,6 +10,8 @@ use std::marker::Model;
 #[derive(Drop)]
 pub(crate) struct Story {
     pub ghost told: { Told },
+    // No other crate has this proof: it learns the answers of a look from that look alone.
+    pub ghost any: { TakesAny told.looks } by { takes_any_code told.looks },
 }
 
 impl Model for Story {

@@ -91,9 +91,6 @@ impl<F: SectorFile> OpenedFile<F> {
 impl<F: SectorFile> ToldFile for OpenedFile<F> {
     ghost told = { λ file. file };
 
-    // What the system's read gave is what it gave: std names no bytes of a file.
-    ghost gives = { λ file at bytes. Unit {0} };
-
     fn lock(&mut self) -> io::Result<()> {
         let answer = self.file.try_lock();
         self.story

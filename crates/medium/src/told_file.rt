@@ -1,7 +1,7 @@
 //! A file that tells what it was asked.
-ghost use Rattle.std.specs.Prelude.{◌≡◌, ◌≤◌, ℕ, List, take, length, is_ok, IfOk, OnErr, OnOk};
+ghost use Rattle.std.specs.Prelude.{◌≡◌, ◌≤◌, take, length, is_ok, IfOk, OnErr, OnOk};
 ghost use Rattle.medium.specs.FileStory.{Told, answered, AsksFor, KeepsBytes, IsResized};
-ghost use Rattle.medium.specs.FileStory.{Gives, Takes, TakesWithin};
+ghost use Rattle.medium.specs.FileStory.{AreGiven, Gives, IsUnanswered, Takes, TakesWithin};
 ghost use Rattle.medium.specs.declared.file_call.FileCall.TheVariants.{Lock, Measure, Resize};
 ghost use Rattle.medium.specs.declared.file_call.FileCall.TheVariants.{Read, Write, Sync};
 
@@ -13,9 +13,6 @@ use std::io;
 pub trait ToldFile {
     /// What it holds, as far as it is known, and what it was asked for since it was opened.
     ghost told: { Self → Told };
-
-    /// A look at this place gave these bytes. Nothing else is known of them.
-    ghost gives: { Self → ℕ → List ℕ → Type 0 };
 
     /// Locks it for this handle, until it is dropped.
     ///
@@ -64,7 +61,11 @@ pub trait ToldFile {
     /// The system refused it.
     fn look_at(&self, to: &mut [u8], at: u64) -> io::Result<usize>
         ensures bound { IfOk result (λ count. count ≤ length to.new) }
-        ensures gives { IfOk result (λ count. gives self.now at (take count to.new)) };
+        ensures gives { IfOk result
+            (λ count. AreGiven (told self.now).looks at (take count to.new)) }
+        ensures ends { IfOk result
+            (λ count. count ≡ 0 → IsUnanswered (told self.now).looks at (length to.new)) }
+        ensures err { OnErr result (IsUnanswered (told self.now).looks at (length to.new)) };
 
     /// Writes bytes from this place on: as many as it says, perhaps fewer than are given.
     ///

@@ -1,7 +1,7 @@
 //! Whole runs of bytes of a file that may take or give few of them by one call.
 ghost use Rattle.std.specs.Prelude.{◌≡◌, ◌<◌, ◌+◌, ◌^◌, ◌++◌, length, OnOk, OnErr, [], ◌∷◌, IfOk};
 ghost use Rattle.medium.specs.FileStory.{IsPut, MayPut, IsRead, Calls, HoldsFirst, IsMeasured};
-ghost use Rattle.medium.specs.FileStory.{AreGiven};
+ghost use Rattle.medium.specs.FileStory.{AreGiven, IsMissed};
 ghost use Rattle.medium.specs.declared.file_call.FileCall.TheVariants.{Lock, Resize};
 
 use crate::told_file::ToldFile;
@@ -58,10 +58,11 @@ pub(crate) fn read_whole<S: ToldFile>(file: &mut S, to: &mut [u8]) -> io::Result
 pub fn look_whole<S: ToldFile>(file: &S, to: &mut [u8], at: u64) -> io::Result<()>
     requires { at + length to.old < 2 ^ 63 }
     ensures length { length to.new ≡ length to.old }
-    ensures given { OnOk result (AreGiven (S.gives file.now) at to.new) }
+    ensures given { OnOk result (AreGiven (S.told file.now).looks at to.new) }
+    ensures missed { OnErr result (IsMissed (S.told file.now).looks at (length to.old)) }
 {
     let mut done = 0;
-    for _ in 0..u64::MAX {
+    for turn in 0..u64::MAX {
         if done == to.len() {
             return Ok(());
         }

@@ -1,5 +1,5 @@
 -- `of` makes the empty struct, and the story is told. Assumes `Logic`.
-use Rattle.std.proofs.Common.{[], ◌∷◌, ◌++◌, refl, List}
+use Rattle.std.proofs.Common.{[], ◌∷◌, ◌++◌, refl, ◌∙◌, List}
 use seplogic.Ra.Ura.{Ura}
 use mir.Val.{Val, vptr, vstruct, vnil}
 use base.Logic.{SProp, ent}
@@ -26,6 +26,7 @@ use denote.Triple.Spec.{Meets, triple_of}
 use denote.Triple.Table.{entered}
 use denote.Triple.Walked.{says, Stays, stay_dropped, walk_of, ends_at, walk_Meets, Goes-dropped}
 use Rattle.medium.specs.FileStory.{noted}
+use Rattle.medium.proofs.Noted.{just_opened, looks_stay}
 use Rattle.medium.specs.Telling.{IsToldBy}
 use Rattle.medium.specs.declared.file_story.Story.{Story}
 use Rattle.medium.specs.declared.file_story.Telling.{Telling}
@@ -38,8 +39,11 @@ use Rattle.medium.proofs.file_story.Story.of.Statement as stated
 use Rattle.medium.proofs.file_story.Story.of.Code.{function, unfolded}
 
 abbrev made_of : Telling → Story
-made_of Nothing = record { told = record { path = []; runs = []; size = 0; asked = []; refusals = 0 } }
-made_of (Noted story answered bytes) = record { told = noted answered.now bytes.now story.now.told }
+made_of Nothing = record { told = just_opened; any = refl }
+made_of (Noted story answered bytes) = record {
+  told = noted answered.now bytes.now story.now.told;
+  any = looks_stay answered.now bytes.now story.now.told ∙ story.now.any;
+}
 
 made_tells : (telling : Telling) → IsToldBy telling (made_of telling).told
 made_tells Nothing = refl
