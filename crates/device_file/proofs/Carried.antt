@@ -54,6 +54,7 @@ write_part run f g (Ok done) puts =
       is = inl (record { first = run.first; blocks = run.blocks.items; asked_is = refl; within = p.calls.each });
       asked_is = refl;
       calls_are = p.calls.asked;
+      looks_stay = p.calls.looks_stay;
     }
 write_part run f g (Err why) puts =
     let p = puts.err in
@@ -62,6 +63,7 @@ write_part run f g (Err why) puts =
       is = inl (record { first = run.first; blocks = run.blocks.items; asked_is = refl; within = p.calls.each });
       asked_is = refl;
       calls_are = p.calls.asked;
+      looks_stay = p.calls.looks_stay;
     }
 
 -- all was to be made durable
@@ -71,6 +73,7 @@ sync_part good f g is = record {
   is = inr (record { asked_is = refl; calls_are = refl });
   asked_is = refl;
   calls_are = ap (λ (s : file.Told). s.asked) is;
+  looks_stay = ap (λ (s : file.Told). s.looks) is;
 }
 
 -- a part more

@@ -8,3 +8,4 @@ pub mod Copies
 pub mod Given
 pub mod Carried
 pub mod Fresh
+pub mod Looks

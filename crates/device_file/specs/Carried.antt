@@ -43,6 +43,15 @@ pub record AsksPart (calls : List DeviceCall) (old new : file.Told) : Type 0 whe
   pub is : IsPart part
   pub asked_is : part.asked ≡ calls
   pub calls_are : new.asked ≡ old.asked ++ part.calls
+  pub looks_stay : new.looks ≡ old.looks
+
+-- what a file of the system was asked
+abbrev pub told_of : FileValue → Told
+told_of v = v.told
+
+-- by which calls of the file behind it was asked these at once
+abbrev pub at_once_of : FileValue → List DeviceCall → FileValue → Type 0
+at_once_of old calls new = AsksPart calls old.file new.file
 
 abbrev pub asked_in : List Part → List DeviceCall
 asked_in [] = []

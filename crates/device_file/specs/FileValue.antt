@@ -1,9 +1,10 @@
 -- A file of sectors, and what it was asked.
-use Rattle.std.specs.Prelude.{◌≡◌, ◌<◌, ◌*◌, ℕ, true, List, [], ◌∷◌}
+use Rattle.std.specs.Prelude.{◌≡◌, ◌⊎◌, ◌<◌, ◌≤◌, ◌+◌, ◌*◌, ◌/◌, ◌^◌, ℕ, true, List, [], ◌∷◌}
 use Rattle.std.specs.Prelude.{length, Result, OnOk, OnErr}
 use Rattle.std.specs.List.{flat_map}
 use Rattle.medium.specs.FileStory as file
-use Rattle.medium.specs.FileStory.{AreGiven, AsksFor, IsPut, IsResized, MayPut, holds}
+use Rattle.medium.specs.FileStory.{AreGiven, AsksFor, IsMissed, IsPut, IsResized, Looks, MayPut}
+use Rattle.medium.specs.FileStory.{holds}
 use Rattle.medium.specs.declared.file_call.Access.{Access}
 use Rattle.medium.specs.declared.file_call.Access.TheVariants.{Make, Replace}
 use Rattle.medium.specs.declared.file_call.FileCall.TheVariants.{Open, Lock, Measure, Resize}
@@ -54,8 +55,22 @@ pub record Resizes (bytes : ℕ) (old new : file.Told) : Type 0 where
   pub resized : IsResized bytes old new
 
 -- looks at a file gave these bytes of this sector
-abbrev pub GivesBlock : (ℕ → List ℕ → Type 0) → ℕ → List ℕ → Type 0
-GivesBlock gives sector block = AreGiven gives (512 * sector) block
+abbrev pub GivesBlock : Looks → ℕ → List ℕ → Type 0
+GivesBlock looks sector block = AreGiven looks (512 * sector) block
+
+-- A read of the bytes of count sectors, from the first on, was refused: they end behind the last
+-- place of a file, or a look for the last of them was refused or gave none.
+abbrev pub RefusesBlocks : Looks → ℕ → ℕ → Type 0
+RefusesBlocks looks first count = (bytes : ℕ) × (bytes / 512 ≡ count)
+    × ((2 ^ 63 ≤ 512 * first + bytes) ⊎ IsMissed looks (512 * first) bytes)
+
+-- looks at this file of the system gave this block of this sector
+abbrev pub HasGiven : FileValue → ℕ → List ℕ → Type 0
+HasGiven v sector block = GivesBlock v.file.looks sector block
+
+-- of this file of the system a read of count sectors, from the first on, was refused
+abbrev pub HasRefused : FileValue → ℕ → ℕ → Type 0
+HasRefused v first count = RefusesBlocks v.file.looks first count
 
 -- the bytes of the blocks of a run, one after the other
 abbrev pub bytes_of : Run → List ℕ

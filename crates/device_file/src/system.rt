@@ -1,9 +1,10 @@
 //! A file of the system, and what it was asked.
-ghost use Rattle.std.specs.Prelude.{◌≡◌, ◌*◌, ◌+◌, ◌<◌, ◌^◌, IfOk, IfErr, OnOk, is_ok, true};
+ghost use Rattle.std.specs.Prelude.{◌≡◌, ◌*◌, ◌+◌, ◌/◌, ◌<◌, ◌≤◌, ◌^◌};
+ghost use Rattle.std.specs.Prelude.{IfOk, IfErr, OnOk, OnErr, is_ok, length, true};
 ghost use Rattle.medium.specs.FileStory.{IsJustOpened, IsMeasured, answered};
 ghost use Rattle.medium.specs.declared.file_call.FileCall.TheVariants.{Lock, Sync};
 ghost use Rattle.device_file.specs.FileValue.{GivesBlock, IsMade, IsOpened, PutsRun, Resizes};
-ghost use Rattle.device_file.specs.FileValue.{made_for};
+ghost use Rattle.device_file.specs.FileValue.{RefusesBlocks, made_for};
 ghost use Rattle.device_file.specs.Reads.{AreRead};
 ghost use Rattle.device_file.specs.Asked.{begun};
 
@@ -192,7 +193,7 @@ impl<S: ToldFile> DeviceFile for SystemFile<S> {
     ghost use Rattle.medium.specs.FileStory.{answered};
     ghost use Rattle.medium.specs.declared.file_call.FileCall.TheVariants.{Sync};
     ghost use Rattle.device_file.specs.Asked.{AsksFor, writes_of};
-    ghost use Rattle.device_file.specs.FileValue.{GivesBlock, PutsRun};
+    ghost use Rattle.device_file.specs.FileValue.{GivesBlock, PutsRun, RefusesBlocks};
     ghost use Rattle.device_file.specs.Carried.{AsksPart};
     ghost use Rattle.device_file.specs.Reads.{AreRead};
 
@@ -200,12 +201,13 @@ impl<S: ToldFile> DeviceFile for SystemFile<S> {
 
     ghost size = { λ file. file.size };
 
-    // What looks at the file gave.
-    ghost holds = { λ file sector block. GivesBlock (S.gives file.file) sector block };
+    // What looks at the file gave, and which of them were in vain.
+    ghost holds = { λ file sector block. GivesBlock (S.told file.file).looks sector block };
 
-    ghost refuses = { λ file first count. Unit {0} };
+    ghost refuses = { λ file first count. RefusesBlocks (S.told file.file).looks first count };
 
-    ghost gave = { λ file first bytes. AreRead (GivesBlock (S.gives file.file)) first bytes };
+    ghost gave = { λ file first bytes.
+        AreRead (GivesBlock (S.told file.file).looks) first bytes };
 
     ghost at_once = { λ old calls new. AsksPart calls (S.told old.file) (S.told new.file) };
 
@@ -245,7 +247,9 @@ impl<S: ToldFile> DeviceFile for SystemFile<S> {
 
 // Reads sectors from this one on, all that there is room for.
 fn read_sectors<S: ToldFile>(file: &S, first: u64, to: &mut [u8]) -> Result<(), FileFault>
-    ensures read { OnOk result (AreRead (GivesBlock (S.gives file.now)) first to.new) }
+    ensures read { OnOk result (AreRead (GivesBlock (S.told file.now).looks) first to.new) }
+    ensures unread { OnErr result
+        (RefusesBlocks (S.told file.now).looks first (length to.new / 512)) }
     ensures err { IfErr result (λ fault. fault.call ≡ FileCall.Read) }
 {
     let at = place_of(FileCall::Read, first, to.len())?;
@@ -285,6 +289,7 @@ fn sync_all<S: ToldFile>(file: &mut S) -> Result<(), FileFault>
 // The byte at which a sector begins. So many bytes from there on have places in a file.
 fn place_of(call: FileCall, sector: u64, count: usize) -> Result<u64, FileFault>
     ensures ok { IfOk result (λ at. (at ≡ 512 * sector) × (at + count < 2 ^ 63)) }
+    ensures over { OnErr result (2 ^ 63 ≤ 512 * sector + count) }
     ensures err { IfErr result (λ fault. fault.call ≡ call) }
 {
     if sector >= PLACES / SECTOR as u64 || count as u64 >= PLACES - sector * SECTOR as u64 {
