@@ -1,8 +1,8 @@
 /* A library to be loaded before a program (LD_PRELOAD): each call by which the program opens a
- * file, locks it, gives it a length, reads, writes or synchronises it is a line on descriptor 9,
- * with the descriptor of the file first, and behind a read or write its place and how many bytes
- * were moved. Where SHORT tells a number, no read and no write moves more bytes than that. No
- * header is included, so that the toolchain's own compiler builds it anywhere. */
+ * file, locks it, gives it a length or a mode, reads, writes or synchronises it is a line on
+ * descriptor 9, with the descriptor of the file first, and behind a read or write its place and how
+ * many bytes were moved. Where SHORT tells a number, no read and no write moves more bytes than
+ * that. No header is included, so that the toolchain's own compiler builds it anywhere. */
 
 typedef unsigned long size;
 
@@ -14,9 +14,10 @@ extern int atoi(const char *digits);
 /* The C library's own call of this name: that of the next library (RTLD_NEXT). */
 #define NEXT(name) ((__typeof__(&name))dlsym((void *)-1L, #name))
 
-#define IS_WRITTEN 3 /* O_WRONLY or O_RDWR */
-#define IS_NEW 0200  /* O_EXCL */
-#define IS_MADE 0100 /* O_CREAT */
+#define IS_WRITTEN 3  /* O_WRONLY or O_RDWR */
+#define IS_NEW 0200   /* O_EXCL */
+#define IS_MADE 0100  /* O_CREAT */
+#define EMPTIES 01000 /* O_TRUNC */
 
 static size at_most(size count)
 {
@@ -28,8 +29,10 @@ static size at_most(size count)
 
 static const char *access_of(int flags)
 {
+    if (flags & EMPTIES)
+        return "empty";
     if (!(flags & IS_WRITTEN))
-        return "look";
+        return flags & IS_MADE ? "make" : "look";
     if (flags & IS_NEW)
         return "make";
     return flags & IS_MADE ? "replace" : "change";
@@ -58,6 +61,12 @@ int ftruncate(int file, long length)
 {
     dprintf(9, "%d size %ld\n", file, length);
     return NEXT(ftruncate)(file, length);
+}
+
+int fchmod(int file, unsigned mode)
+{
+    dprintf(9, "%d mode %o\n", file, mode);
+    return NEXT(fchmod)(file, mode);
 }
 
 int fsync(int file)

@@ -7,6 +7,7 @@ import random
 import tempfile
 
 from lib import exchanges
+from lib.images.tool import opened
 from lib.programs import write_file
 from lib.standing import MOST_BLOCKS, SECTOR, SLOT_SECTORS, standing
 
@@ -32,6 +33,14 @@ def room_for_many():
             yield
         finally:
             os.chdir(before)
+
+
+def ends_alone(trial, words, wanted, what, **how):
+    """The program ends so, and opens no file but those that its words name, and the null device."""
+    trial.ends(words, wanted, what, more=(("LD_PRELOAD", trial.calls),), ninth="calls", **how)
+    others = {it.split(" ")[1] for it in opened()} - {*words, "/dev/null"}
+    if others:
+        trial.fail(f"{what}: it opens {others}")
 
 
 def seeded(words):

@@ -1,6 +1,6 @@
 """Images that are drawn from a seed: what a life is answered, what it leaves, and what each next start serves, is what the events promised."""
 
-from lib.drawn import BLOCKS, Drawn, room_for_many, sizes_in
+from lib.drawn import BLOCKS, Drawn, ends_alone, room_for_many, sizes_in
 from lib.files.disk import good
 from lib.programs import write_file
 
@@ -10,7 +10,7 @@ def served(disk, drawn, command, life):
     script, text = life
     write_file("drawn.script", script)
     words = [disk.disk, command, "drawn.img", "drawn.script"] if drawn.is_played and command != "live" else [*disk.live, "drawn.img"]
-    disk.ends(words, good(text), f"{drawn}: {command} answers otherwise", given="drawn.script")
+    ends_alone(disk, words, good(text), f"{drawn}: {command} answers otherwise", given="drawn.script")
 
 
 def leave(disk, drawn, command, forced):
@@ -24,7 +24,7 @@ def leave(disk, drawn, command, forced):
 def draw_image(disk, slots, kind):
     """A full log, and one with a drawn number of records, behind each way to serve. Gives how many waited."""
     drawn = Drawn(disk.draw, slots, kind, BLOCKS)
-    disk.ends([*disk.image, *drawn.words()], good(drawn.told()), f"{drawn}: it is not made")
+    ends_alone(disk, [*disk.image, *drawn.words()], good(drawn.told()), f"{drawn}: it is not made")
     full = leave(disk, drawn, "run", slots)
     served(disk, drawn, "sim", drawn.reads())
     served(disk, drawn, "live", drawn.reads())

@@ -1,6 +1,6 @@
 """Images that are drawn from a seed: what show, export and migrate make of them, and what the next start serves, is what the events promised."""
 
-from lib.drawn import BLOCKS, Drawn, room_for_many, sizes_in
+from lib.drawn import BLOCKS, Drawn, ends_alone, room_for_many, sizes_in
 from lib.programs import Ran, contents, copy, write_file
 from lib.told import by_file
 
@@ -16,15 +16,7 @@ def play(tool, drawn, life):
     script, text = life
     write_file("drawn.script", script)
     words = [tool.disk, "run", "drawn.img", "drawn.script"] if drawn.is_played else by_lines(tool)
-    tool.ends(words, Ran(0, text, b""), f"{drawn}: other answers", given="drawn.script")
-
-
-def are_exported(tool, drawn, path):
-    """Whether an export has all blocks as they were promised, where they are few."""
-    if not drawn.is_whole:
-        return True
-    wanted = Ran(0, f"exported {drawn.blocks} blocks\n".encode(), b"")
-    return tool.run([*tool.image, "export", path, "drawn.out", "--replace"]) == wanted and contents("drawn.out") == drawn.raw()
+    ends_alone(tool, words, Ran(0, text, b""), f"{drawn}: other answers", given="drawn.script")
 
 
 def live_once(tool, drawn, forced):
@@ -34,12 +26,18 @@ def live_once(tool, drawn, forced):
     tool.expect(is_so, f"{drawn}: a life loses what it promised")
     waiting = len(found.records)
     tool.expect(waiting == forced if drawn.is_played else waiting <= drawn.slots, f"{drawn}: {waiting} records wait, not {forced}")
-    tool.expect(tool.run([*tool.image, "show", "drawn.img"]) == Ran(0, found.shown(), b""), f"{drawn}, {waiting} records: show tells another image")
+    ends_alone(tool, [*tool.image, "show", "drawn.img"], Ran(0, found.shown(), b""), f"{drawn}, {waiting} records: show tells another image")
     return waiting
 
 
 def export(tool, drawn, waiting):
-    tool.expect(are_exported(tool, drawn, "drawn.img"), f"{drawn}, {waiting} records: export has other blocks")
+    """An export has all blocks as they were promised, where they are few."""
+    name = f"{drawn}, {waiting} records: export has other blocks"
+    if drawn.is_whole:
+        wanted = Ran(0, f"exported {drawn.blocks} blocks\n".encode(), b"")
+        ends_alone(tool, [*tool.image, "export", "drawn.img", "drawn.out", "--replace"], wanted, name)
+    tool.expect(not drawn.is_whole or contents("drawn.out") == drawn.raw(), name)
+    tool.cases += not drawn.is_whole
 
 
 def migrate(tool, drawn, path, waiting):
@@ -47,7 +45,7 @@ def migrate(tool, drawn, path, waiting):
     name = f"{drawn}, {waiting} records"
     is_small = drawn.kind == 1 and drawn.slots < 5
     line = b"migrated\n" if drawn.kind == 1 else b"already format 2\n"
-    tool.ends([*tool.image, "migrate", path], by_file(path, TOO_SMALL) if is_small else Ran(0, line, b""), f"{name}: migrate")
+    ends_alone(tool, [*tool.image, "migrate", path], by_file(path, TOO_SMALL) if is_small else Ran(0, line, b""), f"{name}: migrate")
     found, is_so = drawn.stands(path)
     slots = drawn.slots if is_small or drawn.kind == 2 else 50 * drawn.slots // 249
     is_so = is_so and (found.format, found.slots, len(found.records)) == (1 if is_small else 2, slots, waiting if is_small else 0)
@@ -58,13 +56,13 @@ def serve(tool, drawn):
     """The next start serves what was promised."""
     script, text = drawn.reads()
     write_file("drawn.script", script)
-    tool.ends(by_lines(tool), Ran(0, text, b""), f"{drawn}: behind migrate other blocks are served", given="drawn.script")
+    ends_alone(tool, by_lines(tool), Ran(0, text, b""), f"{drawn}: behind migrate other blocks are served", given="drawn.script")
 
 
 def draw_image(tool, slots, kind):
     """First a life that leaves a drawn number of records, then one that leaves one in each slot. Gives how many waited."""
     drawn = Drawn(tool.draw, slots, kind, BLOCKS)
-    tool.ends([*tool.image, *drawn.words()], Ran(0, drawn.told(), b""), f"{drawn}: it is not made")
+    ends_alone(tool, [*tool.image, *drawn.words()], Ran(0, drawn.told(), b""), f"{drawn}: it is not made")
     some = live_once(tool, drawn, tool.draw.randrange(slots))
     if drawn.is_whole:
         copy("drawn.img", "copy.img")

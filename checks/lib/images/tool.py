@@ -95,6 +95,19 @@ def calls_of(path):
     return found
 
 
+def opened():
+    """What a program that was watched opened, or gave a length or a mode, in order: for what, and which file."""
+    paths, found = {}, []
+    for line in contents("calls").decode().splitlines():
+        number, word, *rest = line.split(" ")
+        if word == "open":
+            paths[number] = rest[1]
+            found.append(" ".join(rest))
+        elif word in ("size", "mode"):
+            found.append(" ".join((word, paths.get(number, number), *rest)))
+    return found
+
+
 def are_longest(calls):
     """Whether no write could have been one with the write before it: each run of neighbouring sectors is one write, of 256 sectors at most."""
     end, count = None, 0
