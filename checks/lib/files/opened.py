@@ -10,8 +10,8 @@ from lib.programs import contents, copy, remove, write_file
 # What the program takes from the C library. None but `open` names a file by its path (`statx` looks at one), and none makes a program, a folder or
 # a link.
 SYSTEM = (
-    "__errno_location __libc_start_main __sysv_signal close fchmod fdatasync flock free fsync ftruncate isatty malloc memcmp memcpy memmove memset "
-    "open pread pwrite read realloc statx write"
+    "__errno_location __libc_start_main __sysv_signal __write __x86_get_cpuid_feature_leaf close fchmod fdatasync flock free fsync ftruncate isatty "
+    "malloc memcmp memcpy memmove memset open pread pwrite read realloc statx write"
 ).split()
 # How the places of the standard streams are held, before each file that is opened.
 HELD = ("look /dev/null",) * 3
