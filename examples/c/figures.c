@@ -1,5 +1,6 @@
-/* How much memory a disk takes, by format, slots and records kept, against what usbdisk_memory
- * tells, and a store beside it; how much stack a start and the events take. */
+/* How much memory starts and work on images take, by format, slots, blocks and records kept,
+ * against what usbdisk_memory and docs/MAKERS.md tell, to the byte: what is held, the most, and all
+ * that was taken on the way; how much stack a start and the events take. */
 #include "gadget.h"
 #include "image.h"
 #include "stack.h"
@@ -7,10 +8,15 @@
 #include <stdlib.h>
 #include <string.h>
 
-enum { BLOCKS = 500 };
+enum { BLOCKS = 500, PAGE = 200 };
 
-/* 0 and 3 are one, and so are 64 and 65. */
-static const uint32_t some_kept[] = { 0, 1, 2, 3, 4, 6, 64, 65 };
+/* The number of blocks in the super, which a start of a disk with more of them finds there. */
+enum { BLOCKS_AT = 16 };
+#define MOST_BLOCKS ((uint64_t)1 << 31)
+
+/* What a start takes and gives back: its recovery, and the first that it reads of the log. What a
+ * handle takes of which nothing is left to do. */
+enum { RECOVERY = 37408 + 64, HANDLE = 944 };
 
 static uint8_t *medium;
 static struct usbdisk_options options = {
@@ -32,79 +38,138 @@ static void make_device(uint32_t format, uint64_t slots)
         exit(EXIT_FAILURE);
 }
 
-/* Whether it serves, in so many bytes, and took no more while it started. */
-static bool serves_in(struct usbdisk *handle, uint64_t told)
+/* The same with so many blocks: no start reads one of them. */
+static void have_blocks(uint32_t format, uint64_t slots, uint64_t blocks)
+{
+    options.sectors = home_of(format, slots) + blocks;
+    for (int i = 0; i < 8; i++)
+        medium[BLOCKS_AT + i] = (uint8_t)(blocks >> 8 * i);
+}
+
+/* Of what follows all is counted anew. */
+static void count_anew(void)
+{
+    heap_most = heap_now;
+    heap_taken = 0;
+}
+
+/* What was taken: held, at most, and in all. */
+static bool are_taken(const char *what, uint64_t now, uint64_t most, uint64_t taken)
+{
+    bool good = heap_now == now && heap_most == most && heap_taken == taken;
+    if (!good)
+        printf("%s: %zu bytes, at most %zu, taken %zu, not %llu, %llu and %llu\n", what, heap_now,
+               heap_most, heap_taken, (unsigned long long)now, (unsigned long long)most,
+               (unsigned long long)taken);
+    return good;
+}
+
+/* Whether it serves, in so many bytes, and took on the way what a start takes. It stops. */
+static bool serves_in(struct usbdisk *handle, const char *what, uint32_t format, uint64_t told)
 {
     uint32_t fault;
     carry_all(handle, medium);
-    return usbdisk_state(handle, &fault) == USBDISK_SERVING && heap_now == told &&
-           heap_most == told;
-}
-
-/* What was started, where something is wrong with it or all is to be told; it stops. */
-static bool ends(struct usbdisk *handle, const char *what, uint64_t told, bool is_good)
-{
-    if (!is_good)
-        printf("%s: %zu bytes, at most %zu, told %llu\n", what, heap_now, heap_most,
-               (unsigned long long)told);
+    bool good = usbdisk_state(handle, &fault) == USBDISK_SERVING;
+    if (!good)
+        printf("%s: it does not serve, fault %u\n", what, fault);
+    good &= are_taken(what, told, told, told + RECOVERY + 512 * (format == 1 ? 50 : 1));
     usbdisk_stop(handle);
-    return is_good && heap_blocks == 0;
+    return good && heap_blocks == 0;
 }
 
-/* The memory that a disk takes is what usbdisk_memory tells, to the byte. */
-static bool is_memory_told(uint32_t format, uint64_t slots, bool tells)
-{
-    struct usbdisk disk = USBDISK_NONE;
-    uint64_t told = usbdisk_memory_kept(format, slots, options.kept);
-    heap_most = heap_now;
-    bool good = !usbdisk_start(&disk, &options) && serves_in(&disk, told);
-    if (!good || tells)
-        printf("format %u, %llu slots, %u kept: told %llu bytes\n", format,
-               (unsigned long long)slots, options.kept, (unsigned long long)told);
-    return ends(&disk, "a disk", told, good);
-}
-
-/* A store takes so much less than a disk, whatever the slots. */
 static uint64_t store_takes_less(uint32_t format)
 {
     return format == 1 ? 18768 : 221616;
 }
 
-static bool is_store_told(uint32_t format, uint64_t slots)
+/* The memory that a disk takes is what usbdisk_memory_kept tells, to the byte. A store takes so
+ * much less than a disk, whatever the slots. */
+static bool is_memory_told(uint32_t format, uint64_t slots, bool tells)
 {
-    struct usbdisk store = USBDISK_NONE;
-    uint64_t told = usbdisk_memory_kept(format, slots, options.kept) - store_takes_less(format);
-    heap_most = heap_now;
-    bool good = !usbdisk_store_start(&store, &options) && serves_in(&store, told);
-    return ends(&store, "a store", told, good);
+    struct usbdisk disk = USBDISK_NONE, store = USBDISK_NONE;
+    uint64_t told = usbdisk_memory_kept(format, slots, options.kept);
+    count_anew();
+    bool good = !usbdisk_start(&disk, &options) && serves_in(&disk, "a disk", format, told);
+    uint64_t less = told - store_takes_less(format);
+    count_anew();
+    good &= !usbdisk_store_start(&store, &options) && serves_in(&store, "a store", format, less);
+    if (!good || tells)
+        printf("format %u, %llu slots, %u kept: told %llu bytes\n", format,
+               (unsigned long long)slots, options.kept, (unsigned long long)told);
+    return good && (options.kept != 4 || told == usbdisk_memory(format, slots));
 }
 
-/* Both, on one device, with so many records kept and so many. */
+/* Both, on one device, with each number of records kept, none and one more than there are slots
+ * among them; with few blocks, and where none or all are kept with the most. */
 static bool are_told(uint32_t format, uint64_t slots, bool tells)
 {
     bool good = true;
     make_device(format, slots);
-    for (size_t i = 0; i < sizeof some_kept / sizeof *some_kept; i++) {
-        options.kept = some_kept[i];
-        good &= is_memory_told(format, slots, tells) && is_store_told(format, slots);
+    for (options.kept = 0; options.kept <= slots + 1; options.kept++) {
+        have_blocks(format, slots, BLOCKS);
+        good &= is_memory_told(format, slots, tells && (options.kept < 5 || options.kept > slots));
+        if (options.kept % slots == 0) {
+            have_blocks(format, slots, MOST_BLOCKS);
+            good &= is_memory_told(format, slots, false);
+        }
     }
     free(medium);
     return good;
 }
 
+typedef uint32_t begin(struct usbdisk *image, const struct usbdisk_plan *plan);
+
+/* Work on an image takes so many bytes, and gives them back where it stops. One that is refused
+ * holds its handle alone by then. */
+static bool takes(begin work, const struct usbdisk_plan *plan, const char *what, uint64_t told)
+{
+    struct usbdisk image = USBDISK_NONE;
+    uint32_t fault;
+    count_anew();
+    bool good = !work(&image, plan);
+    carry_all(&image, medium);
+    good &=
+        are_taken(what, usbdisk_state(&image, &fault) == USBDISK_DONE ? told : HANDLE, told, told);
+    usbdisk_stop(&image);
+    return good && heap_blocks == 0;
+}
+
+/* What a format, a laying and a migration take: for each sector before home, and for each slot. */
+static bool is_work_told(uint32_t format, uint64_t slots, uint64_t between)
+{
+    uint64_t home = home_of(format, slots) + between, sectors = home + BLOCKS;
+    const struct usbdisk_plan plan = { sectors, format, slots, BLOCKS, home };
+    uint64_t moved = format == 1 ? 6720 + 77344 * slots : 4080 + 254208 * slots + 512 * between;
+    medium = calloc(512, sectors);
+    bool good = medium && takes(usbdisk_format, &plan, "a format", 4096 + 528 * home) &&
+                takes(usbdisk_lay_log, &plan, "a laying", 4096 + 528 * home) &&
+                takes(usbdisk_migrate, &plan, "a migration", moved);
+    if (!good)
+        printf("format %u, %llu slots\n", format, (unsigned long long)slots);
+    free(medium);
+    return good;
+}
+
+/* Each number of slots in both formats; by the word --few two of them, as on a processor that is
+ * only played. */
 int main(int count, char **words)
 {
-    bool quiet = count == 2 && !strcmp(words[1], "--quiet"), good = true;
+    bool few = count == 2 && !strcmp(words[1], "--few"), good = true;
     struct stacks most;
     for (uint32_t format = 1; format <= 2; format++)
-        for (uint64_t slots = 1; slots <= 64; slots++)
-            good &= are_told(format, slots, !quiet && (slots == 6 || slots == 64));
+        for (uint64_t slots = 1; slots <= 64; slots++) {
+            bool tells = slots == 6 || slots == 64;
+            if (few && !tells)
+                continue;
+            good &= are_told(format, slots, tells);
+            good &= is_work_told(format, slots, 0);
+            good &= format == 1 || is_work_told(format, slots, PAGE);
+        }
     good &= measure_stacks(&most);
-    for (uint32_t format = 1; format <= 2 && !quiet; format++)
+    for (uint32_t format = 1; format <= 2; format++)
         printf("a store of format %u: %llu bytes less\n", format,
                (unsigned long long)store_takes_less(format));
-    if (!quiet)
-        printf("stack: %zu bytes in a start, %zu in an event\n", most.start, most.event);
+    printf("stack: %zu bytes in a start, %zu in an event\n", most.start, most.event);
     printf("%s\n", good ? "memory as told" : "a figure is wrong");
     return !good;
 }

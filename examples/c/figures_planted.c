@@ -1,7 +1,7 @@
 /* Faults that `figures` is to find, around four calls of the library. PLANTED 1 takes 12 KiB of
  * stack more in an INQUIRY, 2 takes 20 KiB more in a start that finds a record, 3 takes 122,880
- * bytes of memory more while a start runs, and gives them back, and 4 stops a disk by forgetting
- * its address. */
+ * bytes of memory more while a start runs, and gives them back, 4 stops a disk by forgetting its
+ * address, and 5 takes 16 bytes more while a write of a start ends, and gives them back. */
 #include "usbdisk.h"
 #include <string.h>
 
@@ -10,6 +10,7 @@
 #endif
 
 enum { INQUIRY = 0x12, INQUIRY_MORE = 12 << 10, START_MORE = 20 << 10, MEMORY_MORE = 122880 };
+enum { MEMORY_SOME = 16 };
 
 /* The calls of the library, which the linker hands through the functions below. */
 #define REAL(name) __real_usbdisk_##name
@@ -45,6 +46,8 @@ uint32_t WRAP(done)(struct usbdisk *disk, bool ok, const uint8_t *bytes, size_t 
         touch(more, sizeof more);
     if (PLANTED == 3 && starts)
         taken = rattle_alloc(MEMORY_MORE, 8);
+    if (PLANTED == 5 && starts && !size)
+        taken = rattle_alloc(MEMORY_SOME, 8);
     uint32_t code = REAL(done)(disk, ok, bytes, size);
     if (taken.ok)
         rattle_dealloc(taken.at);

@@ -18,8 +18,8 @@ struct event {
 void next_event(struct event *event);
 void tell_host(uint32_t code, const uint8_t *bytes, uint32_t size);
 
-/* heap.c: how many bytes and blocks are taken now, and the most bytes so far. */
-extern size_t heap_now, heap_blocks, heap_most;
+/* heap.c: how many bytes and blocks are taken now, the most bytes, and all bytes so far. */
+extern size_t heap_now, heap_blocks, heap_most, heap_taken;
 
 /* Where it is not 0: the allocation of this number from now, which counts from 1, is refused. */
 extern int heap_fails;

@@ -4,7 +4,7 @@
 #include <stdlib.h>
 #include <string.h>
 
-size_t heap_now, heap_blocks, heap_most;
+size_t heap_now, heap_blocks, heap_most, heap_taken;
 int heap_fails;
 
 /* The size of a block lies in front of it. */
@@ -21,6 +21,7 @@ struct rattle_tried rattle_alloc(size_t size, size_t alignment)
         return (struct rattle_tried){ false, nowhere };
     memcpy(block, &size, sizeof size);
     heap_now += size;
+    heap_taken += size;
     heap_blocks++;
     if (heap_now > heap_most)
         heap_most = heap_now;
