@@ -13,3 +13,4 @@ pub mod Making
 pub mod Steady
 pub mod Headroom
 pub mod PacketsHidden
+pub mod Witnesses

@@ -125,12 +125,12 @@ module _ {M : Type 0} (state : M → State) (sound : (m : M) → IsSound (state 
         ]
 
     -- ---- each makes a log go on as it tells
-    step_on : {next : LogValue} (result : Result Progress LogFault) → MakesStep state Follows (begun_of log) result log next m n
+    pub step_on : {next : LogValue} (result : Result Progress LogFault) → MakesStep state Follows (begun_of log) result log next m n
         → next.dead ≡ false → GoesOn state log m next n
     step_on (Ok progress) made live = called made.told (inl (progress, (made.answers.ok, made.told.told)))
     step_on (Err e) made live = absurd (cc (made.answers.err, live))
 
-    turned : {next : LogValue} → log.keeps ≡ true → (result : Result (Unit {0}) LogFault) → Turns state Follows log m result next n
+    pub turned : {next : LogValue} → log.keeps ≡ true → (result : Result (Unit {0}) LogFault) → Turns state Follows log m result next n
         → next.dead ≡ false → GoesOn state log m next n ⊎ Stays log m next n
     turned keeps (Err e) made live = ⊎_elim (λ r. absurd (cc (r.answers.err, live)))
         (⊎_elim (λ r. absurd (cc (r.answers.err, live))) (λ r. absurd (cc (r.answers.err, live)))) made

@@ -10,3 +10,4 @@ pub mod Striking
 pub mod Transfers
 pub mod Lagging
 pub mod HiddenLag
+pub mod Witnesses

@@ -72,6 +72,7 @@ pub record TakesRecord (log next : LogValue) : Type 0 where
   pub numbers : List ℕ
   pub bytes : List ℕ
   pub firsts : List (List ℕ)
+  -- the log has room for the record
   pub room : HasRoom log
   pub batch : IsBatch log.shape numbers bytes
   pub stamp : log.next < 2 ^ 63 - 1

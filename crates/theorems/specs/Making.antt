@@ -13,6 +13,7 @@ use Rattle.theorems.specs.Logging.{TakesRecord, begun_of, Through, IsSafeLog, al
 module _ {M : Type 0} (state : M → State) (Follows : M → M → Type 0) where
   -- `step` is asked for, with the blocks of the record under way as it was begun
   pub record Steps (log : LogValue) (m : M) (next : LogValue) (n : M) : Type 0 where
+    -- a record is under way
     pub under_way : 0 < log.steps_left
     pub result : Result Progress LogFault
     pub made : MakesStep state Follows (begun_of log) result log next m n

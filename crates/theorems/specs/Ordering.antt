@@ -156,6 +156,7 @@ pub record Opens (w : Written) (m : State) : Type 0 where
     written = at_first w.first;
     flushed = at_first w.first;
   }
+  -- the medium has each sector of the image
   pub fits : sectors_of w.shape ≤ m.size
   pub rests : EachCut (λ image. RestsIn (layout w) w.shape image w.first [] w.opening) m
 

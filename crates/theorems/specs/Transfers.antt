@@ -13,6 +13,7 @@ use Rattle.theorems.specs.Striking.{IsUntroubled}
 pub record Transfer : Type 0 where
   pub wrapper : List ℕ
   pub command : Cbw
+  -- the wrapper spells the command
   pub spelled : SpellsCommand wrapper command
   pub sent : List ℕ
   pub announced : (sent ≡ []) ⊎ (length sent ≡ size_of_way command.host)
@@ -73,6 +74,7 @@ heard_in answers = record {
 -- the status has come and nothing is halted. The medium refuses nothing, and stamps are left.
 pub record IsTransferred (size : ℕ) (transfer : Transfer) (old new : UnitState) (heard : Heard)
     : Type 0 where
+  -- the host asks by these events
   pub asks : List Event
   pub only : All Asks asks
   pub answers : List Answer

@@ -1,0 +1,165 @@
+-- What ships meets the premises of the laws.
+use Rattle.std.proofs.Common.{◌≡◌, ◌⊎◌, inl, inr, ⊎_elim, ℕ, ◌≤◌, Bool, true, false, List, [], ◌∷◌, refl, sym, ◌∙◌}
+use Rattle.std.proofs.Common.{arith, rules, Result, Ok, Err, length, map, append-nil}
+use Rattle.std.proofs.lemmas.List.{length-map, get_or_at}
+use Rattle.std.specs.Prelude.{replicate, None}
+use Rattle.medium.specs.{Medium.{State, IsSound}, Moments.EachCut}
+use Rattle.spec.specs.{Blocks.Array, Book.StampsOut, CommandWrapper.SpellsCommand, Sense.Sense, declared.wrapper.Cbw.Cbw}
+use Rattle.spec.specs.{declared.way.Way.TheVariants.Nothing, declared.case.Case.TheVariants.C1, Commands.{command_of, form_tests}}
+use Rattle.spec.specs.Rules.{UnitState, CarriesOut, Ticks, command_by, intention_by, gives, fails_with, Effect}
+use Rattle.spec.specs.{Exchange.{at_rest, sending, told}, Conversation.{Conversation, IsCarriedOut, OpensExchange}}
+use Rattle.spec.specs.{UnitConversation.{on_line, UnitRun, Intends, way_of}, declared.event.Event.{Event, TheVariants.In}}
+use Rattle.spec.specs.declared.{event.Answer.{Answer, TheVariants.{Ack, Data}}, command.Command.TheVariants.TestUnitReady}
+use Rattle.journal.specs.{Places.{Shape, sectors_of}, Record.entries_of, Formats.layout_of, Layout.RestsIn}
+use Rattle.redo_log.specs.{Value.{LogValue, HasRoom}, Held.bytes_of, Steps.BeginsRecord}
+use Rattle.recovery.{specs.{Calls.IsFormatted, Recovered.IsFresh}, proofs.JoinedCalls.zeros_fresh}
+use Rattle.theorems.specs.{Ordering.{Written, Opens}, Logging.{Logs, begun_of, waiting_of}, Striking.IsUntroubled}
+use Rattle.theorems.specs.Transfers.{Transfer, packet_out, events_of, heard_in}
+use Rattle.theorems.specs.Witnesses.{opening_of, OpeningWitness, LogWitness, ConversationWitness}
+use Rattle.theorems.proofs.{LoggedSteps.many, Making.{step_on, turned}, Packets.packets_of-none}
+
+-- ---- a log
+
+opens : (shape : Shape) (array : Array) (first : ℕ) (m : State) → sectors_of shape ≤ m.size → EachCut (IsFresh shape array first) m
+    → Opens (opening_of shape array first) m
+opens shape array first m fits fresh =
+    let rests : EachCut (λ image. RestsIn (layout_of shape.format) shape image first [] array) m =
+    λ image cut. let f = fresh image cut in search (rules, arith, f.carries) in
+    record { is = refl; fits = fits; rests = rests }
+
+formatted_fresh : (shape : Shape) (m : State) → IsFormatted shape m → EachCut (IsFresh shape (λ b. replicate 512 0) 1) m
+formatted_fresh shape m f image cut =
+    let same : (x : ℕ) → image x ≡ m.content x = λ x. f.flushed x (image x) (cut x) in
+    zeros_fresh shape (λ b. replicate 512 0) 1 image (rw (same 0) f.super) (rw (same 1) f.head)
+    (λ x low high. same x ∙ f.zeros x low (omega (arith, high))) (λ b below. same _ ∙ f.zeros _ (omega arith) (omega (arith, below)))
+
+begun_blocks : {log next : LogValue} {numbers bytes : List ℕ} → HasRoom log → BeginsRecord numbers bytes (Ok tt) log next
+    → (w : Written) → Logs log w → begun_of next ≡ entries_of numbers bytes
+begun_blocks {log} {bytes = bytes} room begins w logs =
+    let none : w.under_way ≡ [] = grind (arith, logs.records.under_way, room.none_under_way) in
+    let copies : log.copies ≡ map bytes_of (waiting_of log w) = logs.records.copies ∙ rw (none, append-nil) refl in
+    let long : length log.copies ≡ length log.waiting = rw copies (length-map (waiting_of log w) bytes_of ∙ sym (many logs)) in
+    rw (begins.ok.1, logs.records.keeps, get_or_at log.copies bytes [] [] (length log.waiting) long) refl
+
+module _ {M : Type 0} (state : M → State) (Follows : M → M → Type 0) where
+  pub opening_met : OpeningWitness state Follows
+  opening_met = record {
+    formatted = λ shape m f. opens shape (λ b. replicate 512 0) 1 (state m) f.ours.stands.fits (formatted_fresh shape (state m) f);
+    recovered = λ shape array next old new ours moments fresh.
+        opens shape array next (state new) (rw moments.moments.size_stays ours.stands.fits) fresh;
+  }
+
+  pub log_met : ((m : M) → IsSound (state m)) → LogWitness state Follows
+  log_met sound = record {
+    takes = λ room batch begins. (
+      record {
+        numbers = _;
+        bytes = _;
+        firsts = _;
+        room = room;
+        batch = batch;
+        stamp = begins.ok.0;
+        next_is = begins.ok.1;
+      },
+      begun_blocks room begins,
+    );
+    steps = λ numbers bytes result some same made. record { under_way = some; result = result; made = rw same made };
+    turns = λ result made. inr (result, made);
+    goes_on = λ keeps made live. ⊎_elim (λ s. inl (step_on state sound Follows s.result s.made live))
+        (λ t. turned state sound Follows keeps t.0 t.1 live) made;
+    performs = λ call may made. record { call = call; bytes = _; got = _; may = may; made = made };
+  }
+
+-- ---- a conversation: TEST UNIT READY of the unit 0, with tag 1, which announces no data
+
+abbrev wrapper : List ℕ
+wrapper = 0x55 ∷ 0x53 ∷ 0x42 ∷ 0x43 ∷ 1 ∷ 0 ∷ 0 ∷ 0 ∷ 0 ∷ 0 ∷ 0 ∷ 0 ∷ 0 ∷ 0 ∷ 6 ∷ replicate 16 0
+
+abbrev block : List ℕ
+block = replicate 6 0
+
+abbrev command : Cbw
+command = record { tag = 1; host = Nothing; block = record { items = block } }
+
+spelled : SpellsCommand wrapper command
+spelled = search rules
+
+-- it passes the checks, or it is refused
+ready_or_not : (blocks limit : ℕ) (attention faulted : Bool) → (command_by blocks limit attention faulted block ≡ Ok TestUnitReady)
+    ⊎ ((sense : Sense) × (command_by blocks limit attention faulted block ≡ Err sense))
+unfolding command_by command_of form_tests
+ready_or_not blocks limit true faulted = inr (_, refl)
+ready_or_not blocks limit false true = inr (_, refl)
+ready_or_not blocks limit false false = inl refl
+
+moves_nothing : (blocks limit : ℕ) (attention faulted : Bool) → Nothing ≡ way_of (intention_by blocks limit attention faulted block)
+unfolding intention_by
+moves_nothing blocks limit attention faulted =
+    ⊎_elim (λ is. rw is refl) (λ is. rw is.1 refl) (ready_or_not blocks limit attention faulted)
+
+carried_out : (unit : UnitState) → (answer : Result (List ℕ) Sense) × (after : UnitState) × CarriesOut false block [] unit answer after
+    × (after.book ≡ unit.book)
+carried_out unit = elim (ready_or_not unit.book.blocks unit.limit unit.kept.attention unit.faulted) [
+  | inl is ↦
+      let done : Effect = gives [] unit in (done.answer, done.after, rw is (inl (record { answered = refl; after = refl })), refl)
+  | inr is ↦
+      let done : Effect = fails_with is.0 unit in (done.answer, done.after, rw is.1 (record { answered = refl; after = refl }), refl)
+]
+
+status_alone : (size : ℕ) (answer : Result (List ℕ) Sense) → (status : List ℕ)
+    × (told C1 command Nothing answer (at_rest size) ≡ record (at_rest size) { left = sending [] None status })
+status_alone size (Ok bytes) = (_, refl)
+status_alone size (Err sense) = (_, refl)
+
+-- the wrapper begins the exchange, and the status wrapper ends it
+exchange : (size : ℕ) (unit : UnitState) → ¬ StampsOut unit.book → (events : List Event) → events ≡ packet_out wrapper ∷ In ∷ []
+    → (after : UnitState) × (answers : List Answer) × (run : UnitRun (on_line (at_rest size) unit) events answers (false ∷ false ∷ [])
+    (on_line (at_rest size) after)) × IsUntroubled (on_line (at_rest size) unit) events answers (false ∷ false ∷ [])
+    (on_line (at_rest size) after) run
+exchange size unit stamps events are =
+    let c = carried_out unit in
+    let intends = moves_nothing unit.book.blocks unit.limit unit.kept.attention unit.faulted in
+    let s = status_alone size c.0 in
+    let mid : Conversation UnitState = on_line (record (at_rest size) { left = sending [] None s.0 }) c.1 in
+    let carried : IsCarriedOut Intends CarriesOut Ticks false C1 command Nothing [] (on_line (at_rest size) unit) mid =
+    record { answer = c.0; effect = c.2; moved = λ n is. absurd (cc is); after = sym s.1 } in
+    let opens : OpensExchange Intends CarriesOut Ticks false wrapper (on_line (at_rest size) unit) mid = record {
+      command = command;
+      intended = Nothing;
+      case = C1;
+      spelled = spelled;
+      intends = intends;
+      is_case = tt;
+      begins = carried;
+    } in
+    rw are (
+      c.1,
+      Ack ∷ Data (record { items = s.0 }) ∷ [],
+      (mid, (refl, inl opens), (on_line (at_rest size) c.1, (refl, refl), refl)),
+      (refl, stamps, (refl, rw c.3 stamps, tt)),
+    )
+
+pub conversation_met : ConversationWitness
+conversation_met =
+    let transfer : Transfer = record { wrapper = wrapper; command = command; spelled = spelled; sent = []; announced = inl refl } in
+    record {
+      transfer = (
+        transfer,
+        λ size unit some stamps.
+            let are : events_of size transfer (In ∷ []) ≡ packet_out wrapper ∷ In ∷ [] = rw (packets_of-none size some) refl in
+            let e = exchange size unit stamps (events_of size transfer (In ∷ [])) are in (
+              e.0,
+              heard_in e.1,
+              record {
+                asks = In ∷ [];
+                only = search rules;
+                answers = e.1;
+                refusals = false ∷ false ∷ [];
+                run = e.2;
+                untroubled = e.3;
+                heard_is = refl;
+              },
+            ),
+      );
+      tick = λ s stamps. ((s, (refl, inl refl, refl), refl), (refl, stamps, tt));
+    }
