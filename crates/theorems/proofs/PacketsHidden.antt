@@ -1,13 +1,13 @@
 -- A run of a disk whose device is behind is one of a disk that acts on each packet at once: in the step in which it is done.
-use Rattle.std.proofs.Common.{◌≡◌, ◌≢◌, ◌≤◌, inl, inr, ℕ, Bool, true, false, List, [], ◌∷◌, sym, ◌∙◌, arith, refl, subst, ap}
-use Rattle.std.specs.Prelude.{Option, Some, None, All}
-use Rattle.spec.specs.{Rules.{UnitState, CarriesOut, Ticks}, declared.event.Event.Event, declared.event.Answer.Answer}
-use Rattle.spec.specs.{Conversation.{Conversation, refused_events}, UnitConversation.{Intends, UnitStep, UnitRun}}
+use Rattle.std.proofs.Common.{◌≡◌, ◌≤◌, inl, inr, ℕ, Bool, List, [], ◌∷◌, arith, refl, subst, ap}
+use Rattle.std.specs.Prelude.{Option, Some, None}
+use Rattle.spec.specs.{Rules.{UnitState}, declared.event.Event.Event, declared.event.Answer.Answer}
+use Rattle.spec.specs.{Conversation.{Conversation, refused_events}, UnitConversation.{UnitStep, UnitRun}}
 use Rattle.spec.specs.declared.event.Event.TheVariants as event
 use Rattle.spec.specs.declared.event.Answer.TheVariants as answer
 use Rattle.theorems.specs.Transfers.{packets_in}
-use Rattle.theorems.specs.Lagging.{Lagging, settled, LagStep, LagRun}
-use Rattle.theorems.specs.HiddenLag.{LagsAreHidden, HiddenRun, UndroppedRun, Transaction, with_transaction, outs, ins, setups}
+use Rattle.theorems.specs.Lagging.{Lagging, settled}
+use Rattle.theorems.specs.HiddenLag.{LagsAreHidden, UndroppedRun, Transaction, with_transaction, outs, ins, setups}
 
 -- with what is still pending in front
 abbrev due : Option (List ℕ) → List Transaction → List Transaction

@@ -2,19 +2,21 @@
 use Rattle.std.proofs.Common.{◌≡◌, ◌⊎◌, inl, inr, ⊎_elim, ℕ, ◌≤◌, Bool, true, false, List, [], ◌∷◌, refl, sym, ◌∙◌}
 use Rattle.std.proofs.Common.{arith, rules, Result, Ok, Err, length, map, append-nil}
 use Rattle.std.proofs.lemmas.List.{length-map, get_or_at}
-use Rattle.std.specs.Prelude.{replicate, None}
+use Rattle.std.specs.Prelude.{replicate, None, Some}
 use Rattle.medium.specs.{Medium.{State, IsSound}, Moments.EachCut}
 use Rattle.spec.specs.{Blocks.Array, Book.StampsOut, CommandWrapper.SpellsCommand, Sense.Sense, declared.wrapper.Cbw.Cbw}
 use Rattle.spec.specs.{declared.way.Way.TheVariants.Nothing, declared.case.Case.TheVariants.C1, Commands.{command_of, form_tests}}
 use Rattle.spec.specs.Rules.{UnitState, CarriesOut, Ticks, command_by, intention_by, gives, fails_with, Effect}
 use Rattle.spec.specs.{Exchange.{at_rest, sending, told}, Conversation.{Conversation, IsCarriedOut, OpensExchange}}
-use Rattle.spec.specs.{UnitConversation.{on_line, UnitRun, Intends, way_of}, declared.event.Event.{Event, TheVariants.In}}
+use Rattle.spec.specs.{UnitConversation.{on_line, UnitRun, UnitStep, Intends, way_of}, declared.event.Event.{Event, TheVariants.In}}
+use Rattle.spec.specs.declared.event.Event.TheVariants as event
 use Rattle.spec.specs.declared.{event.Answer.{Answer, TheVariants.{Ack, Data}}, command.Command.TheVariants.TestUnitReady}
 use Rattle.journal.specs.{Places.{Shape, sectors_of}, Record.entries_of, Formats.layout_of, Layout.RestsIn}
 use Rattle.redo_log.specs.{Value.{LogValue, HasRoom}, Held.bytes_of, Steps.BeginsRecord}
 use Rattle.recovery.{specs.{Calls.IsFormatted, Recovered.IsFresh}, proofs.JoinedCalls.zeros_fresh}
 use Rattle.theorems.specs.{Ordering.{Written, Opens}, Logging.{Logs, begun_of, waiting_of}, Striking.IsUntroubled}
 use Rattle.theorems.specs.Transfers.{Transfer, packet_out, events_of, heard_in}
+use Rattle.theorems.specs.{Lagging.settled, HiddenLag.UndroppedRun}
 use Rattle.theorems.specs.Witnesses.{opening_of, OpeningWitness, LogWitness, ConversationWitness}
 use Rattle.theorems.proofs.{LoggedSteps.many, Making.{step_on, turned}, Packets.packets_of-none}
 
@@ -139,6 +141,11 @@ exchange size unit stamps events are =
       (refl, stamps, (refl, rw c.3 stamps, tt)),
     )
 
+plain : (refused : Bool) (old new : Conversation UnitState) (happens : Event) (answer : Answer) → UnitStep refused old happens answer new
+    → UndroppedRun (settled old) (happens ∷ []) (answer ∷ []) (refused ∷ []) (settled new)
+plain refused old new (event.Out packet) answer step = (settled new, inl (record { step = step; pending = refl }), refl)
+plain refused old new happens answer step = (settled new, record { step = step; pending = refl }, refl)
+
 pub conversation_met : ConversationWitness
 conversation_met =
     let transfer : Transfer = record { wrapper = wrapper; command = command; spelled = spelled; sent = []; announced = inl refl } in
@@ -162,4 +169,15 @@ conversation_met =
             ),
       );
       tick = λ s stamps. ((s, (refl, inl refl, refl), refl), (refl, stamps, tt));
+      plain = plain;
+      deferred = λ refused old new packet any step. (
+        record { now = old; pending = Some packet },
+        inr (record { acknowledged = any; answered = refl; after = refl }),
+        (settled new, inr (record { answered = refl; step = step; after = refl }), refl),
+      );
+      dropped = λ old packet any. (
+        record { now = old; pending = Some packet },
+        inr (record { acknowledged = any; answered = refl; after = refl }),
+        (_, inr (record { spelled = refl; answered = refl; line = refl; unit = inl refl; after = refl }), refl),
+      );
     }

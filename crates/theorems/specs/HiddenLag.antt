@@ -9,7 +9,7 @@ use Rattle.spec.specs.Blocks.{Write}
 use Rattle.spec.specs.Conversation.{Conversation, refused_events}
 use Rattle.spec.specs.UnitConversation.{Intends, UnitRun, write_of_packet}
 use Rattle.theorems.specs.Transfers.{packets_in}
-use Rattle.theorems.specs.Lagging.{Lagging, settled, LagStep, LagRun}
+use Rattle.theorems.specs.Lagging.{Lagging, settled, LagRun}
 
 -- the write of the command whose last bytes a packet has
 abbrev pub write_of_pending : Conversation UnitState → List ℕ → Option Write

@@ -7,8 +7,8 @@ use Rattle.spec.specs.declared.way.Way.{Way}
 use Rattle.spec.specs.declared.event.Event.{Event}
 use Rattle.spec.specs.declared.event.Answer.{Answer}
 use Rattle.spec.specs.declared.event.Answer.TheVariants.{Ack, Nak, Ticked}
-use Rattle.spec.specs.Requests.{Request, setup_packet, mass_storage_reset}
-use Rattle.spec.specs.Exchange.{Script, finished, taking, sending, Line, after_request}
+use Rattle.spec.specs.Requests.{setup_packet, mass_storage_reset}
+use Rattle.spec.specs.Exchange.{Script, finished, taking, sending, after_request}
 use Rattle.spec.specs.Conversation.{Conversation, Step, OutStep}
 use Rattle.spec.specs.declared.event.Event.TheVariants as event
 

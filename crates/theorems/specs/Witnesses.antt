@@ -1,10 +1,13 @@
 -- The premises of the laws are met by what ships: the clauses of public calls give each of them.
 use Rattle.std.specs.Prelude.{◌≡◌, ◌⊎◌, ℕ, ◌<◌, List, [], ◌∷◌, true, false, Result, Ok, replicate}
+use Rattle.std.specs.Prelude.{Bool}
 use Rattle.medium.specs.{Medium.State, Moments.EachCut, Performed.Performed}
 use Rattle.medium.specs.declared.medium_call.Call.{Call}
 use Rattle.spec.specs.{Blocks.Array, Book.StampsOut, Conversation.Conversation, Rules.UnitState}
-use Rattle.spec.specs.{UnitConversation.UnitRun, declared.event.Event.TheVariants.Tick}
-use Rattle.spec.specs.declared.event.Answer.TheVariants.{Ticked}
+use Rattle.spec.specs.UnitConversation.{UnitRun, UnitStep}
+use Rattle.spec.specs.declared.event.{Event.Event, Event.TheVariants.{Setup, Tick}}
+use Rattle.spec.specs.declared.event.{Answer.Answer, Answer.TheVariants.{Ack, Ticked}}
+use Rattle.spec.specs.{Exchange.after_request, Requests.{setup_packet, mass_storage_reset}}
 use Rattle.journal.specs.{Places.Shape, Record.entries_of, Standing.IsOurs}
 use Rattle.redo_log.specs.{Value.{LogValue, HasRoom, IsBatch}, Steps.{BeginsRecord, MakesStep}}
 use Rattle.redo_log.specs.Steps.{MakesRetireStep, MakesHomeAhead, MakesHeadAhead}
@@ -13,7 +16,8 @@ use Rattle.recovery.specs.{Calls.IsFormatted, Recovered.{IsFresh, RecoveryMoment
 use Rattle.theorems.specs.Ordering.{Written, at_first, MayBeNext, Opens, Calls}
 use Rattle.theorems.specs.Logging.{Logs, TakesRecord, GoesOn, begun_of}
 use Rattle.theorems.specs.{Making.{Steps, MakesCalls}, Striking.IsUntroubled}
-use Rattle.theorems.specs.Transfers.{Transfer, Heard, IsTransferred}
+use Rattle.theorems.specs.Transfers.{Transfer, Heard, IsTransferred, packet_out}
+use Rattle.theorems.specs.{Lagging.{settled, AcknowledgesAny}, HiddenLag.{UndroppedRun, UnitLagRun}}
 
 -- a log of which nothing is written yet, over this array
 abbrev pub opening_of : Shape → Array → ℕ → Written
@@ -75,3 +79,18 @@ pub record ConversationWitness : Type 0 where
   pub tick : (s : Conversation UnitState) → ¬ StampsOut s.unit.book
       → (run : UnitRun s (Tick ∷ []) (Ticked ∷ []) (false ∷ []) s)
       × IsUntroubled s (Tick ∷ []) (Ticked ∷ []) (false ∷ []) s run
+  -- A disk whose device may be behind does each step of one that acts at once, and the same for a
+  -- packet that it acknowledged before. A class reset may drop that.
+  pub plain : (refused : Bool) (old new : Conversation UnitState) (happens : Event)
+      (answer : Answer) → UnitStep refused old happens answer new
+      → UndroppedRun (settled old) (happens ∷ []) (answer ∷ []) (refused ∷ []) (settled new)
+  pub deferred : (refused : Bool) (old new : Conversation UnitState) (packet : List ℕ)
+      → AcknowledgesAny old.line.out_halted old.line.left
+      → UnitStep refused old (packet_out packet) Ack new
+      → UndroppedRun (settled old) (packet_out packet ∷ Tick ∷ []) (Ack ∷ Ticked ∷ [])
+      (false ∷ refused ∷ []) (settled new)
+  pub dropped : (old : Conversation UnitState) (packet : List ℕ)
+      → AcknowledgesAny old.line.out_halted old.line.left
+      → UnitLagRun (settled old) (packet_out packet ∷ Setup (setup_packet mass_storage_reset) ∷ [])
+      (Ack ∷ Ack ∷ []) (false ∷ false ∷ [])
+      (settled (record old { line = after_request mass_storage_reset old.line }))
