@@ -1,6 +1,6 @@
 -- A life is served on through all calls, and what is said in them is by the rules.
 use Rattle.std.proofs.Common.{◌≡◌, ◌++◌, inl, inr, [], ◌∷◌, List, ℕ, zero, suc, Bool, true, false, refl, ap, subst, ◌⊎◌, ◌*◌, ◌≤◌, sym, ◌∙◌}
-use Rattle.std.{proofs.{Common.{arith, append_assoc, drop}, lemmas.{Bool.cases_Bool, List.append-nil}}, specs.Prelude.Result}
+use Rattle.std.{proofs.{Common.{arith, append_assoc, drop}, lemmas.{Bool.cases_Bool, List.append-nil}}, specs.Prelude.{Result, length}}
 use Rattle.spec.specs.{Book.Book, Conversation.Conversation, Rules.UnitState, Blocks.Write, UnitConversation.write_of_event}
 use Rattle.spec.specs.declared.event.{Event.Event, Answer.Answer}
 use Rattle.window.specs.declared.{ask.DeviceAsk.DeviceAsk, done_fault.DoneFault.DoneFault, asked.Asked.Asked}
@@ -11,10 +11,11 @@ use Rattle.disk_machine.specs.Turns.{played, refusal, TurnsRun, TurnsAreRun, tur
 use Rattle.disk_machine.specs.Turns.{turns_idle, turns_taken, turns_not_taken, turns_before, turns_of_taking, turns_at, turns_sent}
 use Rattle.disk_machine.specs.{Turns.{turns_last, turns_of_sending, turns_into}, Ahead.LooksAhead, Idling.{HasGoneAhead, HasStepped}}
 use Rattle.disk_machine.specs.Lives.{Call, next, done, bulk_out, bulk_in, take_transfer, send_transfer, setup, idle, work_ahead, look_ahead}
-use Rattle.disk_machine.specs.{Lives.{IsMade, turns_of, ServesLater, ServesThroughout}, Moves.{ServesOn, ServesEvent, ServesToken}}
+use Rattle.disk_machine.specs.{Lives.{IsMade, turns_of, ServesLater, ServesThroughout, DeviceWitness}, Moves.{ServesOn, ServesEvent}}
 use Rattle.disk_machine.specs.{Packets.{TakesOne, SendsIn}, PuttingOff.{WaitsForSteps, WaitsForCalls}, Transfers.{TakesFirst, EndsTaking}}
-use Rattle.disk_machine.specs.Transfers.{TakesTransfer, SendsAt, SendsFirst, EndsSending, SendsTransfer, SendsInto}
+use Rattle.disk_machine.specs.{Moves.ServesToken, Transfers.{TakesTransfer, SendsAt, SendsFirst, EndsSending, SendsTransfer, SendsInto}}
 use Rattle.disk_machine.proofs.{Playing.{with_disk, steps_go_on, tick_serves}, Events.{opening_stays, some_since, writes_grow}}
+use Rattle.store_calls.proofs.CarriedOut.{all_carried, all_left}
 use Rattle.window.specs.declared.ask.DeviceAsk.TheVariants as ask
 use Rattle.spec.specs.declared.event.Event.TheVariants as event
 use Rattle.spec.specs.declared.event.Answer.TheVariants as answer
@@ -261,3 +262,12 @@ pub serves_throughout : ServesThroughout
 serves_throughout [] old new same = nothing_changes old new same
 serves_throughout (call ∷ calls) old new (mid, made, rest) =
     through (one call old mid made) (serves_throughout calls mid new rest)
+
+-- ---- what the laws suppose of a device is met
+
+pub device_met : DeviceWitness
+device_met = record {
+  leaves = λ opening calls told few.
+      record { count = length calls; done = calls; reaches = few; are = all_carried calls; cut = all_left opening calls };
+  caught_up = λ disk most none. record { none_waits = none; none_under_way = refl; none_refused = refl };
+}

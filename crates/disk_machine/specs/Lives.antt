@@ -1,11 +1,13 @@
 -- Calls of a machine, one after the other: what they keep of a life, and what is said in them.
-use Rattle.std.specs.Prelude.{◌≡◌, ℕ, ◌≤◌, Bool, List, [], ◌∷◌, ◌++◌, Result}
+use Rattle.std.specs.Prelude.{◌≡◌, ℕ, ◌≤◌, Bool, List, [], ◌∷◌, ◌++◌, length, Result}
 use Rattle.spec.specs.{Blocks.Write, Book.Book}
 use Rattle.window.specs.declared.{ask.DeviceAsk.DeviceAsk, done_fault.DoneFault.DoneFault}
 use Rattle.scsi_unit.specs.Laws.{IsSameLife}
 use Rattle.bot_machine.specs.Disk.{over}
 use Rattle.disk_machine.specs.{Ahead.LooksAhead, Asking.{AsksFor, Hears, IsHonest}, Idling.Idles}
-use Rattle.disk_machine.specs.{Idling.WorksAhead, Machine.{Machine, Serves}, Moves.StaysSafe}
+use Rattle.disk_machine.specs.{Idling.WorksAhead, Machine.{Machine, Serves, LeavesOf, IsCaughtUp}}
+use Rattle.disk_machine.specs.{Moves.{StaysSafe, begun}, Plays.{Disk, medium_of}}
+use Rattle.window.specs.{Device.{durable, after}, declared.call.DeviceCall.DeviceCall}
 use Rattle.disk_machine.specs.{Packets.{TakesOut, SendsIn, AnswersSetup}, Transfers.TakesTransfer}
 use Rattle.disk_machine.specs.{Transfers.SendsInto, Turns.{Turn, played, TurnsRun, turns_out}}
 use Rattle.disk_machine.specs.Turns.{turns_in, turns_done, turns_ahead, turns_idle, turns_of_taking}
@@ -90,3 +92,12 @@ abbrev pub ServesThroughout : Type 0
 ServesThroughout = (calls : List Call) (old new : Machine) (made : AreMade calls old new)
     (told : ℕ) (book : Book) → Serves old told book
     → ServesLater told book old (turns_in_all calls old new made) new
+
+-- what the laws suppose of a device is met
+pub record DeviceWitness : Type 0 where
+  -- one that carries out all that it was sent leaves what it holds
+  pub leaves : (opening : List ℕ) (calls : List DeviceCall) (told : ℕ) → told ≤ length calls
+      → LeavesOf opening calls told (after (durable opening) calls).content
+  -- where a start left no call, it is caught up
+  pub caught_up : (disk : Disk) (most : ℕ) → (medium_of disk).outbox ≡ []
+      → IsCaughtUp (begun disk most)

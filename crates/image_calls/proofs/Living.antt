@@ -6,12 +6,13 @@ use Rattle.window.specs.{OutboxMedium.sent, declared.call.DeviceCall.DeviceCall,
 use Rattle.journal.specs.{Places.Shape, Record.home_of, Standing.IsOurs}
 use Rattle.recovery.specs.{Calls.FormatLeaves, Recovered.IsMigrationBy, declared.recovered.Recovered.Recovered}
 use Rattle.image_calls.specs.{Formats.{BeginsFormat, IsFormatting, MakesParts}, Images.{IsLaidOn, IsMigratedOn, IsFinished}}
-use Rattle.image_calls.specs.Lives.{Call, IsMade, AreMade, LeavesImage, LeavesMigrated, LeavesThroughout, HasWork}
+use Rattle.image_calls.specs.Lives.{Call, IsMade, AreMade, LeavesImage, LeavesMigrated, LeavesThroughout, HasWork, LeavesAll}
 use Rattle.image_calls.specs.Lives.Call.{next, done}
 use Rattle.image_calls.specs.Machines.{Machine, MayLeave, LeavesAtRest, Begins, GoesOn, CarriesOut, state_of, state_by, state_at_rest}
 use Rattle.image_calls.specs.{Machines.{AsksBy, carried, under_way}, Parts.{IsMadeAnew, IsOnWay}, declared.work.Work.Work}
 use Rattle.image_calls.specs.{declared.image_asked.ImageAsked.ImageAsked, declared.plan.Plan.Plan}
 use Rattle.image_calls.proofs.{OnWay.BLANK, Taken.some_go}
+use Rattle.store_calls.proofs.CarriedOut.{all_carried, all_left}
 use Rattle.window.specs.Window as window
 use Rattle.window.specs.declared.ask.DeviceAsk.TheVariants as ask
 use Rattle.image_calls.specs.declared.image_asked.ImageAsked.TheVariants as asked
@@ -174,4 +175,13 @@ leaves_throughout = record {
   migrations = migration_leaves;
   all = all_told;
   ends = λ old new. ends_by old.asked old new;
+}
+
+pub leaves_all : LeavesAll
+leaves_all s few = let calls : List DeviceCall = sent (window.mirror_of s.work.medium) in record {
+  count = length calls;
+  done = calls;
+  reaches = few;
+  are = all_carried calls;
+  cut = all_left s.work.medium.seen.told.opening calls;
 }

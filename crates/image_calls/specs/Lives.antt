@@ -1,10 +1,12 @@
 -- Calls of the work on an image, one after the other, and what a loss of power leaves.
-use Rattle.std.specs.Prelude.{◌≡◌, ◌⊎◌, ℕ, Bool, List, [], ◌∷◌, length, replicate, None, Result}
+use Rattle.std.specs.Prelude.{◌≡◌, ◌⊎◌, ◌≤◌, ℕ, Bool, List, [], ◌∷◌, length, replicate, None}
+use Rattle.std.specs.Prelude.{Result}
 use Rattle.medium.specs.{Medium.Image, Moments.EachCut}
 use Rattle.spec.specs.{Blocks.Array}
 use Rattle.journal.specs.{Places.Shape, Record.home_of, Standing.IsOurs}
 use Rattle.recovery.specs.{Calls.IsMidway, Recovered.{IsOursForSome, IsOursInEither, StandsForSome}}
-use Rattle.window.specs.{Window.Window, OutboxMedium.sent, declared.ask.DeviceAsk.DeviceAsk}
+use Rattle.window.specs.{Window.{Window, mirror_of}, OutboxMedium.sent, Device.{durable, after}}
+use Rattle.window.specs.{declared.ask.DeviceAsk.DeviceAsk}
 use Rattle.window.specs.{declared.done_fault.DoneFault.DoneFault}
 use Rattle.image_calls.specs.Formats.{BeginsFormat, IsFormatting}
 use Rattle.image_calls.specs.Images.{IsLaidOn, IsMigratedOn, IsFinished}
@@ -74,3 +76,9 @@ pub record LeavesThroughout : Type 0 where
   -- a free device is told nothing only where all is done
   pub ends : (old new : Machine) (room filled : List ℕ) → old.asked ≡ asked.Nothing
       → HasWork old → Asks old room ask.Nothing new filled → state_of new ≡ state.Done
+
+-- a device that carries out all that the work asked for leaves what it holds
+abbrev pub LeavesAll : Type 0
+LeavesAll = (s : Machine) → let calls = sent (mirror_of s.work.medium) in
+    carried s ≤ length calls
+    → MayLeave s (after (durable s.work.medium.seen.told.opening) calls).content

@@ -12,3 +12,4 @@ pub mod AtRest
 pub mod Doing
 pub mod MachineStarted
 pub mod Living
+pub mod CarriedOut

@@ -78,6 +78,11 @@ pub record LeavesOf (opening : List ℕ) (calls : List DeviceCall) (told : ℕ) 
   pub are : AreCarriedOut (take count calls) done
   pub cut : CutLeaves (after (durable opening) done).may_leave image
 
+-- a device that carries out all that it was sent leaves what it holds
+abbrev pub DeviceLeaves : Type 0
+DeviceLeaves = (opening : List ℕ) (calls : List DeviceCall) (told : ℕ) → told ≤ length calls
+    → LeavesOf opening calls told (after (durable opening) calls).content
+
 -- the same of the device behind a machine, wherever it is
 abbrev pub MayLeave : Machine → Image → Type 0
 MayLeave s image =

@@ -1,4 +1,4 @@
-use Rattle.disk_machine.proofs.Living.{serves_throughout, events_run}
+use Rattle.disk_machine.proofs.Living.{serves_throughout, events_run, device_met}
 use Rattle.disk_machine.proofs.laws.machine_laws.Goals as goal
 
 pub returns-clause-serves : goal.returns-clause-serves
@@ -6,3 +6,6 @@ returns-clause-serves c = serves_throughout
 
 pub returns-clause-runs : goal.returns-clause-runs
 returns-clause-runs c = events_run
+
+pub returns-clause-device : goal.returns-clause-device
+returns-clause-device c = device_met

@@ -1,5 +1,5 @@
-use Rattle.store_calls.proofs.{Living.serves_throughout}
+use Rattle.store_calls.proofs.{Living.serves_throughout, CarriedOut.device_leaves}
 use Rattle.store_calls.proofs.laws.store_laws.Goals as goal
 
 pub returns : goal.returns
-returns c = serves_throughout
+returns c = record { lives = serves_throughout; device = device_leaves }
