@@ -7,7 +7,7 @@ use Rattle.theorems.proofs.StruckTicks.{ticks_struck}
 use Rattle.medium.specs.Medium.{State}
 use Rattle.scsi_unit.specs.UnitValue.{unit_limit, state_of as unit_state}
 use Rattle.bot_machine.specs.{declared.lives.disk_state.DiskState.DiskState, Device.Device, Disk.{DiskValue, over}, Opening.IsOpened}
-use Rattle.bot_machine.specs.{Moving.Does, Policy.{DiskRetires, KeepsPolicy, PolicyIsUnseen}}
+use Rattle.bot_machine.specs.{Moving.Does, Policy.{DiskRetires, KeepsPolicy, PolicyIsUnseen, DisksAreServed}}
 use Rattle.bot_machine.proofs.{Moved.moves_keep, UnitLaws.knows_images}
 
 -- ---- a disk keeps to it
@@ -56,3 +56,7 @@ module _ {M : Type 0} (state : M → State) where
       (opens medium (record device { retiring = retiring }) other.first book next
       ∙ ap (λ (n : ℕ). opened n device book) limit ∙ sym (opens medium device one.first book first))
       one.on.run one.untroubled other.on.run other.untroubled ticks
+
+  pub disks_are_served : DisksAreServed state
+  disks_are_served medium device book events answers first last opened fits run on untroubled =
+      record { first = first; opened = opened; fits = fits; last = last; run = run; on = on; untroubled = untroubled }

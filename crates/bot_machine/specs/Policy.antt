@@ -50,3 +50,15 @@ module _ {M : Type 0} (state : M → State) where
       → IsServed medium (record device { retiring = retiring }) book others told
       → without_ticks events ≡ without_ticks others
       → answers_without_ticks events answers ≡ answers_without_ticks others told
+
+  -- A disk that was started, and fits the book, is served by any events that nothing troubles.
+  abbrev pub DisksAreServed : Type 0
+  DisksAreServed = (medium : M) (device : Device) (book : Book) (events : List Event)
+      (answers : List Answer) (first last : DiskValue M)
+      → IsOpened (state medium) (state first.unit.store.medium) device first
+      → FitsDisk (state first.unit.store.medium) first book
+      → (run : IsRun state first events answers last)
+      → (on : RunsOn (state first.unit.store.medium) (state last.unit.store.medium) first events
+      answers run.refusals last book)
+      → IsUntroubled (over first book) events answers run.refusals (over last on.later) on.run
+      → IsServed medium device book events answers

@@ -1,6 +1,6 @@
 //! What holds of every book of a life, and of the policy of a disk.
 ghost use Rattle.bot_machine.specs.BookLaws.{AreBookLaws};
-ghost use Rattle.bot_machine.specs.Policy.{KeepsPolicy, PolicyIsUnseen};
+ghost use Rattle.bot_machine.specs.Policy.{KeepsPolicy, PolicyIsUnseen, DisksAreServed};
 
 use medium::Medium;
 
@@ -14,9 +14,10 @@ pub fn book_laws()
 
 /// Does nothing: its contract says that over its lives a disk retires as was asked at their start,
 /// and that a host sees nothing of it: two disks that differ in that alone give the same packets,
-/// over a medium of any kind that refuses nothing.
+/// over a medium of any kind that refuses nothing. A disk that was started is such a disk.
 #[tactic(auto, using(crate::proofs::Policy::keeps_policy))]
 pub fn policy_laws<M: Medium>()
     ensures kept { KeepsPolicy }
     ensures unseen { PolicyIsUnseen M.state }
+    ensures served { DisksAreServed M.state }
 {}

@@ -134,6 +134,13 @@ written_by blocks limit told taken write can exact is =
 pub keeps_intentions : KeepsIntentions
 unfolding intention_by
 keeps_intentions = record {
+  sized = λ limit blocks stamp ours who vendor product revision serial. record {
+    vendor = vendor;
+    product = product;
+    revision = revision;
+    serial = serial;
+    blocks = λ b below. refl;
+  };
   most_in = λ unit block n some is. told_in unit.book.blocks unit.limit (checked unit block) n some (served unit block) is;
   most_out = λ unit block n some is. told_out unit.book.blocks unit.limit (checked unit block) n some (served unit block) is;
   sent = λ refused block taken old new answer n sized is outcome.

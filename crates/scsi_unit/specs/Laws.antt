@@ -1,9 +1,10 @@
 -- What follows from the rules of the logical unit, whatever its state.
 use Rattle.std.specs.Prelude.{◌≡◌, ◌≢◌, ◌⊎◌, ◌<◌, ◌≤◌, ◌*◌, ℕ, Bool, true, false, List, [], ◌∷◌}
-use Rattle.std.specs.Prelude.{◌++◌, length, if◌then◌else◌, Option, Some, None}
+use Rattle.std.specs.Prelude.{replicate, ◌++◌, length, if◌then◌else◌, Option, Some, None}
 use Rattle.std.specs.Prelude.{Result, Ok, Err, IfOk}
 use Rattle.medium.specs.Medium.{Image}
-use Rattle.spec.specs.{Blocks.{Write, IsWrite}, Book.{Book, array_of, StampsOut}, Sense.Sense}
+use Rattle.spec.specs.{Blocks.{Write, IsWrite}, Book.{Book, array_of, StampsOut, opened}}
+use Rattle.spec.specs.{Sense.Sense, Identification.Identification, Rules.opened_unit}
 use Rattle.spec.specs.{declared.command.Command.Command, Rules.{UnitState, checked, intention}}
 use Rattle.spec.specs.Rules.{write_in_progress, with_progress, clears, selected_by, CarriesOut}
 use Rattle.spec.specs.Rules.{Ticks}
@@ -38,6 +39,11 @@ pub record IsSized (unit : UnitState) : Type 0 where
 
 -- a command moves what it intended to, and no more bytes than the most blocks of a transfer have
 pub record KeepsIntentions : Type 0 where
+  -- a unit over blocks of zeros is sized, with an identity whose texts have their lengths
+  pub sized : (limit blocks stamp : ℕ) (ours : Bool) (who : Identification)
+      → length who.vendor ≡ 8 → length who.product ≡ 16 → length who.revision ≡ 4
+      → length who.serial ≡ 12
+      → IsSized (opened_unit limit who (opened blocks (λ b. replicate 512 0) stamp ours))
   pub most_in : (unit : UnitState) (block : List ℕ) (n : ℕ) → 0 < unit.limit
       → intention unit block ≡ intent.In n → (0 < n) × (n ≤ 512 * unit.limit)
   pub most_out : (unit : UnitState) (block : List ℕ) (n : ℕ) → 0 < unit.limit
