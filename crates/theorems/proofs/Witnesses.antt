@@ -69,6 +69,7 @@ module _ {M : Type 0} (state : M → State) (Follows : M → M → Type 0) where
     turns = λ result made. inr (result, made);
     goes_on = λ keeps made live. ⊎_elim (λ s. inl (step_on state sound Follows s.result s.made live))
         (λ t. turned state sound Follows keeps t.0 t.1 live) made;
+    writes = λ ahead room three. record { room = room; spares = λ _. inl three };
     performs = λ call may made. record { call = call; bytes = _; got = _; may = may; made = made };
   }
 

@@ -15,7 +15,8 @@ use Rattle.redo_log.specs.declared.{fault.LogFault.LogFault, progress.Progress.P
 use Rattle.recovery.specs.{Calls.IsFormatted, Recovered.{IsFresh, RecoveryMoments}}
 use Rattle.theorems.specs.Ordering.{Written, at_first, MayBeNext, Opens, Calls}
 use Rattle.theorems.specs.Logging.{Logs, TakesRecord, GoesOn, begun_of}
-use Rattle.theorems.specs.{Making.{Steps, MakesCalls}, Striking.IsUntroubled}
+use Rattle.theorems.specs.{Making.{Steps, MakesCalls}, Room.{HasSlots, MayWrite}}
+use Rattle.theorems.specs.Striking.{IsUntroubled}
 use Rattle.theorems.specs.Transfers.{Transfer, Heard, IsTransferred, packet_out}
 use Rattle.theorems.specs.{Lagging.{settled, AcknowledgesAny}, HiddenLag.{UndroppedRun, UnitLagRun}}
 
@@ -64,6 +65,9 @@ module _ {M : Type 0} (state : M → State) (Follows : M → M → Type 0) where
     pub goes_on : {log next : LogValue} {m n : M} → log.keeps ≡ true
         → MakesCalls state Follows log m next n → next.dead ≡ false
         → GoesOn state log m next n ⊎ ((next ≡ log) × (n ≡ m))
+    -- writing back begins a record where three slots are free
+    pub writes : {log : LogValue} (ahead : Bool) → HasRoom log → HasSlots 3 log
+        → MayWrite ahead log
     -- `perform` makes a call that may be next
     pub performs : {w new : Written} {m n : M} {bytes got : List ℕ} (call : Call)
         → MayBeNext call bytes w new → Performed call bytes got (Ok tt) (state m) (state n)
