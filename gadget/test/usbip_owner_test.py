@@ -419,6 +419,30 @@ def it_tells_the_service_manager_when_it_can_be_attached():
         manager.close()
 
 
+def torn_record(stamp):
+    """What a device leaves in a slot that loses the data of a record, and keeps the rest."""
+    entries = b"".join(struct.pack("<QQ", number, 0) for number in range(3))
+    descriptor = (b"RDDESCR2" + struct.pack("<3Q", stamp, 3, 0) + entries).ljust(512, b"\0")
+    return descriptor.ljust(248 * 512, b"\0") + (b"RDCOMMT2" + struct.pack("<2Q", stamp, 3)).ljust(512, b"\0")
+
+
+def it_starts_on_records_that_do_not_fit_each_other():
+    # (the head has stamp 1, whose record is lost; a part of each of these is there)
+    for stamps in ((2,), (2, 3, 4, 5, 6)):
+        home = make_image("disk.img", 2, BLOCKS, SLOTS)
+        with open("disk.img", "r+b") as file:
+            file.seek(home * 512)
+            file.write(pattern(1, BLOCKS))
+            for stamp in stamps:
+                file.seek((2 + 249 * (stamp % SLOTS)) * 512)
+                file.write(torn_record(stamp))
+        for turn in (1, 2):
+            server = again()
+            assert ("the log's records do not fit each other" in server.text()) == (turn == 1), server.text()
+            assert attached(server.port).set_up().read_blocks(0, 100) == pattern(1, BLOCKS)[:51200]
+            ends_well(server)
+
+
 def it_tells_its_counters():
     server = served()
     host = attached(server.port).set_up()
