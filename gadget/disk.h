@@ -15,8 +15,9 @@
 /* How many loop devices may stand one over another. */
 enum { LOCKS_MOST = 4 };
 
-/* Exit statuses, as those of `usbdisk`. */
-enum { STATUS_USAGE = 2, STATUS_REFUSED = 3, STATUS_FILE = 4, STATUS_MEMORY = 5 };
+/* Exit statuses, the first four as those of `usbdisk`. TAKEN: of usbdisk-gadget, whose controller
+ * was taken away. */
+enum { STATUS_USAGE = 2, STATUS_REFUSED = 3, STATUS_FILE = 4, STATUS_MEMORY = 5, STATUS_TAKEN = 6 };
 
 /* What the disk is called, as texts that fit; NULL: as it is called where nobody says anything. */
 struct names {
@@ -70,7 +71,8 @@ void disk_name(struct disk *disk, const struct names *names);
 
 /* Starts the disk for packets of `packet` bytes, on what the device holds, and has its recovery
  * carried out. Where one is started already it is stopped first, which is a loss of power: settle
- * it before. False: said why. */
+ * it before. Where the records of the log do not fit each other that is said, and it starts on
+ * those that do. False: said why. */
 bool disk_start(struct disk *disk, uint32_t packet);
 
 /* A file that can be read when something that had to wait for the device is to be played again, or

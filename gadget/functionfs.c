@@ -4,6 +4,7 @@
 #include "functionfs_ends.h"
 #include "program.h"
 #include <errno.h>
+#include <limits.h>
 #include <stdio.h>
 #include <stdlib.h>
 #include <string.h>
@@ -20,12 +21,13 @@ static const char usage[] =
     "                      [--udc NAME] [OPTION ..]\n"
     "       usbdisk-gadget --help | --version\n"
     "Serves an image file or a block device as a USB disk on this machine's controller. Run\n"
-    "gadget/up first.\n"
+    "%s first.\n"
     "  --functionfs FOLDER      where FunctionFS is mounted: /run/usbdisk\n"
     "  --gadget FOLDER          the gadget in configfs: /sys/kernel/config/usb_gadget/usbdisk\n"
     "  --no-bind                somebody else binds the gadget to a controller, when the\n"
     "                           endpoints are there\n"
-    "  --udc NAME               the controller where there are several, by /sys/class/udc\n";
+    "  --udc NAME               the controller, by /sys/class/udc; else the first one that is "
+    "free\n";
 
 /* The host can have the disk no longer. The lock is held. */
 static bool is_over(struct gadget *gadget)
@@ -104,7 +106,9 @@ static int end(struct gadget *gadget)
     bulk_reset(&gadget->bulk);
     if (gadget->disk.packet == 0 || !disk_settle(&gadget->disk))
         return gadget->disk.status;
-    return is_asked_to_end() ? 0 : STATUS_FILE;
+    if (is_asked_to_end())
+        return 0;
+    return gadget->is_taken ? STATUS_TAKEN : STATUS_FILE;
 }
 
 /* Serves until a signal asks to end. Answers the exit status. */
@@ -164,25 +168,12 @@ static bool take_word(void *to, const char *word, const char *value)
     return true;
 }
 
-/* The unit of systemd hides some folders, and the system says that there is no such file. */
-static void say_what_hides(const char *image)
-{
-    static const char *const hidden[] = { "/home/", "/root/", "/run/user/" };
-    for (size_t i = 0; i < sizeof hidden / sizeof *hidden; i++)
-        if (!strncmp(image, hidden[i], strlen(hidden[i])) && access(image, F_OK))
-            say("%s: ProtectHome=yes in usbdisk-gadget@.service hides what lies in %s: put the "
-                "image elsewhere, as in /srv",
-                image, hidden[i]);
-}
-
 /* Opens, serves and ends. Answers the exit status. */
 static int run(struct gadget *gadget)
 {
     int status = STATUS_FILE;
-    if (!disk_open(&gadget->disk, gadget->options.image)) {
-        say_what_hides(gadget->options.image);
+    if (!disk_open(&gadget->disk, gadget->options.image))
         return gadget->disk.status;
-    }
     disk_name(&gadget->disk, &gadget->options.names);
     if (!disk_start(&gadget->disk, 512))
         status = gadget->disk.status;
@@ -194,6 +185,24 @@ static int run(struct gadget *gadget)
         close(gadget->control);
     disk_close(&gadget->disk);
     return status;
+}
+
+/* The script that makes the gadget: beside this program as it is installed, as it lies in the
+ * archive, or as it is built. */
+static const char *find_up(void)
+{
+    static const char *const places[] = { "../lib/usbdisk/up", "../../gadget/up", "up" };
+    static char found[PATH_MAX];
+    char program[PATH_MAX], path[2 * PATH_MAX];
+    ssize_t size = readlink("/proc/self/exe", program, sizeof program - 1);
+    program[size < 0 ? 0 : size] = 0;
+    char *name = strrchr(program, '/');
+    for (size_t i = 0; name && i < sizeof places / sizeof *places; i++) {
+        snprintf(path, sizeof path, "%.*s/%s", (int)(name - program), program, places[i]);
+        if (!access(path, X_OK) && realpath(path, found))
+            return found;
+    }
+    return "up";
 }
 
 int main(int count, char **words)
@@ -209,10 +218,12 @@ int main(int count, char **words)
                                            { "no-bind", no_argument, NULL, 0 },
                                            OPTIONS_KNOWN,
                                            { NULL, 0, NULL, 0 } };
-    static const struct command command = { usage, options_usage, "-:v", known, take_word };
+    static char whole[2048];
+    static const struct command command = { whole, options_usage, "-:v", known, take_word };
     (void)count;
     if (!program_begin("usbdisk-gadget"))
         return STATUS_FILE;
+    snprintf(whole, sizeof whole, usage, find_up());
     int ended = read_command(&command, words, &gadget, &gadget.options.image);
     return ended == GO_ON ? run(&gadget) : ended;
 }

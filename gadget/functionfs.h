@@ -17,6 +17,7 @@ struct gadget {
     struct bulk bulk;
     bool has_steps; /* steps in the background may be left */
     bool is_ended;  /* the function is gone, or the disk could not be started again */
+    bool is_taken;  /* the controller, to which this program had bound the gadget, was taken away */
 };
 
 /* Plays the events of FunctionFS that wait, and answers control requests. The lock is not held. */

@@ -112,20 +112,41 @@ static bool write_controller(const char *gadget, const char *name)
     return is_written;
 }
 
-bool bind_controller(const char *gadget, const char *controller)
+/* Whether another gadget is bound to it, as the system tells. */
+static bool has_gadget(const char *controller)
 {
-    DIR *folder = controller ? NULL : opendir("/sys/class/udc");
-    struct dirent *entry = NULL;
-    while (folder && (entry = readdir(folder)) && entry->d_name[0] == '.')
-        ;
-    errno = ENODEV;
-    const char *name = entry ? entry->d_name : controller;
-    bool is_bound = name && write_controller(gadget, name);
-    int cause = errno;
+    char path[4096], name[2];
+    snprintf(path, sizeof path, "/sys/class/udc/%s/function", controller);
+    int file = open(path, O_RDONLY | O_CLOEXEC);
+    bool has_one = file >= 0 && read(file, name, sizeof name) == sizeof name;
+    if (file >= 0)
+        close(file);
+    return has_one;
+}
+
+/* The first controller that is free. */
+static bool bind_any(const char *gadget)
+{
+    DIR *folder = opendir("/sys/class/udc");
+    struct dirent *entry;
+    bool is_bound = false;
+    int cause = ENODEV;
+    while (folder && !is_bound && (entry = readdir(folder))) {
+        if (entry->d_name[0] == '.')
+            continue;
+        errno = EBUSY;
+        is_bound = !has_gadget(entry->d_name) && write_controller(gadget, entry->d_name);
+        cause = errno;
+    }
     if (folder)
         closedir(folder);
     errno = cause;
     return is_bound;
+}
+
+bool bind_controller(const char *gadget, const char *controller)
+{
+    return controller ? write_controller(gadget, controller) : bind_any(gadget);
 }
 
 void unbind_controller(const char *gadget)

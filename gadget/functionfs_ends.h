@@ -11,7 +11,7 @@
 int open_control(const char *folder);
 
 /* Binds the gadget of this configfs folder to a device controller: the one named, or else the
- * first. False: errno. */
+ * first one that has no gadget. False: errno. */
 bool bind_controller(const char *gadget, const char *controller);
 
 /* Lets the controller go: the host sees that the disk is unplugged. */

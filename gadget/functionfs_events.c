@@ -45,6 +45,15 @@ static void disable(struct gadget *gadget)
     bulk_reset(&gadget->bulk);
 }
 
+/* The gadget is no longer bound. Whoever has bound it may bind it again; where that was this
+ * program, somebody else has taken its controller, or it is gone. */
+static void unbind(struct gadget *gadget)
+{
+    disable(gadget);
+    say("%s: its controller was taken away, and the disk is unplugged", gadget->options.image);
+    gadget->is_ended = gadget->is_taken = gadget->binds;
+}
+
 /* The disk's answer to a request. */
 struct answer {
     uint8_t data[2];
@@ -116,8 +125,10 @@ static void play_event(struct gadget *gadget, const struct usb_functionfs_event 
     lock(gadget);
     if (event->type == FUNCTIONFS_ENABLE)
         enable(gadget);
-    else if (event->type == FUNCTIONFS_DISABLE || event->type == FUNCTIONFS_UNBIND)
+    else if (event->type == FUNCTIONFS_DISABLE)
         disable(gadget);
+    else if (event->type == FUNCTIONFS_UNBIND)
+        unbind(gadget);
     unlock(gadget);
 }
 
