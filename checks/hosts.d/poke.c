@@ -1,13 +1,15 @@
-/* poke: what the scripts in the guest cannot do by themselves.
+/* poke: what the scripts in the guest cannot do by themselves. */
+/* clang-format off
  *
- *   poke reset DISK            a reset of the device by its host (SG_SCSI_RESET), as behind a
- * time-out: the class reset poke write FOLDER FIRST    files of a known content, each synced, until
- * one fails; a line for each synced one: its number poke check FOLDER FIRST    whether each file
- * told on standard input is there whole poke pages DISK COUNT      so many pages of 4 KiB from its
- * begin on, each forced: as dd with oflag=direct,dsync poke clock                 microseconds poke
- * listen SOCKET         as the service manager at $NOTIFY_SOCKET: prints the first state that it is
- * told poke lose IMAGE JOURNAL HOW SEED   writes that were not flushed are lost: `all`, `some` or
- * `none` of them are kept */
+ *   poke reset DISK                a reset of the device by its host (SG_SCSI_RESET), as behind a time-out: the class reset
+ *   poke write FOLDER FIRST        files of a known content, each synced, until one fails; a line for each synced one: its number
+ *   poke check FOLDER              whether each file told on standard input is there whole
+ *   poke pages DISK COUNT [told]   so many pages of 4 KiB from its begin on, each forced; with `told` a point for each
+ *   poke clock                     microseconds
+ *   poke listen SOCKET             as the service manager at $NOTIFY_SOCKET: prints the first state that it is told
+ *   poke lose IMAGE JOURNAL HOW SEED   writes that were not flushed are lost: `all`, `some` or `none` of them are kept
+ *
+ * clang-format on */
 #define _GNU_SOURCE
 #include <fcntl.h>
 #include <scsi/sg.h>
@@ -43,13 +45,16 @@ static int reset(const char *disk)
     return 1;
 }
 
-static int write_pages(const char *disk, uint64_t count)
+static int write_pages(const char *disk, uint64_t count, bool is_told)
 {
     static _Alignas(PAGE) uint8_t page[PAGE];
     int file = open(disk, O_WRONLY | O_DIRECT | O_DSYNC);
     for (uint64_t i = 0; file >= 0 && i < count; i++)
-        if (pwrite(file, page, PAGE, (off_t)(i * PAGE)) != PAGE)
+        if (pwrite(file, page, PAGE, (off_t)(i * PAGE)) != PAGE ||
+            (is_told && write(STDOUT_FILENO, ".", 1) != 1)) {
+            perror(disk);
             return 1;
+        }
     return file < 0 || close(file);
 }
 
@@ -188,8 +193,8 @@ int main(int count, char **words)
         return reset(words[2]);
     if (!strcmp(what, "listen"))
         return listen_once(words[2]);
-    if (!strcmp(what, "pages") && count == 4)
-        return write_pages(words[2], strtoull(words[3], NULL, 10));
+    if (!strcmp(what, "pages") && (count == 4 || count == 5))
+        return write_pages(words[2], strtoull(words[3], NULL, 10), count == 5);
     if (!strcmp(what, "write") && count == 4)
         return write_files(words[2], strtoull(words[3], NULL, 10));
     if (!strcmp(what, "check"))
