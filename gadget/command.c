@@ -39,47 +39,75 @@ static int tell(const struct command *command, int asked)
     return fflush(stdout) ? STATUS_FILE : 0;
 }
 
-static int take_image(const char **image, const char *word)
+/* A command line that is read. */
+struct line {
+    const struct command *command;
+    char **words;
+    void *to;
+    const char **image;
+};
+
+static int take_image(const struct line *line, const char *word)
 {
-    if (*image)
+    if (*line->image)
         return refuse_word(word, "a second IMAGE");
-    *image = word;
+    *line->image = word;
     return GO_ON;
 }
 
 /* A word of the program's own, by its name or its letter. */
-static int take_word(const struct command *command, void *to, const char *name, int letter)
+static int take_word(const struct line *line, const char *name, int letter)
 {
     char word[64];
     if (letter)
         snprintf(word, sizeof word, "-%c", letter);
     else
         snprintf(word, sizeof word, "--%s", name);
-    return command->take(to, word, optarg) ? GO_ON : refuse_value(word, optarg);
+    return line->command->take(line->to, word, optarg) ? GO_ON : refuse_value(word, optarg);
+}
+
+/* One answer of getopt_long. */
+static int take_answer(const struct line *line, int answer, const char *name)
+{
+    switch (answer) {
+    case HELP:
+    case VERSION_ASKED:
+        return tell(line->command, answer);
+    case PLAIN:
+        return take_image(line, optarg);
+    case ':':
+        return refuse_last(line->words, "its value is left out");
+    case '?':
+        return refuse_last(line->words, "no such word");
+    default:
+        return take_word(line, name, answer);
+    }
+}
+
+/* The words of the program's own behind these two. */
+static void join(struct option all[MOST], const struct option *known)
+{
+    all[0] = (struct option){ "help", no_argument, NULL, HELP };
+    all[1] = (struct option){ "version", no_argument, NULL, VERSION_ASKED };
+    for (int i = 0; known[i].name && i < MOST - 3; i++)
+        all[i + 2] = known[i];
 }
 
 int read_command(const struct command *command, char **words, void *to, const char **image)
 {
-    struct option all[MOST] = { { "help", no_argument, NULL, HELP },
-                                { "version", no_argument, NULL, VERSION_ASKED } };
-    int count = 0, ended = GO_ON, index = 0, answer;
-    for (int i = 0; command->known[i].name && i < MOST - 3; i++)
-        all[i + 2] = command->known[i];
+    const struct line line = { command, words, to, image };
+    struct option all[MOST] = { 0 };
+    int count = 0, ended = GO_ON, index = 0, answer = 0;
+    join(all, command->known);
     while (words[count])
         count++;
     opterr = 0;
-    while (ended == GO_ON &&
-           (answer = getopt_long(count, words, command->letters, all, &index)) != -1) {
-        if (answer == HELP || answer == VERSION_ASKED)
-            ended = tell(command, answer);
-        else if (answer == PLAIN)
-            ended = take_image(image, optarg);
-        else if (answer == ':' || answer == '?')
-            ended = refuse_last(words, answer == ':' ? "its value is left out" : "no such word");
-        else
-            ended = take_word(command, to, all[index].name, answer);
+    while (ended == GO_ON && answer != -1) {
+        answer = getopt_long(count, words, command->letters, all, &index);
+        if (answer != -1)
+            ended = take_answer(&line, answer, all[index].name);
     }
     while (ended == GO_ON && words[optind])
-        ended = take_image(image, words[optind++]);
+        ended = take_image(&line, words[optind++]);
     return ended == GO_ON && !*image ? refuse_word("IMAGE", "is left out") : ended;
 }
