@@ -1,4 +1,4 @@
-/* The memory of page.wasm: blocks one behind the other. A call gives back all that it took before
+/* The memory of the page: blocks one behind the other. A call gives back all that it took before
  * it returns, so the next one begins at the front again. Nothing proves this file. */
 typedef __SIZE_TYPE__ size_t;
 typedef unsigned long long half;

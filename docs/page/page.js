@@ -1,25 +1,43 @@
 "use strict";
-// The page on which one pulls the plug. It draws what the disk tells; the disk itself is page.wasm (docs/page/make).
+// The page on which one pulls the plug. It draws what the disk tells; the disk itself is a module that module.js carries (docs/page/make).
 //
 // Nothing is kept between two looks: a disk is played anew from the list of events, so that undo is a shorter list. The parts: the core,
 // events as text, what is seen, the drawing, the scenes, and what buttons do. `window.page` at the end is for checks/page.
 
-// ---- The core: page.wasm ----------------------------------------------------------------------------------------------------------
+// ---- The core: the module ---------------------------------------------------------------------------------------------------------
 
-const BLOCKS = 32;
+// With 16 blocks no cut meets more unflushed writes than it can name: a start has three slots to bring home, 48 sectors, and a forced write less.
+const BLOCKS = 16;
 const NONE = -1;
 const OPS = { w: 0, f: 1, s: 2, r: 3, i: 4, c: 6, b: 7 };
 const FUSE = 5;
 // How many unflushed writes a cut can name.
 const CHOICES = 64;
+// The smallest module with a memory of 64 bits.
+const WIDE = new Uint8Array([0, 97, 115, 109, 1, 0, 0, 0, 5, 3, 1, 4, 1]);
+
+// A browser by its name, as it tells of itself.
+const browserOf = (agent) => {
+  const names = [["Edg", "Edge"], ["OPR", "Opera"], ["Firefox", "Firefox"], ["Chrome", "Chrome"], ["Version", "Safari"]];
+  for (const [word, name] of names) {
+    const found = new RegExp(`${word}/(\\d+)`).exec(agent);
+    if (found) return `${name} ${found[1]}`;
+  }
+  return "this browser";
+};
 
 const core = {
   exports: null,
 
+  // The module stands in a script, since a page that is opened from a disk may read no other file.
   async open() {
-    const answer = await fetch("page.wasm");
-    if (!answer.ok) throw new Error("page.wasm is not there: docs/page/make builds it");
-    const { instance } = await WebAssembly.instantiate(await answer.arrayBuffer(), {});
+    if (!globalThis.WebAssembly?.validate(WIDE)) {
+      const newer = "Chrome and Edge have it from 133 on, Firefox from 134 on.";
+      throw new Error(`The disk does not run in ${browserOf(navigator.userAgent)}: it needs WebAssembly with a memory of 64 bits (memory64). ${newer}`);
+    }
+    if (!globalThis.MODULE) throw new Error("The disk is not built yet: docs/page/make builds it, and page.html, which needs no other file.");
+    const bytes = Uint8Array.from(atob(globalThis.MODULE), (it) => it.charCodeAt(0));
+    const { instance } = await WebAssembly.instantiate(bytes, {});
     this.exports = instance.exports;
   },
 
@@ -47,6 +65,7 @@ const core = {
   told(buffer, told, to, steps) {
     const numbers = Array.from(new BigUint64Array(buffer.slice(told, told + 128)), Number);
     const [state, sectors, home, blocks, unflushed] = numbers;
+    if (unflushed > CHOICES) throw new Error(`${unflushed} unflushed writes, and a cut names ${CHOICES}`);
     let at = to;
     const part = (size) => new Uint8Array(buffer.slice(at, (at += size)));
     const answers = part(steps);
@@ -97,18 +116,33 @@ const eventOf = (text) => {
 
 const LETTERS = "ABCDEFGHIJKLMNOPQRSTUVWXYZabcdefghijklmnopqrstuvwxyz";
 const isWrite = (it) => it.op === "w" || it.op === "f";
-const letterOf = (byte) => (byte === 0 ? "" : String.fromCharCode(byte));
-const nextLetter = (events) => LETTERS[events.filter(isWrite).length % LETTERS.length];
+// Each write of a page fills its blocks with a byte of its own, so there are 255 of them. Behind z come A2 to z2, and so on.
+const MOST_WRITES = 255;
+const letterOf = (byte) => {
+  const [n, round] = [byte - 1, Math.ceil(byte / LETTERS.length)];
+  return byte === 0 ? "" : LETTERS[n % LETTERS.length] + (round > 1 ? round : "");
+};
+const fillOf = (events) => events.filter(isWrite).length + 1;
+const hasFill = (events) => fillOf(events) <= MOST_WRITES;
+const nextLetter = (events) => letterOf(fillOf(events));
 
-// The steps of these events for a disk. `of` tells where the answer of each event stands.
+// The steps of these events for a disk. `of` tells where the answer of each event stands. A cut names 64 unflushed writes, so the plain disk flushes before
+// a write with which there would be more.
 const stepsOf = (events, isPlain) => {
   const steps = [];
   const of = [];
+  let waiting = 0;
   events.forEach((it, n) => {
+    const more = isWrite(it) ? it.count : 0;
+    if (isPlain && waiting + more > CHOICES) {
+      steps.push({ op: OPS.s });
+      waiting = 0;
+    }
+    waiting = "fsc".includes(it.op) ? 0 : waiting + more;
     const fuse = isPlain ? it.plainFuse : it.fuse;
     if (fuse !== undefined) steps.push({ op: FUSE, number: fuse });
     of.push(steps.length);
-    const fill = isWrite(it) ? nextLetter(events.slice(0, n)).charCodeAt(0) : 0;
+    const fill = isWrite(it) ? fillOf(events.slice(0, n)) : 0;
     steps.push({ op: OPS[it.op], from: it.from, count: it.count, fill, number: it.op === "c" ? (isPlain ? it.plain : it.kept) : 0 });
   });
   return { steps, of };
@@ -299,14 +333,15 @@ const noteOf = (setting, cells, oldest) => {
   return `#${stamp} ${isDurable ? "whole" : isWhole ? "not flushed" : "not whole"}`;
 };
 
-// How many of these writes, whole and in order, give these blocks.
+// The greatest number of these writes, whole and in order, that gives these blocks.
 const kOf = (opening, writes, letters) => {
   const blocks = [...opening];
+  let found = NONE;
   for (let k = 0; k <= writes.length; k++) {
-    if (blocks.every((it, n) => it === letters[n])) return k;
+    if (blocks.every((it, n) => it === letters[n])) found = k;
     if (k < writes.length) blocks.fill(writes[k].letter, writes[k].from, writes[k].from + writes[k].count);
   }
-  return NONE;
+  return found;
 };
 
 // The lives: their writes, how many the core says are promised, and the k that the next start found.
@@ -382,15 +417,16 @@ const SCENES = [
   {
     name: "first", title: "Three kinds of write", from: 2, count: 3,
     parts: [
-      ["Two empty disks. Press Next and follow, or use the commands yourself at any time."],
-      ["The host writes A to blocks 2, 3 and 4, and both disks answer good. This disk holds A in memory, and its medium is as it was. The plain disk wrote three sectors and flushed none.", "w2x3"],
+      ["Two empty disks. Press Next and follow, or use the commands below yourself at any time."],
+      ["The host writes A to blocks 2, 3 and 4, by a WRITE with FUA. Both disks answer good, so A is promised: no loss of power may take it.", "f2x3"],
+      ["Then B to the same blocks, by an ordinary WRITE. Both disks answer good. This disk holds B in memory. The plain disk wrote three sectors over A and flushed none.", "w2x3"],
       ["Power goes. What was in memory is gone. Of the plain disk’s three sectors one happened to survive.", "pull none / 010"],
-      ["Power is back. A was taken, but nobody promised it: this disk has k = 0 writes, and so nothing of A. The plain disk has a third of A, which no host ever wrote.", "b"],
-      ["Now B, by a WRITE with FUA. The answer waits for a flush: see the record in the log, with a descriptor, three times B and a commit, all durable. So B is promised. Then C, an ordinary WRITE, which is in memory.", "f2x3", "w5x2"],
-      ["SYNCHRONIZE CACHE: now C is in the log too, flushed. One command promises every write before it.", "s"],
-      ["D and E are ordinary WRITEs again. Four writes were accepted since the start, and two are promised. So after a loss of power k may be 2, 3 or 4, and nothing else.", "w3x2", "w12x1"],
+      ["Power is back. This disk kept its promise: A is there, whole (k = 1). B was taken and not promised, and is as if it had never been sent. The plain disk has B in the midst of A: no host ever wrote that, and the promised A is gone.", "b"],
+      ["Now C, by a WRITE with FUA. The answer waits for a flush: see its record in the log below, with a descriptor, three times C and a commit, all durable. Then D, an ordinary WRITE, which is in memory.", "f2x3", "w5x2"],
+      ["SYNCHRONIZE CACHE: now D is in the log too, flushed. One command promises every write before it.", "s"],
+      ["E and F are ordinary WRITEs again. Four writes were accepted since the start, and two are promised. So after a loss of power k may be 2, 3 or 4, and nothing else.", "w3x2", "w12x1"],
       ["Power goes.", "pull none / 10"],
-      ["k = 2: B and C are there, whole; D and E are not, as if they had never been sent. k is one number: it cuts the row at one place. Try other writes and other cuts: below 2 it never falls.", "b"],
+      ["k = 2: C and D are there, whole; E and F are not, as if they had never been sent. k is one number: it cuts the row at one place. Try other writes and other cuts: below 2 it never falls.", "b"],
     ],
   },
   {
@@ -415,7 +451,7 @@ const SCENES = [
       ["Power goes, and one of the two home sectors is lost.", "pull 0 / 11"],
       ["No harm: the record still stands in the log, and the head still points at it. So the start brings both blocks home again: k = 1. Second rule: the head moves on only after home was flushed.", "b"],
       ["B, C and D are forced too: the log’s three slots are full. The head tells the oldest record that may be needed.", "f3x2", "f10x2", "f12x1"],
-      ["Third rule: a slot is written again only when the head has moved past its record, and that was flushed. So for E the disk first brings B home, flushes, moves the head, flushes, and only then writes. Go back into this command with the slider, and pull the plug where you like.", "f20x2"],
+      ["Third rule: a slot is written again only when the head has moved past its record, and that was flushed. So for E the disk first brings B home, flushes, moves the head, flushes, and only then writes. Go back into this command with the slider, and pull the plug where you like.", "f14x2"],
     ],
   },
   {
@@ -437,7 +473,7 @@ const SCENES = [
       ["A, forced. See the calls of this command below: all sectors of the record, then one flush. Each sector carries the stamp, so it does not matter which of them comes first.", "f7x3"],
       ["B, forced. In front of its own record the disk brings A’s home: these sectors share the one flush. A’s record was durable before, so whatever is lost here, A is still found.", "f1x2"],
       ["C, forced: B goes home, the head moves past A, which was flushed at home by the last command, and C’s record follows. One flush again.", "f12x2"],
-      ["D is in the midst of it: everything is written, nothing flushed.", "f20x2", "@flush"],
+      ["D is in the midst of it: everything is written, nothing flushed.", "f4x2", "@flush"],
       ["Power goes, and every second sector is lost.", "pull 0 2 4 6 8 / 10"],
       ["The old head or the new one: both stand for the same blocks. A, B and C are there: k = 3. D’s record is not whole.", "b"],
     ],
@@ -459,7 +495,7 @@ const sceneOf = (name) => SCENES.find((it) => it.name === name) ?? SCENES[0];
 
 // Bits of what survives: of these writes those at these places or of these kinds.
 const bitsOf = (setting, waiting, words) => {
-  const bit = (is) => waiting.slice(0, CHOICES).reduce((bits, it, n) => (is(it, n) ? bits | (1n << BigInt(n)) : bits), 0n);
+  const bit = (is) => waiting.reduce((bits, it, n) => (is(it, n) ? bits | (1n << BigInt(n)) : bits), 0n);
   if (words.includes("all")) return bit(() => true);
   return bit((it, n) => words.includes(String(n)) || words.includes(decoded(setting, it.sector, it.bytes).kind));
 };
@@ -520,6 +556,7 @@ const load = (address) => {
   if (!words.has("do")) return;
   try {
     now.events = words.get("do").split(",").filter(Boolean).map(eventOf);
+    if (now.events.filter(isWrite).length > MOST_WRITES) throw new Error("too many writes");
     const all = callsOf(now.setting, now.events, false);
     now.moment = words.has("at") && all > 0 ? number("at", 0, all - 1) : null;
   } catch {
@@ -600,8 +637,8 @@ const drawLog = (events, ours) => {
 };
 
 const drawFilm = (film) => {
-  at("film").hidden = film.length === 0;
   const moment = now.moment ?? film.length;
+  at("moment").disabled = film.length === 0;
   at("calls").replaceChildren(
     ...film.map((it, n) => make("span", { className: `call of-${it.kind} ${n < moment ? "done" : ""}` }, it.short)),
   );
@@ -609,7 +646,7 @@ const drawFilm = (film) => {
   at("moment").value = moment;
   const done = moment ? `done: ${film[moment - 1].words}` : "nothing done";
   const text = film.length === moment ? "all done, and answered" : `${done}; next: ${film[moment].words}`;
-  at("moment-text").textContent = `After ${moment} of ${film.length} writes and flushes: ${text}.`;
+  at("moment-text").textContent = film.length ? `After ${moment} of ${film.length} writes and flushes: ${text}.` : "No write and no flush.";
   at("moment").setAttribute("aria-valuetext", at("moment-text").textContent);
 };
 
@@ -631,7 +668,7 @@ const drawChips = (life, isNow) => {
   const { writes, k } = life;
   const chips = writes.map((it, n) => drawChip(it, n, life));
   if (k !== null) chips.splice(k, 0, make("li", { className: "k", "aria-label": `k is ${k}` }, "k = ", make("b", {}, String(k))));
-  const title = isNow ? "since the last start" : "before the cut";
+  const title = isNow ? "since the last start" : "before the last cut";
   const row = writes.length
     ? make("ol", { className: "chips", "aria-label": `Accepted writes ${title}` }, ...chips)
     : make("p", { className: "small none" }, "no write yet");
@@ -666,7 +703,9 @@ const drawVerdict = (id, text, isGood) => {
 };
 
 const drawServed = (lives, ours, plain) => {
-  at("row").replaceChildren(...lives.slice(-2).map((it, n, all) => drawChips(it, n === all.length - 1)));
+  const none = make("div", { className: "before" }, make("span", { className: "small" }, "before the last cut"), make("p", { className: "small none" }, "no cut yet"));
+  const shownLives = lives.slice(-2).map((it, n, all) => drawChips(it, n === all.length - 1));
+  at("row").replaceChildren(...(lives.length > 1 ? [] : [none]), ...shownLives);
   at("mark").textContent = markText(lives, ours);
   const isOn = ours.state === 0 && now.moment === null;
   const before = lives.at(-2);
@@ -679,7 +718,8 @@ const drawServed = (lives, ours, plain) => {
   const off = now.moment === null ? "Power is off." : "A command is under way.";
   at("blocks-text").textContent = isOn ? `The host reads: ${told(lettersOf(ours.served))}.` : off;
   at("plain-text").textContent = isOn ? `The host reads: ${told(lettersOf(plain.served))}.` : off;
-  drawVerdict("verdict", isFresh ? kText(before.k) : "", true);
+  const kept = before?.promised ? "promise kept: " : "";
+  drawVerdict("verdict", isFresh ? kept + kText(before.k) : "", true);
   drawVerdict("plain-verdict", isFresh ? (wrong?.text ?? kText(before.plain.k)) : "", !wrong);
 };
 
@@ -703,12 +743,11 @@ const drawChoices = (ours, plain) => {
   };
   const none = () => make("p", { className: "small" }, "nothing is unflushed");
   const group = (title, name, waiting, read) =>
-    make("div", {}, make("h4", {}, title), ...(waiting.length ? waiting.slice(0, CHOICES).map(one(name, read)) : [none()]));
+    make("div", {}, make("h4", {}, title), ...(waiting.length ? waiting.map(one(name, read)) : [none()]));
   at("choices").replaceChildren(group("This disk", "kept", ours.waiting, decoded), group("The plain disk", "plain", plain.waiting, decodedPlain));
 };
 
-const FULL = "failed: this medium has no room for more unflushed sectors";
-const HOW = ["was answered good", "was cut off", "found no power", "was refused", FULL, "found no memory"];
+const HOW = ["was answered good", "was cut off", "found no power", "was refused", "failed", "found no memory"];
 const NAMES = { w: "WRITE", f: "WRITE with FUA", s: "SYNCHRONIZE CACHE", i: "A step of the disk’s own", b: "The start" };
 
 // What the last event came to, in a sentence or two.
@@ -731,16 +770,25 @@ const report = (events, ours, plain, lives) => {
   }
   if (last.op === "i") return `${what}: ${plural(callsOf(now.setting, events, false), "write or flush", "writes and flushes")} of its medium.`;
   const other = plain.answers.at(-1) > 2 ? ` The plain disk ${HOW[plain.answers.at(-1)]}.` : "";
-  return `${what} ${HOW[ours.answers.at(-1)]}. Promised: ${ours.promised} of ${ours.accepted}.${other}`;
+  const full = hasFill(events) ? "" : ` All ${MOST_WRITES} letters are used: start over to write more.`;
+  return `${what} ${HOW[ours.answers.at(-1)]}. Promised: ${ours.promised} of ${ours.accepted}.${other}${full}`;
+};
+
+const OTHER_FORMAT = " (This is told for format 2. Here is format 1: two flushes a record, and no stamps in its data.)";
+
+// Every caption has its place at once, so that a longer one moves nothing.
+const drawRoom = () => {
+  const other = now.setting.format === 1 ? OTHER_FORMAT : "";
+  const texts = SCENES.flatMap((scene) => scene.parts.map(([text]) => text + other));
+  at("room").replaceChildren(...texts.map((text) => make("p", {}, text)));
 };
 
 const drawStory = () => {
   const last = now.scene.parts.length - 1;
   at("scene").value = now.scene.name;
-  const other = now.setting.format === 1 ? " (This is told for format 2. Here is format 1: two flushes a record, and no stamps in its data.)" : "";
-  at("caption").textContent = now.scene.parts[now.part][0] + other;
-  at("next").disabled = now.part === last;
-  at("next").textContent = now.part === last ? "The end" : now.part ? "Next" : "Begin";
+  if (at("format").value !== String(now.setting.format) || !at("room").firstChild) drawRoom();
+  at("caption").textContent = now.scene.parts[now.part][0] + (now.setting.format === 1 ? OTHER_FORMAT : "");
+  at("next").textContent = now.part === last ? "Next scene" : "Next";
   at("progress").textContent = `${now.part} of ${last}`;
   at("undo").disabled = !now.past.length && !now.events.length;
   at("seed").value = now.seed;
@@ -749,10 +797,11 @@ const drawStory = () => {
 
 const drawPower = (ours) => {
   const isOff = ours.state !== 0 && now.moment === null;
-  for (const id of ["write", "fua", "sync", "step"]) at(id).disabled = isOff;
+  const isFull = !hasFill(now.events);
+  for (const id of ["write", "fua", "sync", "step"]) at(id).disabled = isOff || (isFull && (id === "write" || id === "fua"));
   at("pull").hidden = at("choose").hidden = isOff;
   at("start").hidden = !isOff;
-  for (const it of document.querySelectorAll(".letter")) it.textContent = nextLetter(now.events);
+  for (const it of document.querySelectorAll(".letter")) it.textContent = isFull ? "" : nextLetter(now.events);
 };
 
 const draw = (isFilmed = true) => {
@@ -880,6 +929,7 @@ const doing = (events, moment = null) => {
 };
 
 const play = (event) => {
+  if (isWrite(event) && !hasFill(now.events)) return;
   if (played(now.setting, now.events, false).state === 0) doing([...now.events, event]);
 };
 
@@ -899,7 +949,7 @@ const chance = (seed) => {
 };
 
 const randomBits = (next, count) =>
-  Array.from({ length: Math.min(count, CHOICES) }, next).reduce((bits, is, n) => (is ? bits | (1n << BigInt(n)) : bits), 0n);
+  Array.from({ length: count }, next).reduce((bits, is, n) => (is ? bits | (1n << BigInt(n)) : bits), 0n);
 
 const pullAtRandom = () => {
   const next = chance(now.seed);
@@ -913,7 +963,7 @@ const pullAtRandom = () => {
 const start = () => doing([...now.events, { op: "b" }]);
 
 const goTo = (part) => {
-  if (part >= now.scene.parts.length) return;
+  if (part >= now.scene.parts.length) return open(SCENES[(SCENES.indexOf(now.scene) + 1) % SCENES.length], now.setting.format);
   remember();
   Object.assign(now, sceneAt(now.setting, now.scene, part), { part, choice: null });
   draw();
@@ -1018,7 +1068,7 @@ const onSector = (event) => {
   const [, name, sector] = event.target.closest(".cell")?.dataset.at.match(/^(plain-)?medium-(\d+)$/) ?? [];
   if (!now.choice || sector === undefined) return;
   const n = played(now.setting, looked(), Boolean(name)).waiting.findLastIndex((it) => it.sector === Number(sector));
-  if (n < 0 || n >= CHOICES) return;
+  if (n < 0) return;
   now.choice[name ? "plain" : "kept"] ^= 1n << BigInt(n);
   draw();
 };
@@ -1110,13 +1160,16 @@ const seen = () => ({
   status: at("status").textContent,
 });
 
+// What can be pressed comes with the disk: without it the caption says why, and there is nothing else.
 const begin = async () => {
   try {
     await core.open();
   } catch (error) {
-    say(`The disk is not here: ${error.message}. The page needs a browser with WebAssembly of 64 bits and a plain file server.`);
+    at("caption").textContent = error.message;
+    document.documentElement.dataset.ready = "no";
     return;
   }
+  for (const it of document.querySelectorAll("[data-live]")) it.hidden = false;
   load(location.hash);
   listen();
   at("at").value = now.scene.from;
@@ -1133,6 +1186,7 @@ window.page = {
   address: wholeAddress,
   picture: () => pictureOf("torn", 5),
   load: (address) => (load(address), draw()),
+  unflushed: (isPlain) => played(now.setting, looked(), isPlain).waiting.length,
   scenes: SCENES,
 };
 window.addEventListener("DOMContentLoaded", begin);
