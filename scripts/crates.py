@@ -12,8 +12,11 @@ def toolchain():
     # (a program that is built already is run without these)
     import importlib.machinery
     import importlib.util
+    import shutil
     import subprocess
 
+    if not shutil.which("rt"):
+        raise SystemExit("the Rattle toolchain is not here: no command rt")
     page = subprocess.run(["rt", "doc"], capture_output=True, text=True, check=True).stdout
     loader = importlib.machinery.SourceFileLoader("rt_of_the_kit", f"{os.path.dirname(page.strip())}/bin/rt")
     made = importlib.util.module_from_spec(importlib.util.spec_from_loader(loader.name, loader))

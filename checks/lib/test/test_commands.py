@@ -1,0 +1,87 @@
+"""What commands say where the toolchain or Python is not there, and what the demonstration says at its end."""
+
+import os
+import subprocess
+import tempfile
+import unittest
+
+from lib import sources
+
+ROOT = sources.ROOT
+# What each of them needs before it looks for the toolchain.
+BASIC = "sh env dirname basename mkdir mktemp rm cat cut sed awk xargs date readlink uname head tail".split()
+# The commands that need the toolchain, with their words.
+OF_TOOLCHAIN = (
+    "checks/all checks/c checks/dist checks/edits checks/judges demo/run demo/try dist/library dist/make docs/page/build docs/page/make".split(),
+    ["dist/module", "page", "x86_64-unknown-linux-gnu"],
+    ["scripts/unproved_program", "worked"],
+    ["scripts/proved_program", "usbdisk"],
+)
+PROGRAM = """#!/bin/sh
+block() { awk -v byte="$1" 'BEGIN { printf "data "; for (i = 0; i < 512; i++) printf byte; print "" }'; }
+case $1-$3 in
+run-*read*) block aa ;;
+sim-*) for byte in bb @ 00; do block $byte; done ;;
+esac
+"""
+
+
+def run_in(path, words):
+    """How a command ends, and the lines that it says, where only what lies in a folder is found."""
+    it = subprocess.run([f"{ROOT}/{words[0]}", *words[1:]], env={"PATH": path}, stdin=subprocess.DEVNULL, capture_output=True, text=True, timeout=60)
+    return it.returncode, (it.stdout + it.stderr).splitlines()
+
+
+def found_in(folder, names):
+    """A folder in which these programs are found."""
+    for name in names:
+        real = next(f"{at}/{name}" for at in os.environ["PATH"].split(":") if os.access(f"{at}/{name}", os.X_OK))
+        os.symlink(os.path.realpath(real), f"{folder}/{name}")
+    return folder
+
+
+class WithoutTools(unittest.TestCase):
+    def setUp(self):
+        room = tempfile.TemporaryDirectory()
+        self.addCleanup(room.cleanup)
+        self.room = room.name
+
+    def test_the_toolchain_that_is_not_there_is_named_in_one_line(self):
+        path = found_in(self.room, [*BASIC, "python3"])
+        for words in [*([it] for it in OF_TOOLCHAIN[0]), *OF_TOOLCHAIN[1:]]:
+            status, lines = run_in(path, words)
+            with self.subTest(words[0]):
+                self.assertTrue(status and len(lines) == 1 and "no command rt" in lines[0], (status, lines))
+
+    def test_a_script_without_python_names_it_in_one_line(self):
+        path = found_in(self.room, BASIC)
+        with open(f"{self.room}/rt", "w", encoding="utf-8") as file:
+            file.write("#!/bin/sh\n")
+        os.chmod(f"{self.room}/rt", 0o755)
+        for name in ("checks/all", "checks/c", "checks/dist", "checks/edits", "checks/names", "demo/run", "demo/try", "dist/library", "dist/make", "docs/page/make"):
+            status, lines = run_in(path, [name])
+            with self.subTest(name):
+                self.assertTrue(status and len(lines) == 1 and "python3" in lines[0], (status, lines))
+
+
+class Demonstration(unittest.TestCase):
+    def played(self, byte):
+        with tempfile.TemporaryDirectory() as room:
+            with open(f"{room}/program", "w", encoding="utf-8") as file:
+                file.write(PROGRAM.replace("@", byte))
+            os.chmod(f"{room}/program", 0o755)
+            return run_in(os.environ["PATH"], ["demo/run", f"{room}/program"])
+
+    def test_it_says_in_words_what_was_shown(self):
+        status, lines = self.played("cc")
+        self.assertEqual(status, 0)
+        self.assertIn("In words:", lines[-2])
+
+    def test_it_sees_a_promised_write_that_is_lost(self):
+        status, lines = self.played("00")
+        self.assertEqual(status, 1)
+        self.assertIn("not what was promised", lines[-1])
+
+
+if __name__ == "__main__":
+    unittest.main()
