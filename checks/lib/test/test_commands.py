@@ -1,6 +1,7 @@
 """What commands say where the toolchain or Python is not there, and what the demonstration says at its end."""
 
 import os
+import re
 import subprocess
 import tempfile
 import unittest
@@ -10,12 +11,10 @@ from lib import sources
 ROOT = sources.ROOT
 # What each of them needs before it looks for the toolchain.
 BASIC = "sh env dirname basename mkdir mktemp rm cat cut sed awk xargs date readlink uname head tail".split()
-# The commands that need the toolchain, with their words.
+# The commands that need the toolchain, with their words. (What is built already needs none: no check builds this module.)
 OF_TOOLCHAIN = (
     "checks/all checks/c checks/dist checks/edits checks/judges demo/run demo/try dist/library dist/make docs/page/build docs/page/make".split(),
-    ["dist/module", "page", "x86_64-unknown-linux-gnu"],
-    ["scripts/unproved_program", "worked"],
-    ["scripts/proved_program", "usbdisk"],
+    ["dist/module", "page", "aarch64-unknown-linux-gnu"],
 )
 PROGRAM = """#!/bin/sh
 block() { awk -v byte="$1" 'BEGIN { printf "data "; for (i = 0; i < 512; i++) printf byte; print "" }'; }
@@ -62,6 +61,24 @@ class WithoutTools(unittest.TestCase):
             status, lines = run_in(path, [name])
             with self.subTest(name):
                 self.assertTrue(status and len(lines) == 1 and "python3" in lines[0], (status, lines))
+
+
+class Words(unittest.TestCase):
+    def test_a_page_of_man_and_the_completion_have_the_words_of_the_help(self):
+        for name in ("usbdisk", "usbdisk_image", "usbdisk_live"):
+            told = subprocess.run([f"{ROOT}/{name}", "--help"], capture_output=True, text=True).stdout
+            with open(f"{ROOT}/docs/man/{name}.1", encoding="utf-8") as file:
+                page = file.read().replace("\\-", "-")
+            words = set(re.findall(r"--[a-z]+", told)) | {"--help"}
+            commands = set(re.findall(rf"^{name} ([a-z]+)", told, re.M))
+            with self.subTest(name):
+                self.assertEqual(set(re.findall(r"--[a-z]+", page)), words | {"--version"})
+                self.assertEqual(commands - set(re.findall(r"[a-z]+", page)), set())
+                self.assertEqual(set(self.completed(name)), words | commands)
+
+    def completed(self, name):
+        script = f"source {ROOT}/gadget/completion/usbdisk; COMP_WORDS=({ROOT}/{name} ''); COMP_CWORD=1; _usbdisk; printf '%s\\n' \"${{COMPREPLY[@]}}\""
+        return subprocess.run(["bash", "-c", script], capture_output=True, text=True).stdout.split()
 
 
 class Demonstration(unittest.TestCase):
