@@ -61,7 +61,7 @@ OTHERS = ("-x", "--replace", "--slots", "--format", "--align", "0", "3", "09", "
 # The status of what the launchers are given in place of the program.
 HANDED_ON = 77
 LAUNCHERS = ("usbdisk", "usbdisk_image", "usbdisk_live")
-LEFT_OUT = BAD_WORDS.err + b"usbdisk_image: a word is left out at the end, a file's name; usbdisk_image --help tells the commands\n"
+LEFT_OUT = BAD_WORDS.err + b"usbdisk_image: a word is left out at the end, a file's name in UTF-8; usbdisk_image --help tells the commands\n"
 # What is asked of a launcher, and the words that the program gets behind its name.
 HANDED = (
     ("usbdisk run a b", "run a b"),

@@ -81,6 +81,16 @@ class Words(unittest.TestCase):
         return subprocess.run(["bash", "-c", script], capture_output=True, text=True).stdout.split()
 
 
+class Names(unittest.TestCase):
+    def test_a_launcher_refuses_a_name_that_is_no_text_before_any_proof(self):
+        for words in ([b"usbdisk_image", b"show", b"d\xff.img"], [b"usbdisk_live", b"d\xff.img"], [b"usbdisk", b"run", b"d.img", b"d\xff"]):
+            with tempfile.TemporaryDirectory() as room:
+                path = found_in(room, [*BASIC, "iconv"])
+                it = subprocess.run([f"{ROOT}/{words[0].decode()}", *words[1:]], env={"PATH": path}, capture_output=True, timeout=60)
+            self.assertEqual((it.returncode, it.stderr.split(b"\n")[0]), (2, b"bad command line"))
+            self.assertIn(b"does not fit there; a file's name in UTF-8 does", it.stderr)
+
+
 class Demonstration(unittest.TestCase):
     def played(self, byte):
         with tempfile.TemporaryDirectory() as room:
