@@ -87,7 +87,42 @@ static uint32_t start(struct place *place)
     return fault;
 }
 
-static bool show(struct place *place)
+/* The bytes of the blocks, and in the largest unit of 1024 that they fill. */
+static void tell_size(uint64_t bytes)
+{
+    static const char *const units[] = { "KiB", "MiB", "GiB", "TiB" };
+    uint64_t unit = 1;
+    int n = 0;
+    while (n < 4 && bytes / unit >= 1024) {
+        unit *= 1024;
+        n++;
+    }
+    printf("size %" PRIu64 " bytes", bytes);
+    if (n)
+        printf(", %" PRIu64 ".%" PRIu64 " %s", bytes / unit, bytes % unit * 10 / unit,
+               units[n - 1]);
+    puts("");
+}
+
+/* Tells what was found: a line each, or an object of JSON. */
+static void tell(const struct usbdisk_layout *found, bool starts, bool as_json)
+{
+    uint64_t memory = usbdisk_memory(found->format, found->slots);
+    if (as_json) {
+        printf(
+            "{\"format\": %" PRIu32 ", \"blocks\": %" PRIu64 ", \"block_bytes\": 512, \"slots\": "
+            "%" PRIu64 ", \"home\": %" PRIu64 ", \"memory_bytes\": %" PRIu64 ", \"starts\": %s}\n",
+            found->format, found->blocks, found->slots, found->home, memory,
+            starts ? "true" : "false");
+        return;
+    }
+    printf("format %" PRIu32 "\nblocks %" PRIu64 "\nslots %" PRIu64 "\nhome %" PRIu64 "\n",
+           found->format, found->blocks, found->slots, found->home);
+    tell_size(found->blocks * 512);
+    printf("memory %" PRIu64 " bytes\n%s", memory, starts ? "starts\n" : "");
+}
+
+static bool show(struct place *place, bool as_json)
 {
     struct usbdisk_layout layout;
     if (!read_layout(place, &layout))
@@ -95,13 +130,8 @@ static bool show(struct place *place)
     uint32_t fault = start(place);
     if (fault == USBDISK_READ_REFUSED)
         return refuse_call(&place->disk, "its log is not read");
-    printf("format %" PRIu32 "\nblocks %" PRIu64 "\nslots %" PRIu64 "\nhome %" PRIu64 "\n",
-           layout.format, layout.blocks, layout.slots, layout.home);
-    printf("memory %" PRIu64 "\n", usbdisk_memory(layout.format, layout.slots));
-    if (fault)
-        return refuse_image(place, fault);
-    puts("starts");
-    return true;
+    tell(&layout, !fault, as_json);
+    return !fault || refuse_image(place, fault);
 }
 
 static bool migrate(struct place *place)
@@ -139,7 +169,7 @@ static bool work(const struct make_words *options, struct place *place)
     if (options->imports || options->exports)
         return copy(options, place);
     if (options->shows)
-        return show(place);
+        return show(place, options->as_json);
     return options->migrates ? migrate(place) : make(options, place);
 }
 

@@ -9,7 +9,7 @@
 static const char usage[] =
     "usbdisk-make IMAGE [--size SIZE | --blocks N] [--slots K] [--format 1|2] [--align SIZE] "
     "[--zero] [--replace]\n"
-    "usbdisk-make IMAGE --show\n"
+    "usbdisk-make IMAGE --show [--json]\n"
     "usbdisk-make IMAGE --migrate\n"
     "usbdisk-make IMAGE --import RAW [--slots K] [--format 1|2] [--align SIZE] [--replace]\n"
     "usbdisk-make IMAGE --export RAW [--replace]\n"
@@ -30,6 +30,7 @@ static const char usage[] =
     "  --zero         writes zeros to each block, in place of what lies there\n"
     "  --replace      also where an image, a file system or other data would be lost\n"
     "  --show         tells what image it is, and whether a disk starts on it; writes nothing\n"
+    "  --json         as an object of JSON\n"
     "  --migrate      brings an image of format 1 with 5 slots or more to format 2; its blocks "
     "stay\n"
     "  --import RAW   makes an image of all that a plain file or device holds, which stays\n"
@@ -81,16 +82,15 @@ static bool take_flag(struct make_words *options, const char *word)
         const char *word;
         bool *flag;
     } flags[] = {
-        { "--show", &options->shows },
-        { "--migrate", &options->migrates },
-        { "--zero", &options->zeroes },
+        { "--show", &options->shows },       { "--json", &options->as_json },
+        { "--migrate", &options->migrates }, { "--zero", &options->zeroes },
         { "--replace", &options->replaces },
     };
     for (size_t i = 0; i < sizeof flags / sizeof *flags; i++) {
         if (strcmp(word, flags[i].word))
             continue;
         *flags[i].flag = true;
-        options->makes |= i >= 2;
+        options->makes |= i >= 3;
         return true;
     }
     return false;
@@ -149,6 +149,8 @@ static int judge_words(const struct make_words *options)
                            "goes with --replace, and of an import --slots, --format and --align");
     if (options->shows && (options->migrates || options->makes))
         return refuse_word("--show", "goes with no other word");
+    if (options->as_json && !options->shows)
+        return refuse_word("--json", "goes with --show");
     if (options->migrates && options->makes)
         return refuse_word("--migrate", "goes with no other word");
     if (options->size && options->blocks)
@@ -162,12 +164,19 @@ static int judge_words(const struct make_words *options)
 int read_make_words(struct make_words *options, char **words)
 {
     static const struct option known[] = {
-        { "size", required_argument, NULL, 0 },   { "blocks", required_argument, NULL, 0 },
-        { "slots", required_argument, NULL, 0 },  { "format", required_argument, NULL, 0 },
-        { "align", required_argument, NULL, 0 },  { "zero", no_argument, NULL, 0 },
-        { "replace", no_argument, NULL, 0 },      { "show", no_argument, NULL, 0 },
-        { "migrate", no_argument, NULL, 0 },      { "import", required_argument, NULL, 0 },
-        { "export", required_argument, NULL, 0 }, { NULL, 0, NULL, 0 },
+        { "size", required_argument, NULL, 0 },
+        { "blocks", required_argument, NULL, 0 },
+        { "slots", required_argument, NULL, 0 },
+        { "format", required_argument, NULL, 0 },
+        { "align", required_argument, NULL, 0 },
+        { "zero", no_argument, NULL, 0 },
+        { "replace", no_argument, NULL, 0 },
+        { "show", no_argument, NULL, 0 },
+        { "migrate", no_argument, NULL, 0 },
+        { "import", required_argument, NULL, 0 },
+        { "export", required_argument, NULL, 0 },
+        { "json", no_argument, NULL, 0 },
+        { NULL, 0, NULL, 0 },
     };
     static const struct command command = { usage, NULL, "-:", known, take_word };
     *options = (struct make_words){ .slots = 6, .format = 2, .align = 512 };

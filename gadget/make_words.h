@@ -14,7 +14,7 @@ struct make_words {
     const char *image;
     uint64_t size, blocks, slots, format, align;
     const char *imports, *exports; /* a plain file or device, or NULL */
-    bool shows, migrates, zeroes, replaces, makes;
+    bool shows, as_json, migrates, zeroes, replaces, makes;
     bool shapes; /* tells what image is made */
 };
 
