@@ -2,6 +2,7 @@
 
 import os
 import re
+import shutil
 import subprocess
 import tempfile
 import unittest
@@ -79,6 +80,16 @@ class Words(unittest.TestCase):
     def completed(self, name):
         script = f"source {ROOT}/gadget/completion/usbdisk; COMP_WORDS=({ROOT}/{name} ''); COMP_CWORD=1; _usbdisk; printf '%s\\n' \"${{COMPREPLY[@]}}\""
         return subprocess.run(["bash", "-c", script], capture_output=True, text=True).stdout.split()
+
+
+class FreshClone(unittest.TestCase):
+    @unittest.skipUnless(os.path.exists(f"{ROOT}/.git") and shutil.which("git"), "no clone, or no git here")
+    def test_no_document_names_a_file_that_a_clone_has_not(self):
+        with tempfile.TemporaryDirectory() as room:
+            subprocess.run(["git", "clone", "-q", "--no-hardlinks", ROOT, f"{room}/clone"], check=True, stderr=subprocess.DEVNULL)
+            said = subprocess.run([f"{room}/clone/checks/names"], capture_output=True, text=True).stdout
+        self.assertIn("the documents: ", said)
+        self.assertEqual([it for it in said.splitlines() if ": no file " in it], [])
 
 
 class Names(unittest.TestCase):
