@@ -3,7 +3,7 @@ use Rattle.std.specs.Prelude.{◌≡◌, ◌⊎◌, ℕ, Bool, true, false, List
 use Rattle.std.specs.Io.KnownBytes.{Appends, Keeps}
 use Rattle.journal.specs.{declared.log_format.LogFormat.LogFormat, Places.{Shape, sectors_of}}
 use Rattle.medium.specs.declared.file_call.Access.TheVariants.{Look, Change}
-use Rattle.device_file.specs.{Asked.{Told, begun}, FileValue.{FileValue, GivesBlock}}
+use Rattle.device_file.specs.{Asked.{Told, begun}, FileValue.{FileValue, HasGiven, HasRefused}}
 use Rattle.device_file.specs.declared.fault.FileFault.{FileFault}
 use Rattle.console.specs.{Streams.AppendsSome, Texts.{ended, migration_text}}
 use Rattle.console.specs.{declared.words.ArgumentFault.ArgumentFault, Status.refusal_of_argument}
@@ -105,14 +105,6 @@ module _ (was now : Option (List ℕ)) (back : Option FileValue) where
   IsMakeRefused made sizes refusal = HasNoSizes sizes refusal
       ⊎ (MayHave sizes × (HasNoMemory refusal ⊎ IsNotMade made (shape_wanted sizes) refusal))
 
--- Looks at a file gave the bytes of a block. Of a file of the system no bytes are named, so nothing
--- is known of what one look gave, or refused.
-abbrev pub unnamed : ℕ → List ℕ → Type 0
-unnamed sector block = GivesBlock (λ at bytes. Unit {0}) sector block
-
-abbrev pub untold : ℕ → ℕ → Type 0
-untold first count = Unit {0}
-
 -- The path of an image file; what its device holds behind the first sectors, whatever that is; what
 -- was written then, and now; and the file that comes back, where one was opened.
 module _ (path device : List ℕ) (was now : Option (List ℕ)) (back : Option FileValue) where
@@ -120,13 +112,14 @@ module _ (path device : List ℕ) (was now : Option (List ℕ)) (back : Option F
   pub record IsShow : Type 0 where
     pub file : FileValue
     pub opened : IsOpened path Look back file
-    pub shown : IsShownOf unnamed file.size device was now
+    pub shown : IsShownOf (HasGiven file) file.size device was now
 
   -- it was not, or not all of it
   pub record IsOpenedNotShown (refusal : Refusal) : Type 0 where
     pub file : FileValue
     pub opened : IsOpened path Look back file
-    pub not_shown : IsNotShownOf unnamed file.size device was now untold refusal
+    pub not_shown : IsNotShownOf (HasGiven file) file.size device was now
+        (HasRefused file) refusal
 
   abbrev pub IsShowRefused : Refusal → Type 0
   IsShowRefused refusal = HasNoFile was now back refusal ⊎ IsOpenedNotShown refusal
@@ -136,7 +129,8 @@ module _ (path device : List ℕ) (was now : Option (List ℕ)) (back : Option F
     pub file : FileValue
     pub given : back ≡ Some file
     pub was_one : Bool
-    pub migrated : IsMigratedOf unnamed file.size device (begun path Change) file.told was_one
+    pub migrated : IsMigratedOf (HasGiven file) file.size device (begun path Change) file.told
+        was_one
     pub written : Appends was now (migration_text was_one)
 
   -- it was, but not all of that was written
@@ -144,7 +138,8 @@ module _ (path device : List ℕ) (was now : Option (List ℕ)) (back : Option F
     pub file : FileValue
     pub given : back ≡ Some file
     pub was_one : Bool
-    pub migrated : IsMigratedOf unnamed file.size device (begun path Change) file.told was_one
+    pub migrated : IsMigratedOf (HasGiven file) file.size device (begun path Change) file.told
+        was_one
     pub failed : refusal ≡ refused.Streams
     pub written : AppendsSome was now (migration_text was_one)
 
@@ -152,8 +147,8 @@ module _ (path device : List ℕ) (was now : Option (List ℕ)) (back : Option F
   pub record IsOpenedNotMigrated (refusal : Refusal) : Type 0 where
     pub file : FileValue
     pub given : back ≡ Some file
-    pub not_migrated : IsNotMigratedOf unnamed file.size device (begun path Change) file.told
-        untold refusal
+    pub not_migrated : IsNotMigratedOf (HasGiven file) file.size device (begun path Change)
+        file.told (HasRefused file) refusal
     pub kept : Keeps was now
 
   abbrev pub IsMigrationRefused : Refusal → Type 0
@@ -170,7 +165,8 @@ module _ (path : List ℕ) (made : Told) (was now : Option (List ℕ))
   pub record IsImport (format : LogFormat) (slots : ℕ) : Type 0 where
     pub plain : FileValue
     pub opened : IsOpened path Look raw plain
-    pub imported : IsImage unnamed untold format plain.size slots was now made back
+    pub imported : IsImage (HasGiven plain) (HasRefused plain) format plain.size slots was now
+        made back
 
   -- they did not, or not all of that was told
   pub record IsOpenedNotImported (format : LogFormat) (slots : ℕ) (refusal : Refusal)
@@ -178,7 +174,7 @@ module _ (path : List ℕ) (made : Told) (was now : Option (List ℕ))
     pub plain : FileValue
     pub opened : IsOpened path Look raw plain
     pub not_imported : IsImportUnbegun was now back refusal
-        ⊎ IsNoImage unnamed untold format plain.size slots was now made back refusal
+        ⊎ IsNoImage (HasGiven plain) (HasRefused plain) format plain.size slots was now made back refusal
 
   -- no plain file was opened
   pub record HasNoPlain (refusal : Refusal) : Type 0 where
@@ -201,13 +197,15 @@ module _ (path device : List ℕ) (made : Told) (was now : Option (List ℕ))
   pub record IsExport : Type 0 where
     pub file : FileValue
     pub opened : IsOpened path Look back file
-    pub exported : IsExportedOf unnamed untold file.size device was now made raw
+    pub exported : IsExportedOf (HasGiven file) (HasRefused file) file.size device was now
+        made raw
 
   -- they were not, or not all of that was told
   pub record IsOpenedNotExported (refusal : Refusal) : Type 0 where
     pub file : FileValue
     pub opened : IsOpened path Look back file
-    pub not_exported : IsNotExportedOf unnamed untold file.size device was now made raw refusal
+    pub not_exported : IsNotExportedOf (HasGiven file) (HasRefused file) file.size device
+        was now made raw refusal
 
   abbrev pub IsExportRefused : Refusal → Type 0
   IsExportRefused refusal =
