@@ -174,7 +174,8 @@ module _ (path : List ℕ) (made : Told) (was now : Option (List ℕ))
     pub plain : FileValue
     pub opened : IsOpened path Look raw plain
     pub not_imported : IsImportUnbegun was now back refusal
-        ⊎ IsNoImage (HasGiven plain) (HasRefused plain) format plain.size slots was now made back refusal
+        ⊎ IsNoImage (HasGiven plain) (HasRefused plain) format plain.size slots was now made back
+        refusal
 
   -- no plain file was opened
   pub record HasNoPlain (refusal : Refusal) : Type 0 where

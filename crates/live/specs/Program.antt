@@ -5,31 +5,16 @@ use Rattle.medium.specs.declared.file_call.Access.TheVariants.{Change}
 use Rattle.spec.specs.{Packets.bytes_of, declared.packet_size.PacketSize.PacketSize}
 use Rattle.console.specs.declared.words.ArgumentFault.{ArgumentFault}
 use Rattle.console.specs.declared.words.ArgumentFault.TheVariants as argument
-use Rattle.device_file.specs.{Asked.Told, FileValue.{FileValue, GivesBlock, IsOpened}}
-use Rattle.device_file.specs.{Carried.AsksPart, declared.fault.FileFault.FileFault}
-use Rattle.window.specs.declared.call.DeviceCall.{DeviceCall}
+use Rattle.device_file.specs.FileValue.{FileValue, HasGiven, HasRefused, IsOpened}
+use Rattle.device_file.specs.{Carried.{at_once_of, told_of}, declared.fault.FileFault.FileFault}
 use Rattle.runner.specs.Live.{AreLiveWords, IsLiveLine}
 use Rattle.live.specs.Serving.{IsServedOn, IsNotServedOn}
 use Rattle.console.specs.{Status.refusal_of_argument, declared.refusal.Refusal.Refusal}
 use Rattle.console.specs.declared.refusal.Refusal.TheVariants as refused
 
--- what a file of the system was asked, and how many sectors it has
-abbrev pub told_of : FileValue → Told
-told_of file = file.told
-
--- by which calls of the file behind it was asked these at once
-abbrev pub at_once_of : FileValue → List DeviceCall → FileValue → Type 0
-at_once_of old calls new = AsksPart calls old.file new.file
-
+-- how many sectors a file of the system has
 abbrev pub size_of : FileValue → ℕ
 size_of file = file.size
-
--- std says nothing of what its reads give, nor of which it refuses
-abbrev pub holds_of : FileValue → ℕ → List ℕ → Type 0
-holds_of file = GivesBlock (λ at bytes. Unit {0})
-
-abbrev pub refuses_of : FileValue → ℕ → ℕ → Type 0
-refuses_of file first count = Unit {0}
 
 -- the file was opened to be changed, locked, measured, and asked for nothing else
 abbrev pub IsUnasked : FileValue → Type 0
@@ -67,14 +52,14 @@ module _ (device : List ℕ) (was now left after : Option (List ℕ)) (back : Op
   pub record IsLiveOn (opened : FileValue) (most : ℕ) : Type 0 where
     pub last : FileValue
     pub given : back ≡ Some last
-    pub served : IsServedOn told_of at_once_of holds_of refuses_of size_of device most opened was
+    pub served : IsServedOn told_of at_once_of HasGiven HasRefused size_of device most opened was
         now left after last
 
   -- why it was not
   pub record IsStoppedOn (opened : FileValue) (most : ℕ) (refusal : Refusal) : Type 0 where
     pub last : FileValue
     pub given : back ≡ Some last
-    pub refused : IsNotServedOn told_of at_once_of holds_of refuses_of size_of device most opened
+    pub refused : IsNotServedOn told_of at_once_of HasGiven HasRefused size_of device most opened
         was now left after last refusal
 
   -- The file at the path of this word was opened to be changed, locked, and only then measured, and
