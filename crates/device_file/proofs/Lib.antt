@@ -9,3 +9,4 @@ pub mod Given
 pub mod Carried
 pub mod Fresh
 pub mod Looks
+pub mod Ungiven
