@@ -14,7 +14,7 @@ use Rattle.disk_machine.specs.Lives.{Call, next, done, bulk_out, bulk_in, take_t
 use Rattle.disk_machine.specs.{Lives.{IsMade, turns_of, ServesLater, ServesThroughout, DeviceWitness}, Moves.{ServesOn, ServesEvent}}
 use Rattle.disk_machine.specs.{Packets.{TakesOne, SendsIn}, PuttingOff.{WaitsForSteps, WaitsForCalls}, Transfers.{TakesFirst, EndsTaking}}
 use Rattle.disk_machine.specs.{Moves.ServesToken, Transfers.{TakesTransfer, SendsAt, SendsFirst, EndsSending, SendsTransfer, SendsInto}}
-use Rattle.disk_machine.proofs.{Playing.{with_disk, steps_go_on, tick_serves}, Events.{opening_stays, some_since, writes_grow}}
+use Rattle.disk_machine.proofs.{Playing.{all_ahead, with_disk, steps_go_on, tick_serves}, Events.{opening_stays, some_since, writes_grow}}
 use Rattle.store_calls.proofs.CarriedOut.{all_carried, all_left}
 use Rattle.window.specs.declared.ask.DeviceAsk.TheVariants as ask
 use Rattle.spec.specs.declared.event.Event.TheVariants as event
@@ -57,7 +57,7 @@ module _ (old new : Machine) (bytes : List ℕ) (result : Result (Unit {0}) Done
 
 -- ---- steps in the background
 
-pub steps_run : (Holds : Disk → Type 0) (work : Work) (count : ℕ) (old : Machine) (new : Disk)
+pub steps_run : (Holds : Disk → Disk → Type 0) (work : Work) (count : ℕ) (old : Machine) (new : Disk)
     → StepsWhile Holds work count old.disk new
     → (told : ℕ) (book : Book) → Serves old told book → TurnsRun (over old.disk book) (ticks count) (over new book)
 steps_run Holds work zero old new same told book serves = ap (λ (d : Disk). over d book) same
@@ -144,7 +144,7 @@ nothing_changes old new same = subst (λ (s : Machine). LivesOn old [] s) (sym s
     (served_on old old [] (λ told book serves. serves) (λ book. refl))
 
 -- steps
-stepped : (Holds : Disk → Type 0) (work : Work) (count : ℕ) (old new : Machine) → StepsWhile Holds work count old.disk new.disk
+stepped : (Holds : Disk → Disk → Type 0) (work : Work) (count : ℕ) (old new : Machine) → StepsWhile Holds work count old.disk new.disk
     → ServesOn old new → LivesOn old (ticks count) new
 stepped Holds work count old new steps on told book serves = with_book old new (ticks count) told told book (omega arith)
     (on told book serves) (steps_run Holds work count old new.disk steps told book serves)
@@ -181,7 +181,8 @@ gone_ahead old new (inr (rests, inl (some, inl (left, writes)), others)) on =
     stepped _ WriteBack writes.count old new writes.steps on
 gone_ahead old new (inr (rests, inl (some, inr stays), others)) on =
     nothing_changes old new (others ∙ ap (λ (d : Disk). record old { disk = d }) stays.1)
-gone_ahead old new (inr (rests, inr (none, makes), others)) on = stepped _ Ahead makes.count old new makes.steps on
+gone_ahead old new (inr (rests, inr (none, makes), others)) on =
+    stepped _ Ahead _ old new (all_ahead old.most old.disk new.disk makes) on
 
 looked : (old new : Machine) (first count : ℕ) (reads : Bool) → LooksAhead old first count new reads → LivesOn old [] new
 looked old new first count true looks = served_on old new [] looks.stays.serves (λ book. rw looks.one.2 refl)

@@ -7,8 +7,9 @@ use Rattle.scsi_unit.specs.{Background.{Work, Settle, Ahead, WriteBack, TellsWor
 use Rattle.bot_machine.{specs.{Disk.over, PacketRuns.packet_of, Promising.PromisesNone}, proofs.UnitLaws.{ahead_fewer, both_empty}}
 use Rattle.bot_machine.proofs.UnitLaws.{plain_quiet}
 use Rattle.window.specs.Window.{state_of}
-use Rattle.disk_machine.specs.{Plays.{Disk, medium_of, PlaysBy, StepsWhile}, Refusals.{HasWritten, IsQuietPacket}, PuttingOff.MayGoOn}
-use Rattle.disk_machine.specs.{PuttingOff.{TellsNext, WritesOn}, Codes.code_of, Machine.Machine, Packets.{TakesOne, TakesOut, SendsIn}}
+use Rattle.disk_machine.specs.{Plays.{Before, Disk, medium_of, PlaysBy, StepsWhile}, Refusals.{HasWritten, IsQuietPacket}}
+use Rattle.disk_machine.specs.{PuttingOff.{MayGoOn, TellsNext, WritesOn}, Codes.code_of, Machine.Machine}
+use Rattle.disk_machine.specs.Packets.{TakesOne, TakesOut, SendsIn}
 use Rattle.disk_machine.specs.Transfers.{HasPacket, TakesFirst, SendsFirst}
 use Rattle.spec.specs.declared.event.Event.TheVariants as event
 use Rattle.spec.specs.declared.event.Answer.TheVariants as answer
@@ -45,7 +46,7 @@ module _ (mid new : Disk) (live : is_dead new.unit.store.cached ≡ false) where
 
 -- as many steps fewer are left as were made
 pub steps_fewer : (most : ℕ) (promises : Bool) (work : Work) (count : ℕ) (old new : Disk)
-    → StepsWhile (MayGoOn most promises work) work count old new → is_dead new.unit.store.cached ≡ false
+    → StepsWhile (Before (MayGoOn most promises work)) work count old new → is_dead new.unit.store.cached ≡ false
     → steps_left new.unit.store.cached + count ≤ steps_left old.unit.store.cached
 steps_fewer most promises work zero old new same live = omega (arith, ap (λ (d : Disk). steps_left d.unit.store.cached) same)
 steps_fewer most promises work (suc count) old new (mid, steps, may, plays) live =
@@ -54,7 +55,7 @@ steps_fewer most promises work (suc count) old new (mid, steps, may, plays) live
     omega (arith, rest, step_fewer mid new live promises work plays before may.next)
 
 -- steps leave the size of a packet
-steps_size : (Holds : Disk → Type 0) (work : Work) (count : ℕ) (old new : Disk) → StepsWhile Holds work count old new
+steps_size : (Holds : Disk → Disk → Type 0) (work : Work) (count : ℕ) (old new : Disk) → StepsWhile Holds work count old new
     → new.line.packet_size ≡ old.line.packet_size
 steps_size Holds work zero old new same = ap (λ (d : Disk). d.line.packet_size) same
 steps_size Holds work (suc count) old new (mid, steps, holds, plays) =
@@ -65,8 +66,8 @@ pub some_made : (most : ℕ) (promises : Bool) (work : Work) (old new : Disk) (w
     → MayGoOn most promises work old → 0 < writes.count
 some_made most promises work old new writes may = at writes.count writes.steps writes.ends
   where
-    at : (count : ℕ) → StepsWhile (MayGoOn most promises work) work count old new → (count ≡ 256) ⊎ (¬ MayGoOn most promises work new)
-        → 0 < count
+    at : (count : ℕ) → StepsWhile (Before (MayGoOn most promises work)) work count old new
+        → (count ≡ 256) ⊎ (¬ MayGoOn most promises work new) → 0 < count
     at (suc count) steps ends = omega arith
     at zero same (inl all) = omega (arith, all)
     at zero same (inr none) = absurd (none (subst (λ (d : Disk). MayGoOn most promises work d) (sym same) may))
@@ -91,7 +92,7 @@ size_stays old new packet code (inr (few, inr (free, inr (inl (none, serves)))))
 size_stays old new packet code (inr (few, inr (free, inr (inr puts)))) = elim puts.waits [
   | inl steps ↦
       let writes = steps.goes.writes in
-      steps_size (MayGoOn old.most puts.promises steps.work) steps.work writes.count old.disk new.disk writes.steps
+      steps_size (Before (MayGoOn old.most puts.promises steps.work)) steps.work writes.count old.disk new.disk writes.steps
   | inr calls ↦ ap (λ (s : Machine). s.disk.line.packet_size) calls.2
 ]
 

@@ -6,11 +6,12 @@ use Rattle.spec.specs.UnitConversation.{UnitStep}
 use Rattle.journal.specs.Places.{Shape}
 use Rattle.window.specs.{Story.given, declared.{call.DeviceCall.DeviceCall, asked.Asked.Asked}, Window.{Window, state_of}}
 use Rattle.scsi_unit.specs.{Background.{Work, Settle, Ahead, WriteBack}, Calls.SendsOneBatch}
-use Rattle.disk_machine.specs.{Plays.{medium_of, PlaysBy, Disk, Plays, SendsPacket, AnswersRequest, StepsWhile}, Room.room_for}
+use Rattle.disk_machine.specs.{Plays.{Before, medium_of, PlaysBy, Disk, Plays, SendsPacket, AnswersRequest, StepsWhile}, Room.room_for}
 use Rattle.disk_machine.specs.{Machine.{Machine, under_way, Serves, has_refused}, Moves.{KeepsGoing, HasRoomBeside, WaitsForDevice}}
 use Rattle.disk_machine.specs.{Moves.{LeavesNoMore, is_behind, ServesAtRest, ServesOn, ServesEvent, ServesToken}, Packets.PlaysOut}
 use Rattle.disk_machine.specs.{Packets.{waits_for, SendsIn, AnswersSetup, ServesOut}, declared.waiting.Waiting.Waiting, Refusals.HasRoomFor}
-use Rattle.disk_machine.{specs.{Idling.{HasGoneAhead, HasStepped}, PuttingOff.IsReady}, proofs.Handing.{leaves_no_more, keeps_all}}
+use Rattle.disk_machine.specs.Idling.{AsksAhead, EndsAhead, HasGoneAhead, HasStepped, IsShort, MakesAhead, made_ahead}
+use Rattle.disk_machine.{specs.{PuttingOff.IsReady}, proofs.Handing.{leaves_no_more, keeps_all}}
 use Rattle.disk_machine.proofs.{Rooms.none_sent_by, Events.serves_event}
 use Rattle.store_calls.proofs.Standing.{left_on, same_sent}
 use Rattle.bot_machine.{specs.{Acts.{Acts, EventCarriesOut}, Disk.{FitsDisk, over}}, proofs.UnitLaws.fits_size}
@@ -232,7 +233,7 @@ further old mid new first last = (
   },
 )
 
-pub steps_go_on : (Holds : Disk → Type 0) (work : Work) (count : ℕ) (old : Machine) (new : Disk)
+pub steps_go_on : (Holds : Disk → Disk → Type 0) (work : Work) (count : ℕ) (old : Machine) (new : Disk)
     → StepsWhile Holds work count old.disk new → GoesOn old (with_disk old new)
 steps_go_on Holds work zero old new same = rw same (itself old)
 steps_go_on Holds work (suc count) old new (mid, steps, holds, plays) =
@@ -241,7 +242,7 @@ steps_go_on Holds work (suc count) old new (mid, steps, holds, plays) =
       event_goes_on (with_disk old mid) (with_disk old new) _ _ plays refl,
     )
 
-pub made_goes_on : (Holds : Disk → Type 0) (work : Work) (count : ℕ) (old new : Machine)
+pub made_goes_on : (Holds : Disk → Disk → Type 0) (work : Work) (count : ℕ) (old new : Machine)
     → StepsWhile Holds work count old.disk new.disk → new ≡ record old { disk = new.disk } → GoesOn old new
 made_goes_on Holds work count old new steps others =
     rw others (steps_go_on Holds work count old new.disk steps)
@@ -250,9 +251,28 @@ pub idle_goes_on : (old new : Machine) → HasStepped old new → GoesOn old new
 idle_goes_on old new (inl held) = rw held.1 (itself old)
 idle_goes_on old new (inr made) = made_goes_on _ Settle made.1.count old new made.1.steps made.2
 
+-- all steps ahead that were made, of which is said that few calls waited
+few_waited : (most count : ℕ) (old new : Disk) → StepsWhile (AsksAhead most) Ahead count old new
+    → StepsWhile (Before (IsShort Ahead most)) Ahead count old new
+few_waited most zero old new same = same
+few_waited most (suc count) old new (mid, steps, asks, plays) = (mid, few_waited most count old mid steps, asks.short, plays)
+
+module _ (most : ℕ) (old new : Disk) (makes : MakesAhead most old new) where
+  pub all_ahead : StepsWhile (Before (IsShort Ahead most)) Ahead (made_ahead most makes.count makes.mid new makes.ends) old new
+  all_ahead = at makes.ends
+    where
+      steps : StepsWhile (Before (IsShort Ahead most)) Ahead makes.count old makes.mid
+      steps = few_waited most makes.count old makes.mid makes.steps
+
+      at : (ends : EndsAhead most makes.count makes.mid new)
+          → StepsWhile (Before (IsShort Ahead most)) Ahead (made_ahead most makes.count makes.mid new ends) old new
+      at (inl all) = rw all.1 steps
+      at (inr one) = (makes.mid, steps, one.1.0, one.1.1)
+
 pub ahead_goes_on : (old new : Machine) → HasGoneAhead old new → GoesOn old new
 ahead_goes_on old new (inl busy) = rw busy.1 (itself old)
 ahead_goes_on old new (inr (rests, inl (some, inl (left, writes)), others)) =
     made_goes_on _ WriteBack writes.count old new writes.steps others
 ahead_goes_on old new (inr (rests, inl (some, inr stays), others)) = rw others (rw stays.1 (itself old))
-ahead_goes_on old new (inr (rests, inr (none, makes), others)) = made_goes_on _ Ahead makes.count old new makes.steps others
+ahead_goes_on old new (inr (rests, inr (none, makes), others)) =
+    made_goes_on _ Ahead _ old new (all_ahead old.most old.disk new.disk makes) others

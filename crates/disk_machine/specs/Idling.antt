@@ -1,15 +1,19 @@
 -- What a machine does in the background.
-use Rattle.std.specs.Prelude.{◌≡◌, ◌≢◌, ◌⊎◌, ◌↔◌, ℕ, zero, suc, ◌<◌, ◌≤◌, Bool, true, false, []}
+use Rattle.std.specs.Prelude.{◌≡◌, ◌≢◌, ◌⊎◌, ◌↔◌, ℕ, suc, ◌<◌, ◌≤◌, Bool, true, false, []}
 use Rattle.std.specs.Prelude.{length}
+use Rattle.std.proofs.Common.{inl, inr}
 use Rattle.window.specs.Window.{state_of}
 use Rattle.scsi_unit.specs.Background.{Work, Settle, Ahead, WriteBack, is_dead, steps_left}
 use Rattle.scsi_unit.specs.Background.{IsSettled}
 use Rattle.bot_machine.specs.Turns.{owes_status}
-use Rattle.disk_machine.specs.{Plays.{Disk, medium_of, StepsWhile}, Machine.Machine, Moves.ServesOn}
+use Rattle.disk_machine.specs.{Plays.{Before, Disk, PlaysBy, medium_of, StepsWhile}}
+use Rattle.disk_machine.specs.{Machine.Machine, Moves.ServesOn}
 use Rattle.disk_machine.specs.{Moves.KeepsGoing, Packets.is_reading, PuttingOff.WritesOn}
 use Rattle.disk_machine.specs.{Refusals.HasWritten, declared.lack.Lack.Lack}
 use Rattle.disk_machine.specs.declared.waiting.Waiting.{Waiting}
 use Rattle.window.specs.declared.asked.Asked.TheVariants as asked
+use Rattle.spec.specs.declared.event.Event.TheVariants as event
+use Rattle.spec.specs.declared.event.Answer.TheVariants as answer
 use Rattle.disk_machine.specs.declared.lack.Lack.TheVariants as lack
 use Rattle.disk_machine.specs.declared.waiting.Waiting.TheVariants as waiting
 
@@ -36,19 +40,20 @@ IsShort Settle most disk =
     (length (medium_of disk).outbox ≤ most) × (length (medium_of disk).outbox < 64)
 IsShort _ most disk = length (medium_of disk).outbox ≤ most
 
--- so many steps in the background that work towards this, one by one, each while few calls wait
-abbrev pub StepsOn : Work → ℕ → ℕ → Disk → Disk → Type 0
-StepsOn work most count old new = StepsWhile (IsShort work most) work count old new
-
 -- no step is left, as `Disk::is_settled` tells
 abbrev pub IsAllDone : Disk → Type 0
 IsAllDone disk = (is_dead disk.unit.store.cached ≡ false) × (steps_left disk.unit.store.cached ≡ 0)
 
--- at most 32 steps, and fewer only where many calls wait or none is left
+-- a step is left, and few calls wait
+pub record MaySettle (most : ℕ) (disk : Disk) : Type 0 where
+  pub left : ¬ IsAllDone disk
+  pub short : IsShort Settle most disk
+
+-- Steps towards rest, each made while one is left and few calls wait: 32, or all that are.
 pub record MakesSteps (most : ℕ) (old new : Disk) : Type 0 where
   pub count : ℕ
   pub few : count ≤ 32
-  pub steps : StepsOn Settle most count old new
+  pub steps : StepsWhile (Before (MaySettle most)) Settle count old new
   pub ends : (count ≡ 32) ⊎ (IsAllDone new ⊎ (¬ IsShort Settle most new))
 
 -- steps are made where none is held back
@@ -69,20 +74,36 @@ pub record Idles (old new : Machine) (left : Bool) : Type 0 where
 
 -- ---- ahead of the next record
 
--- the last of so many steps ahead asked the device for nothing: none was to be made
-abbrev pub LastAsksNothing : (most count : ℕ) (old new : Disk) → StepsOn Ahead most count old new
-    → Type 0
-LastAsksNothing most zero old new same = ⊥
-LastAsksNothing most (suc count) old new (mid, first, short, plays) =
-    length (medium_of new).outbox ≡ length (medium_of mid).outbox
+-- a step ahead, made while few calls wait, asked the device for something
+pub record AsksAhead (most : ℕ) (old new : Disk) : Type 0 where
+  pub short : IsShort Ahead most old
+  pub asks : length (medium_of new).outbox ≢ length (medium_of old).outbox
 
--- At most 241 steps ahead, and fewer only where many calls wait or the last asked for nothing: the
--- head goes past a record, and all blocks of the next, of which a record has at most 240, go home.
+-- one more was made, and asked the device for nothing: none was to be made
+abbrev pub LastAsksNothing : ℕ → Disk → Disk → Type 0
+LastAsksNothing most mid new =
+    IsShort Ahead most mid × PlaysBy Ahead mid event.Tick answer.Ticked new
+    × (length (medium_of new).outbox ≡ length (medium_of mid).outbox)
+
+-- no more are made, since 241 were or many calls wait, or that one was the last
+abbrev pub EndsAhead : ℕ → ℕ → Disk → Disk → Type 0
+EndsAhead most count mid new = (((count ≡ 241) ⊎ (¬ IsShort Ahead most mid)) × (new ≡ mid))
+    ⊎ ((count < 241) × LastAsksNothing most mid new)
+
+-- the steps that were made, with the one that asked for nothing
+abbrev pub made_ahead : (most count : ℕ) (mid new : Disk) → EndsAhead most count mid new → ℕ
+made_ahead most count mid new (inl all) = count
+made_ahead most count mid new (inr one) = suc count
+
+-- Steps ahead, each of which asked for something while few calls waited; the first that asks for
+-- nothing is the last one. The head goes past a record, and all blocks of the next, of which a
+-- record has at most 240, go home.
 pub record MakesAhead (most : ℕ) (old new : Disk) : Type 0 where
   pub count : ℕ
   pub few : count ≤ 241
-  pub steps : StepsOn Ahead most count old new
-  pub ends : (count ≡ 241) ⊎ (LastAsksNothing most count old new steps ⊎ (¬ IsShort Ahead most new))
+  pub mid : Disk
+  pub steps : StepsWhile (AsksAhead most) Ahead count old mid
+  pub ends : EndsAhead most count mid new
 
 -- The device rests: it is at no call, and none waits for it, nor are sectors to be read. Nothing
 -- waits until it has carried out all, and each command has its status.

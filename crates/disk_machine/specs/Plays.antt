@@ -117,8 +117,12 @@ pub record EndsIn (first after : Window) (why : StartFault) : Type 0 where
   pub unseen : why ≡ fault.Read → list_all (is_in_sight first) follows.looks ≡ false
   pub sighted : SeesStart first → why ≢ fault.Read
 
--- so many steps that work towards this, each made while this holds of the disk
-abbrev pub StepsWhile : (Disk → Type 0) → Work → ℕ → Disk → Disk → Type 0
+-- a step of which this holds before it
+abbrev pub Before : (Disk → Type 0) → Disk → Disk → Type 0
+Before Holds old new = Holds old
+
+-- so many steps that work towards this, one by one, each as this says
+abbrev pub StepsWhile : (Disk → Disk → Type 0) → Work → ℕ → Disk → Disk → Type 0
 StepsWhile Holds work zero old new = new ≡ old
 StepsWhile Holds work (suc count) old new = (mid : Disk) × StepsWhile Holds work count old mid
-    × Holds mid × PlaysBy work mid event.Tick answer.Ticked new
+    × Holds mid new × PlaysBy work mid event.Tick answer.Ticked new

@@ -5,7 +5,7 @@ use Rattle.spec.specs.Book.{Book}
 use Rattle.scsi_unit.specs.Background.{Work, WriteBack, TellsWork, is_dead, steps_left}
 use Rattle.scsi_unit.specs.UnitValue.{IsOfSize}
 use Rattle.bot_machine.specs.{Disk.over, Promising.{PromisesIn, PromisesNone}}
-use Rattle.disk_machine.specs.{Plays.{Disk, medium_of, StepsWhile}, Refusals.IsQuietPacket}
+use Rattle.disk_machine.specs.{Plays.{Before, Disk, medium_of, StepsWhile}, Refusals.IsQuietPacket}
 use Rattle.disk_machine.specs.{Refusals.{HasWritten, NeedsRecordAlone}, Machine.Machine}
 use Rattle.disk_machine.specs.Moves.{ServesOn, KeepsGoing}
 use Rattle.spec.specs.declared.event.Event.TheVariants as event
@@ -44,7 +44,7 @@ pub record MayGoOn (most : ℕ) (promises : Bool) (work : Work) (disk : Disk) : 
 pub record WritesOn (most : ℕ) (promises : Bool) (work : Work) (old new : Disk) : Type 0 where
   pub count : ℕ
   pub few : count ≤ 256
-  pub steps : StepsWhile (MayGoOn most promises work) work count old new
+  pub steps : StepsWhile (Before (MayGoOn most promises work)) work count old new
   pub ends : (count ≡ 256) ⊎ (¬ MayGoOn most promises work new)
 
 -- the disk makes steps, and nothing else of the machine changes

@@ -4,8 +4,8 @@ use Rattle.std.proofs.Common.{inl, inr}
 use Rattle.spec.specs.{Rules.UnitState, Conversation.Conversation, UnitConversation.UnitStep}
 use Rattle.spec.specs.{UnitConversation.UnitRun, declared.event.{Event.Event, Answer.Answer}}
 use Rattle.bot_machine.specs.{Faulting.faulted_over, PacketRuns.packet_of}
-use Rattle.disk_machine.specs.{Idling.{HasGoneAhead, HasStepped, WorksAtRest}, Machine.Machine}
-use Rattle.disk_machine.specs.{Packets.{TakesOne, TakesOut, SendsIn}, Plays.Disk}
+use Rattle.disk_machine.specs.{Idling.{HasGoneAhead, HasStepped, WorksAtRest, made_ahead}}
+use Rattle.disk_machine.specs.{Machine.Machine, Packets.{TakesOne, TakesOut, SendsIn}, Plays.Disk}
 use Rattle.disk_machine.specs.{PuttingOff.{WaitsForSteps, WaitsForCalls}, Transfers.TakesFirst}
 use Rattle.disk_machine.specs.Transfers.{EndsTaking, TakesTransfer, SendsAt, SendsFirst}
 use Rattle.disk_machine.specs.Transfers.{EndsSending, SendsTransfer, SendsInto}
@@ -93,7 +93,8 @@ turns_idle old new (inr (free, makes, others)) = ticks makes.count
 abbrev pub ticks_at_rest : (most : ℕ) (old new : Disk) → WorksAtRest most old new → List Turn
 ticks_at_rest most old new (inl (some, inl (left, writes))) = ticks writes.count
 ticks_at_rest most old new (inl (some, inr stays)) = []
-ticks_at_rest most old new (inr (none, makes)) = ticks makes.count
+ticks_at_rest most old new (inr (none, makes)) =
+    ticks (made_ahead most makes.count makes.mid new makes.ends)
 
 abbrev pub turns_ahead : (old new : Machine) → HasGoneAhead old new → List Turn
 turns_ahead old new (inl busy) = []

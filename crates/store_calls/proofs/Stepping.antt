@@ -3,11 +3,12 @@ use Rattle.std.proofs.{Common.{◌≡◌, ◌*◌, ◌+◌, ℕ, suc, Bool, true
 use Rattle.blocks.specs.{Passing.PassesOn, StoreValue.is_dead, Turns.IsTurn, declared.work.Work.Work}
 use Rattle.blocks.proofs.{SectorsRead.{none, looks_on}, TurnsJoined.{stays, turns}}
 use Rattle.window.specs.{Window.{state_of, ComesAfter}, WindowLaws.{is_sound, comes_after_itself, comes_after_through}}
-use Rattle.store_calls.specs.{Calls.IsStep, Idling.{AreSteps, IsShort}, Rooms.{Appends, Foresees, IsRoomy, HasRoom, HoldsLog}, Stores.Store}
+use Rattle.store_calls.specs.{Calls.IsStep, Idling.{AreSteps, IsShort}, Stores.Store}
+use Rattle.store_calls.specs.Rooms.{Appends, Foresees, IsRoomy, HasRoom, HoldsLog, RefusesNothing}
 use Rattle.store_calls.proofs.{Served.holds_on}
 
 -- no step
-pub none_made : (May : Store → Type 0) (work : Work) (s : Store) → AreSteps May work 0 s s
+pub none_made : (May : Store → Store → Type 0) (work : Work) (s : Store) → AreSteps May work 0 s s
 none_made May work s = record {
   steps = refl;
   passes = record {
@@ -44,7 +45,7 @@ joined first second old mid new a b = record {
 }
 
 -- one step more
-module _ (May : Store → Type 0) (work : Work) (count : ℕ) (old mid new : Store) (made : AreSteps May work count old mid) (may : May mid)
+module _ (May : Store → Store → Type 0) (work : Work) (count : ℕ) (old mid new : Store) (made : AreSteps May work count old mid)
     (short : IsShort mid) (step : IsStep work mid new) where
   -- it has room where few calls wait, and the log is in memory still
   room : IsRoomy old → HasRoom mid
@@ -55,27 +56,35 @@ module _ (May : Store → Type 0) (work : Work) (count : ℕ) (old mid new : Sto
       let on = made.passes.turn.goes_on in
       holds_on old mid on.keeps_stays on.layout_stays made.passes.follows.near_stays
 
-  pub one_more : AreSteps May work (count + 1) old new
-  one_more =
-      let next : AreSteps May work (suc count) old new = record {
-        steps = (mid, made.steps, may, step);
-        passes = subst (λ (n : ℕ). PassesOn state_of ComesAfter IsTurn n n old new) (omega arith)
-            (joined (2 * count) 2 old mid new made.passes step.passes);
-        refuses = record {
-          kept = λ roomy. step.appends.refuses.kept (room roomy) ∙ made.refuses.kept roomy;
-          seen = λ sight. step.appends.refuses.seen (log sight) ∙ made.refuses.seen sight;
-          none = λ roomy sight. step.appends.refuses.none (room roomy) (log sight) ∙ made.refuses.none roomy sight;
-        };
-      } in
-      subst (λ (n : ℕ). AreSteps May work n old new) (omega arith) next
+  pub passes_on : PassesOn state_of ComesAfter IsTurn (2 * suc count) (2 * suc count) old new
+  passes_on = subst (λ (n : ℕ). PassesOn state_of ComesAfter IsTurn n n old new) (omega arith)
+      (joined (2 * count) 2 old mid new made.passes step.passes)
 
--- their calls are appended
-pub steps_append : (May : Store → Type 0) (work : Work) (count : ℕ) (old new : Store) → Foresees old.medium
-    → AreSteps May work count old new → Appends (IsRoomy old) old new
-steps_append May work count old new sees made = record {
-  follows = made.passes.follows;
-  covers = sees.covers new.medium made.passes.follows;
-  parts = sees.parts new.medium made.passes.follows;
-  served = sees.served new.medium made.passes.follows;
-  refuses = made.refuses;
+  pub refuses_on : RefusesNothing (IsRoomy old) (HoldsLog old) old.medium new.medium
+  refuses_on = record {
+    kept = λ roomy. step.appends.refuses.kept (room roomy) ∙ made.refuses.kept roomy;
+    seen = λ sight. step.appends.refuses.seen (log sight) ∙ made.refuses.seen sight;
+    none = λ roomy sight. step.appends.refuses.none (room roomy) (log sight) ∙ made.refuses.none roomy sight;
+  }
+
+  pub one_more : May mid new → AreSteps May work (count + 1) old new
+  one_more may = subst (λ (n : ℕ). AreSteps May work n old new) (omega arith) (record {
+    steps = (mid, made.steps, may, step);
+    passes = passes_on;
+    refuses = refuses_on;
+  })
+
+-- calls that come after these are appended
+pub appended : (old new : Store) → Foresees old.medium → ComesAfter old.medium new.medium
+    → RefusesNothing (IsRoomy old) (HoldsLog old) old.medium new.medium → Appends (IsRoomy old) old new
+appended old new sees follows refuses = record {
+  follows = follows;
+  covers = sees.covers new.medium follows;
+  parts = sees.parts new.medium follows;
+  served = sees.served new.medium follows;
+  refuses = refuses;
 }
+
+pub steps_append : (May : Store → Store → Type 0) (work : Work) (count : ℕ) (old new : Store) → Foresees old.medium
+    → AreSteps May work count old new → Appends (IsRoomy old) old new
+steps_append May work count old new sees made = appended old new sees made.passes.follows made.refuses

@@ -5,7 +5,7 @@ use Rattle.std.specs.{Prelude.◌∷◌}
 use Rattle.window.specs.{Window.state_of}
 use Rattle.blocks.specs.{Headroom.IsSparing, StoreValue.{is_dead, steps_left}, Written.IsWritten, declared.work.Work.TheVariants.WriteBack}
 use Rattle.blocks.proofs.{EmptyBatches.none_of, FlushesOnce.sparing_all}
-use Rattle.store_calls.specs.{Calls.IsStep, Idling.{AreSteps, StepsOn}, Rooms.Foresees, Stores.Store}
+use Rattle.store_calls.specs.{Calls.IsStep, Idling.{AreSteps, Before, StepsOn}, Rooms.Foresees, Stores.Store}
 use Rattle.store_calls.specs.{WritingBack.{IsLeft, MayWriteBack, WritesBack}, declared.writing_back.Aim.Aim}
 use Rattle.store_calls.proofs.Stepping.{lived, steps_append}
 use Rattle.store_calls.specs.declared.writing_back.Aim.TheVariants as aim
@@ -17,7 +17,7 @@ unwritten aim.Batch s left (inr none) = absurd (left.1 (none_of s.cached.frozen.
 unwritten aim.Records s left written = left written
 
 -- as many steps fewer are left as were made
-steps_fewer : (a : Aim) (count : ℕ) (old new : Store) → StepsOn (MayWriteBack a) WriteBack count old new
+steps_fewer : (a : Aim) (count : ℕ) (old new : Store) → StepsOn (Before (MayWriteBack a)) WriteBack count old new
     → is_dead new.cached ≡ false → steps_left new.cached + count ≤ steps_left old.cached
 steps_fewer a zero old new same live = omega (arith, ap (λ (s : Store). steps_left s.cached) same)
 steps_fewer a (suc count) old new (mid, steps, may, step) live =
@@ -38,7 +38,7 @@ sparing old new step = record {
 }
 
 -- and all
-steps_sparing : (May : Store → Type 0) (count : ℕ) (old new : Store) → StepsOn May WriteBack count old new
+steps_sparing : (May : Store → Store → Type 0) (count : ℕ) (old new : Store) → StepsOn May WriteBack count old new
     → IsSparing state_of old new
 steps_sparing May zero old new same = subst (λ (s : Store). IsSparing state_of old s) (sym same) (record {
   policy = refl;
@@ -50,22 +50,22 @@ steps_sparing May (suc count) old new (mid, steps, may, step) =
     sparing_all state_of old new (mid ∷ []) (steps_sparing May count old mid steps, sparing mid new step)
 
 pub writes_back : (a : Aim) (count : ℕ) (old new : Store) → Foresees old.medium → count ≤ 256
-    → AreSteps (MayWriteBack a) WriteBack count old new → (count ≡ 256) ⊎ (¬ MayWriteBack a new) → WritesBack a old new
+    → AreSteps (Before (MayWriteBack a)) WriteBack count old new → (count ≡ 256) ⊎ (¬ MayWriteBack a new) → WritesBack a old new
 writes_back a count old new sees few made ends = record {
   count = count;
   few = few;
   made = made;
   ends = ends;
   fewer = steps_fewer a count old new made.steps;
-  sparing = steps_sparing (MayWriteBack a) count old new made.steps;
-  appends = steps_append (MayWriteBack a) WriteBack count old new sees made;
+  sparing = steps_sparing (Before (MayWriteBack a)) count old new made.steps;
+  appends = steps_append (Before (MayWriteBack a)) WriteBack count old new sees made;
 }
 
 -- one step at least is made where one may be
 pub some_made : (a : Aim) (old new : Store) (writes : WritesBack a old new) → MayWriteBack a old → 0 < writes.count
 some_made a old new writes may = at writes.count writes.made.steps writes.ends
   where
-    at : (count : ℕ) → StepsOn (MayWriteBack a) WriteBack count old new → (count ≡ 256) ⊎ (¬ MayWriteBack a new) → 0 < count
+    at : (count : ℕ) → StepsOn (Before (MayWriteBack a)) WriteBack count old new → (count ≡ 256) ⊎ (¬ MayWriteBack a new) → 0 < count
     at (suc count) steps ends = omega arith
     at zero same (inl all) = omega (arith, all)
     at zero same (inr none) = absurd (none (rw same may))

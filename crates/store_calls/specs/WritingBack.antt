@@ -3,7 +3,8 @@ use Rattle.std.specs.Prelude.{◌≡◌, ◌≢◌, ◌⊎◌, ℕ, ◌+◌, ◌
 use Rattle.window.specs.{Window.state_of}
 use Rattle.blocks.specs.{Headroom.IsSparing, StoreValue.{is_dead, steps_left}, Written.IsWritten}
 use Rattle.blocks.specs.{declared.work.Work.TheVariants.WriteBack}
-use Rattle.store_calls.specs.{Idling.{AreSteps, IsShort}, Rooms.{Appends, IsRoomy}, Stores.Store}
+use Rattle.store_calls.specs.{Idling.{AreSteps, Before, IsShort}, Rooms.{Appends, IsRoomy}}
+use Rattle.store_calls.specs.{Stores.Store}
 use Rattle.store_calls.specs.{declared.writing_back.Aim.Aim}
 use Rattle.store_calls.specs.declared.writing_back.Aim.TheVariants as aim
 
@@ -25,7 +26,7 @@ pub record MayWriteBack (aim : Aim) (s : Store) : Type 0 where
 pub record WritesBack (aim : Aim) (old new : Store) : Type 0 where
   pub count : ℕ
   pub few : count ≤ 256
-  pub made : AreSteps (MayWriteBack aim) WriteBack count old new
+  pub made : AreSteps (Before (MayWriteBack aim)) WriteBack count old new
   pub ends : (count ≡ 256) ⊎ (¬ MayWriteBack aim new)
   pub fewer : is_dead new.cached ≡ false → steps_left new.cached + count ≤ steps_left old.cached
   pub sparing : IsSparing state_of old new

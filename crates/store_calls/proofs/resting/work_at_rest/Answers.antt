@@ -1,7 +1,7 @@
 use Rattle.std.proofs.Common.{◌≡◌, true, refl, rules}
 use Rattle.window.specs.{Window.state_of, WindowLaws.is_sound}
 use Rattle.blocks.proofs.{TurnsJoined.stays}
-use Rattle.store_calls.specs.{WritingBack.IsLeft, declared.writing_back.Aim.TheVariants.Batch, Idling.IsShort}
+use Rattle.store_calls.specs.{WritingBack.IsLeft, declared.writing_back.Aim.TheVariants.Batch, Idling.AsksAhead}
 use Rattle.blocks.specs.{declared.work.Work.TheVariants.Ahead}
 use Rattle.store_calls.proofs.Stepping.{none_made, steps_append}
 use Rattle.store_calls.proofs.resting.work_at_rest.Goals as goal
@@ -13,7 +13,7 @@ returns-else-not-put_off c =
       batch = λ left. absurd (none left);
       ahead = λ no is. absurd (search rules);
       rests = λ no is. refl;
-      appends = steps_append IsShort Ahead 0 c.args.store.now c.args.store.now c.foresee.ensures
-          (none_made IsShort Ahead c.args.store.now);
+      appends = steps_append AsksAhead Ahead 0 c.args.store.now c.args.store.now c.foresee.ensures
+          (none_made AsksAhead Ahead c.args.store.now);
       turn = stays (state_of c.args.store.now.medium) c.args.store.now.cached (is_sound c.args.store.now.medium);
     }
