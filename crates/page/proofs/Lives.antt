@@ -1,25 +1,37 @@
 -- What steps leave of a life.
-use Rattle.std.proofs.Common.{◌≡◌, ℕ, ◌+◌, ◌-◌, ◌^◌, List, [], ◌∷◌, ◌++◌, length, min, true, refl, sym, subst, ap, arith, length-append}
-use Rattle.std.proofs.Common.{inl, inr, ⊎_elim, replicate, Ok, Err}
-use Rattle.medium.specs.Medium.{Image, CutLeaves}
+use Rattle.std.proofs.Common.{◌≡◌, ℕ, ◌+◌, ◌-◌, ◌^◌, List, [], ◌∷◌, ◌++◌, length, min, true, refl, sym, subst, ap, arith}
+use Rattle.std.proofs.Common.{◌⊎◌, ◌∙◌, ◌<◌, ◌≤◌, false, length-append, inl, inr, ⊎_elim, replicate, Ok, Err}
+use Rattle.std.proofs.{lemmas.Bool.cases_Bool}
+use Rattle.medium.specs.Medium.{Image, State, CutLeaves}
+use Rattle.medium.specs.declared.fault.MediumFault.TheVariants.{Read}
 use Rattle.medium.specs.Moments.{IsFlushed}
 use Rattle.medium.specs.Sim.{Sim, state_of}
 use Rattle.medium.specs.SimLaws.{is_sound}
 use Rattle.medium.proofs.Moments.{only_image}
 use Rattle.spec.specs.Blocks.{Write}
-use Rattle.spec.specs.Book.{Book, after_first, opened}
+use Rattle.spec.specs.Book.{Book, StampsOut, after_first, opened, with_write}
 use Rattle.blocks.specs.Finding.{MayFind}
 use Rattle.blocks.specs.Opening.{OpensOn}
 use Rattle.blocks.specs.Started.{LeavesMedium}
 use Rattle.blocks.proofs.KnownImages.{finds, each_ours, stands_for_opening}
-use Rattle.page.specs.Books.{Outcome, Opens, Carries, MayCarry}
+use Rattle.blocks.specs.{StoreValue.{Cached, StoreValue, FitsBook, blocks_of, is_dead}, Turns.{GoesOn, IsReadCause}}
+use Rattle.blocks.specs.declared.fault.StoreFault.{TheVariants.{ReadFault, Dead}, StoreFault}
+use Rattle.page.specs.Books.{Carries, MayCarry}
+use Rattle.page.specs.Causes.{Outcome, Answers, HasDied}
+use Rattle.page.specs.Extents.{LiesWithin, filled}
+use Rattle.page.specs.Standing.{KeepsLives, next_life}
 use Rattle.journal.specs.Places.{Shape}
 use Rattle.journal.specs.Standing.{IsOurs}
 use Rattle.recovery.specs.Calls.{IsFormatted}
 use Rattle.page.specs.Scripts.{formatted}
-use Rattle.page.specs.Scenes.{LeavesBook, Counts}
+use Rattle.page.specs.Scenes.{Finds, LeavesBook, Counts}
 use Rattle.page.specs.declared.life.Life.{Life}
+use Rattle.page.specs.declared.extent.Extent.{Extent}
+use Rattle.page.specs.declared.fault.Fault.{Fault}
+use Rattle.page.specs.declared.fault.Fault.TheVariants.{Lost, Idle, Refused, Failed, NoMemory}
 use Rattle.page.specs.declared.step.Command.{Command}
+use Rattle.page.specs.declared.step.Command.TheVariants.{Force, Sync}
+use Rattle.page.specs.declared.step.Command.TheVariants as command
 
 -- one write more is counted
 pub counts_one : (number next : ℕ) (writes : List Write) (write : Write) → number ≡ min (2 ^ 64 - 1) (length writes)
@@ -27,11 +39,77 @@ pub counts_one : (number next : ℕ) (writes : List Write) (write : Write) → n
 counts_one number next writes write is then = simp length-append (omega (arith, is, then))
 
 -- a life that begins has no writes
-pub counts_none : (life : Life) (book : Book) → life.accepted ≡ 0 → life.promised ≡ 0 → book.writes ≡ [] → book.mark ≡ 0
-    → Counts life book
-counts_none life book accepted promised none mark =
+pub counts_none : (was life : Life) (book : Book) → life ≡ next_life was → book.writes ≡ [] → book.mark ≡ 0 → Counts life book
+counts_none was life book next none mark =
     let empty : length book.writes ≡ 0 = ap (λ (ws : List Write). length ws) none in
+    let accepted : life.accepted ≡ 0 = ap (λ (l : Life). l.accepted) next in
+    let promised : life.promised ≡ 0 = ap (λ (l : Life). l.promised) next in
     record { accepted = omega (arith, accepted, empty); promised = omega (arith, promised, mark) }
+
+-- the lives before stay over two commands
+pub lives_on : (was mid life : Life) → KeepsLives was mid → KeepsLives mid life → KeepsLives was life
+lives_on was mid life first second =
+    second ∙ ap (λ (l : Life). record l { accepted = life.accepted; promised = life.promised }) first
+
+-- why a store died, by its book afterwards
+pub died : (old new : StoreValue Sim) (book later : Book)
+    → GoesOn (state_of old.medium) (state_of new.medium) old.cached new.cached → FitsBook (state_of old.medium) old.cached book
+    → (StampsOut book → StampsOut later) → is_dead old.cached ≡ false → is_dead new.cached ≡ true
+    → HasDied old.medium new.medium later
+died old new book later on fits out live dead = ⊎_elim inl (λ none. inr (out (none book fits))) (on.cause live dead)
+
+-- a write more leaves no stamps
+pub out_with : (book : Book) (write : Write) → StampsOut book → StampsOut (with_write book write)
+out_with book write out = simp length-append (omega (arith, out))
+
+-- a read of a store that is dead afterwards, or of a medium that refused one
+pub unread : (before after : State) (old : Cached) (why : StoreFault) → IsReadCause before after old why
+    → (is_dead old ≡ true) ⊎ (before.refused Read < after.refused Read)
+unread before after old ReadFault cause = inr cause.1
+unread before after old Dead dead = inl dead
+
+-- ---- a write that a sync follows
+
+module _ (extent : Extent) (book : Book) where
+  abbrev with_it : Book
+  with_it = with_write book (filled extent)
+
+  pub forces : (result : Outcome) (later : Book) → Carries Sync result with_it later → Carries (Force extent) result book later
+  forces (Ok done) later e = e
+  forces (Err why) later e = ⊎_elim inr inr e
+
+  pub force_answers : (result : Outcome) (old mid new : StoreValue Sim) → LiesWithin extent (blocks_of old.cached)
+      → Answers Sync result mid new → Answers (Force extent) result old new
+  force_answers (Ok done) old mid new within answers = within
+  force_answers (Err Refused) old mid new within answers = absurd (answers.0 tt)
+  force_answers (Err NoMemory) old mid new within answers = absurd answers.1
+  force_answers (Err Failed) old mid new within answers = (within, ⊎_elim inl (λ read. absurd read.0) answers.1)
+  force_answers (Err Lost) old mid new within answers = answers
+  force_answers (Err Idle) old mid new within answers = answers
+
+  -- where the write was not good, that is why
+  pub force_unwritten : (why : Fault) (old new : StoreValue Sim) → Answers (command.Write extent) (Err why) old new
+      → Answers (Force extent) (Err why) old new
+  force_unwritten Refused old new cause = cause
+  force_unwritten NoMemory old new cause = cause
+  force_unwritten Failed old new cause = (cause.0, ⊎_elim inl (λ read. absurd read.0) cause.1)
+  force_unwritten Lost old new cause = cause
+  force_unwritten Idle old new cause = cause
+
+  out_on : (result : Outcome) (later : Book) → Carries Sync result with_it later → StampsOut with_it → StampsOut later
+  out_on (Ok done) later e out = rw e out
+  out_on (Err why) later (inl e) out = rw e out
+  out_on (Err why) later (inr e) out = rw e out
+
+  pub force_dies : (result : Outcome) (old mid new : StoreValue Sim) (later : Book) → Carries Sync result with_it later
+      → (state_of old.medium).failures ≤ (state_of mid.medium).failures → (state_of mid.medium).failures ≤ (state_of new.medium).failures
+      → (is_dead old.cached ≡ false → is_dead mid.cached ≡ true → HasDied old.medium mid.medium with_it)
+      → (is_dead mid.cached ≡ false → is_dead new.cached ≡ true → HasDied mid.medium new.medium later)
+      → is_dead old.cached ≡ false → is_dead new.cached ≡ true → HasDied old.medium new.medium later
+  force_dies result old mid new later carries less more first second live dead = elim (cases_Bool (is_dead mid.cached)) [
+    | inl gone ↦ ⊎_elim (λ few. inl (omega (arith, few, more))) (λ out. inr (out_on result later carries out)) (first live gone)
+    | inr lives ↦ ⊎_elim (λ few. inl (omega (arith, few, less))) inr (second lives dead)
+  ]
 
 -- a command that was carried out or failed may have been carried out
 pub may_carry : (command : Command) (result : Outcome) (old new : Book) → Carries command result old new → MayCarry command old new
@@ -55,8 +133,13 @@ module _ (m : Sim) (book : Book) (leaves : LeavesBook m book) where
   abbrev pub next_book : Book
   next_book = opened book.blocks (after_first found.count book) found.next true
 
-  pub opens_next : Opens book next_book
-  opens_next = record { count = found.count; promises = found.promises; accepted = found.accepted; opens = refl }
+  pub finds_next : Finds book next_book
+  finds_next = record {
+    opens = record { count = found.count; promises = found.promises; accepted = found.accepted; opens = refl };
+    none = refl;
+    mark = refl;
+    ours = refl;
+  }
 
   pub on_next : OpensOn (state_of m) next_book
   on_next = record {

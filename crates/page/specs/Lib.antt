@@ -1,8 +1,11 @@
 pub mod Extents
+pub mod Standing
+pub mod Causes
 pub mod Books
 pub mod Cuts
 pub mod Scenes
 pub mod Scripts
 pub mod Roles
+pub mod Words
 pub mod Pictures
 pub mod Told

@@ -5,15 +5,10 @@ use Rattle.medium.specs.Sim.{Sim, state_of}
 use Rattle.medium.specs.declared.unflushed.UnflushedWrite.{UnflushedWrite}
 use Rattle.journal.specs.declared.super_sector.Super.{Super}
 use Rattle.spec.specs.Book.{Book, array_of, blocks_at}
+use Rattle.page.specs.Standing.{medium_of}
 use Rattle.page.specs.declared.place.Place.{Place}
 use Rattle.page.specs.declared.place.Place.TheVariants.{Runs, Off, Between}
 use Rattle.page.specs.declared.scene.Scene.{Scene}
-
--- the medium of a disk that runs, or that is left
-abbrev pub medium_of : Place → Sim
-medium_of (Runs store) = store.medium
-medium_of (Off m) = m
-medium_of (Between m) = m
 
 -- a disk runs, the power is off, or it is on again and no disk runs
 abbrev pub place_code : Place → ℕ

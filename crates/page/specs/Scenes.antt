@@ -1,12 +1,14 @@
 -- What a scene holds.
-use Rattle.std.specs.Prelude.{◌≡◌, ◌-◌, ◌^◌, true, [], min, length}
+use Rattle.std.specs.Prelude.{◌≡◌, ◌≤◌, ◌-◌, ◌^◌, Bool, true, false, [], min, length}
 use Rattle.medium.specs.Moments.{EachCut, IsFlushed}
-use Rattle.medium.specs.Sim.{Sim, state_of}
+use Rattle.medium.specs.Sim.{Sim, state_of, ComesAfter}
 use Rattle.spec.specs.Book.{Book}
-use Rattle.blocks.specs.Finding.{MayFind}
-use Rattle.blocks.specs.StoreValue.{StoreValue, FitsBook}
-use Rattle.page.specs.Books.{Phase, runs, off, between, Standing, Outcome, Carries, Commands}
-use Rattle.page.specs.Books.{Opens, Starts, Turns}
+use Rattle.recovery.specs.declared.start_fault.StartFault.{StartFault}
+use Rattle.blocks.specs.{Finding.MayFind, Started.IsStartCause}
+use Rattle.blocks.specs.StoreValue.{StoreValue, FitsBook, is_dead}
+use Rattle.page.specs.Books.{Carries, CommandsStore, Opens, StartsOn, Turns}
+use Rattle.page.specs.Causes.{Outcome, Answers, HasDied, HasPolicy}
+use Rattle.page.specs.Standing.{KeepsLives, Standing, standing}
 use Rattle.page.specs.declared.life.Life.{Life}
 use Rattle.page.specs.declared.place.Place.{Place}
 use Rattle.page.specs.declared.place.Place.TheVariants.{Runs, Off, Between}
@@ -30,14 +32,10 @@ pub record Has (life : Life) (store : StoreValue Sim) (book : Book) : Type 0 whe
   pub ours : book.ours ≡ true
   pub counts : Counts life book
 
-abbrev pub phase_of : Place → Phase
-phase_of (Runs store) = runs
-phase_of (Off m) = off
-phase_of (Between m) = between
-
 -- what a place holds of a book
 abbrev pub HoldsAt : Place → Book → Type 0
-HoldsAt (Runs store) book = FitsBook (state_of store.medium) store.cached book
+HoldsAt (Runs store) book =
+    FitsBook (state_of store.medium) store.cached book × (is_dead store.cached ≡ false)
 HoldsAt (Off m) book = LeavesBook m book
 HoldsAt (Between m) book = LeavesBook m book × IsFlushed (state_of m)
 
@@ -47,9 +45,6 @@ pub record Shows (scene : Scene) (book : Book) : Type 0 where
   pub ours : book.ours ≡ true
   pub counts : Counts scene.life book
 
-abbrev pub standing : Scene → Book → Standing
-standing scene book = record { phase = phase_of scene.place; book = book }
-
 -- a step is played: on each book that the scene shows
 pub record Plays (step : Step) (result : Outcome) (old : Scene) (book : Book) (new : Scene)
     : Type 0 where
@@ -57,47 +52,59 @@ pub record Plays (step : Step) (result : Outcome) (old : Scene) (book : Book) (n
   pub shows : Shows new later
   pub turns : Turns step result (standing old book) (standing new later)
 
--- a store carries a command out, on each book that it has
-pub record Carried (command : Command) (result : Outcome) (old : Book) (life : Life)
-    (store : StoreValue Sim) : Type 0 where
+-- A store carries a command out, on each book that it has: by calls of its medium alone.
+pub record Carried (command : Command) (result : Outcome) (old : Book) (was : Life)
+    (store : StoreValue Sim) (life : Life) (after : StoreValue Sim) : Type 0 where
   pub later : Book
-  pub has : Has life store later
+  pub has : Has life after later
   pub carries : Carries command result old later
+  pub answers : Answers command result store after
+  pub dies : is_dead store.cached ≡ false → is_dead after.cached ≡ true
+      → HasDied store.medium after.medium later
+  pub refusals : (state_of store.medium).failures ≤ (state_of after.medium).failures
+  pub policy : after.goes_ahead ≡ store.goes_ahead
+  pub follows : ComesAfter store.medium after.medium
+  pub lives : KeepsLives was life
 
 abbrev pub Serves : Command → Outcome → Life → StoreValue Sim → Book → Life → StoreValue Sim
     → Type 0
 Serves command result life store book next after =
-    Has life store book → Carried command result book next after
+    Has life store book → Carried command result book life store next after
 
 -- a command came to a disk that runs
-pub record Commanded (command : Command) (result : Outcome) (old : Book) (new : Scene)
-    : Type 0 where
+pub record Commanded (command : Command) (result : Outcome) (store : StoreValue Sim)
+    (old : Standing) (new : Scene) : Type 0 where
   pub later : Book
   pub shows : Shows new later
-  pub commands : Commands command result runs
-      (record { phase = runs; book = old }) (standing new later)
+  pub commands : CommandsStore command result store old (standing new later)
 
 -- a disk started, or its start was refused or cut
-pub record Started (result : Outcome) (old : Book) (new : Scene) : Type 0 where
+pub record Started (result : Outcome) (m : Sim) (old : Standing) (new : Scene) : Type 0 where
   pub later : Book
   pub shows : Shows new later
-  pub starts : Starts result between (record { phase = between; book = old })
-      (standing new later)
+  pub starts : StartsOn result m old (standing new later)
 
--- a store that has started serves the first writes of a book
-pub record Finds (old : Book) (store : StoreValue Sim) : Type 0 where
-  pub later : Book
+-- what a start has found: the first writes of a book
+pub record Finds (old later : Book) : Type 0 where
   pub opens : Opens old later
   pub none : later.writes ≡ []
   pub mark : later.mark ≡ 0
   pub ours : later.ours ≡ true
+
+-- a store that has started serves them
+pub record IsStarted (ahead : Bool) (old : Book) (m : Sim) (store : StoreValue Sim) : Type 0 where
+  pub later : Book
+  pub finds : Finds old later
   pub fits : FitsBook (state_of store.medium) store.cached later
+  pub live : is_dead store.cached ≡ false
+  pub policy : HasPolicy ahead store
+  pub follows : ComesAfter m store.medium
 
 -- a start that was refused has left them
-pub record IsLeft (old : Book) (m : Sim) : Type 0 where
+pub record IsLeft (old : Book) (m new : Sim) : Type 0 where
   pub later : Book
-  pub opens : Opens old later
-  pub none : later.writes ≡ []
-  pub mark : later.mark ≡ 0
-  pub ours : later.ours ≡ true
-  pub leaves : LeavesBook m later
+  pub finds : Finds old later
+  pub leaves : LeavesBook new later
+  pub fault : StartFault
+  pub cause : IsStartCause (state_of m) (state_of new) fault
+  pub follows : ComesAfter m new

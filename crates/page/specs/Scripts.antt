@@ -1,13 +1,18 @@
 -- Scripts as bytes, and what they make of a disk.
-use Rattle.std.specs.Prelude.{◌≡◌, ℕ, ◌+◌, ◌*◌, ◌-◌, ◌/◌, ◌==◌, zero, suc, true, List}
+use Rattle.std.specs.Prelude.{◌≡◌, ℕ, ◌+◌, ◌*◌, ◌-◌, ◌/◌, ◌==◌, zero, suc, Bool, true, List}
 use Rattle.std.specs.Prelude.{[], ◌∷◌, ◌++◌, drop, slice_index, length, ◌≤◌, ◌⊎◌, ◌%◌}
 use Rattle.std.specs.Prelude.{slice_range, replicate, if◌then◌else◌, Ok, Err}
 use Rattle.byteorder.specs.Endian.{little_number}
 use Rattle.spec.specs.Book.{Book, opened}
-use Rattle.journal.specs.Places.{slot_sectors_of}
+use Rattle.journal.specs.Places.{Shape, new_shape, slot_sectors_of}
+use Rattle.journal.specs.declared.super_sector.Super.{Super}
 use Rattle.journal.specs.Sectors.{version_of}
-use Rattle.page.specs.Books.{Outcome, Standing, Turns, Opens, runs}
-use Rattle.page.specs.Scenes.{Shows, standing, phase_of}
+use Rattle.medium.specs.Sim.{Sim, state_of}
+use Rattle.recovery.specs.Calls.{IsFormatted}
+use Rattle.page.specs.Books.{StartsOn, Turns}
+use Rattle.page.specs.Causes.{Outcome}
+use Rattle.page.specs.Scenes.{Shows}
+use Rattle.page.specs.Standing.{Standing, between, first_life, standing}
 use Rattle.page.specs.declared.scene.Scene.{Scene}
 use Rattle.page.specs.declared.script.Head.{Head}
 use Rattle.page.specs.declared.extent.Extent.{Extent}
@@ -87,6 +92,7 @@ pub record GoesOn (step : Step) (old : Standing) (before answers : List ℕ) (sc
 pub record IsHead (script : List ℕ) (head : Head) : Type 0 where
   pub format : slice_index script 0 ≡ version_of head.sizes.format
   pub slots : head.sizes.slots ≡ slice_index script 1
+  pub policy : head.goes_ahead ≡ (slice_index script 2 == 1)
   pub few_slots : head.sizes.slots ≤ 4
   pub blocks : head.sizes.blocks ≡ slice_index script 3
   pub few : head.sizes.blocks ≤ 32
@@ -104,18 +110,30 @@ pub record IsScript (script : List ℕ) : Type 0 where
   pub some_blocks : 1 ≤ slice_index script 3
   pub few_blocks : slice_index script 3 ≤ 32
 
+-- a new disk before its first start
+abbrev pub new_disk : ℕ → Bool → Sim → Standing
+new_disk blocks ahead m = standing (between m first_life ahead) (formatted blocks)
+
+-- the shape of a new image of these sizes
+abbrev pub shape_for : Super → Shape
+shape_for sizes = new_shape sizes.format sizes.blocks sizes.slots
+
+-- the first start on a new image was good
+pub record StartsFirst (shape : Shape) (ahead : Bool) (first : Standing) : Type 0 where
+  pub medium : Sim
+  pub made : IsFormatted shape (state_of medium)
+  pub starts : StartsOn (Ok tt) medium (new_disk shape.blocks ahead medium) first
+
 -- a disk that has just started on a new image
-pub record Begins (blocks : ℕ) (scene : Scene) : Type 0 where
+pub record Begins (shape : Shape) (ahead : Bool) (scene : Scene) : Type 0 where
   pub book : Book
   pub shows : Shows scene book
-  pub opens : Opens (formatted blocks) book
-  pub runs : phase_of scene.place ≡ runs
+  pub starts : StartsFirst shape ahead (standing scene book)
 
 -- What a whole script makes of a new disk: its steps in order, by the rules of Books. What a cut
 -- leaves then, a start serves by them.
-pub record IsReached (blocks : ℕ) (script answers : List ℕ) (scene : Scene) : Type 0 where
-  -- with what the first start has opened: blocks of zeros
-  pub first : Book
-  pub opens : Opens (formatted blocks) first
-  pub reached : HasReached script (record { phase = runs; book = first })
-      (length script / 16 - 1) answers scene
+pub record IsReached (head : Head) (script answers : List ℕ) (scene : Scene) : Type 0 where
+  -- where the first start has brought it, with blocks of zeros
+  pub first : Standing
+  pub starts : StartsFirst (shape_for head.sizes) head.goes_ahead first
+  pub reached : HasReached script first (length script / 16 - 1) answers scene

@@ -12,7 +12,7 @@ pub record IsTold (script told parts : List ℕ) : Type 0 where
   pub is_head : IsHead script head
   pub answers : List ℕ
   pub scene : Scene
-  pub reached : IsReached head.sizes.blocks script answers scene
+  pub reached : IsReached head script answers scene
   pub numbers : told ≡ numbers_of scene head.sizes
   pub bytes : parts ≡ answers ++ picture scene.place reached.reached.book head.sizes.blocks
 

@@ -1,7 +1,6 @@
 //! What a store does of a host's commands, and of the work in the background.
-ghost use Rattle.spec.specs.Book.{Book, with_write};
-ghost use Rattle.page.specs.Extents.{filled};
-ghost use Rattle.page.specs.Scenes.{Serves, Has, Carried};
+ghost use Rattle.spec.specs.Book.{Book};
+ghost use Rattle.page.specs.Scenes.{Serves};
 
 use crate::extent::Extent;
 use crate::fault::Fault;
@@ -54,19 +53,7 @@ fn force(
         → Serves (Command.Force extent.now) result life.old store.old book life.new store.new }
 {
     match write(alloc, store, life, extent) {
-        Ok(()) => promise(store, life, extent),
-        Err(fault) => Err(fault),
-    }
-}
-
-// Makes a write durable that the store has taken.
-fn promise(store: &mut Store<Watched>, life: &mut Life, extent: &Extent) -> Result<(), Fault>
-    ensures { (book : Book) → Has life.old store.old (with_write book (filled extent.now))
-        → Carried (Command.Force extent.now) result book life.new store.new }
-{
-    let _ = extent;
-    match sync(store, life) {
-        Ok(()) => Ok(()),
+        Ok(()) => sync(store, life),
         Err(fault) => Err(fault),
     }
 }

@@ -2,6 +2,7 @@
 ghost use Rattle.std.specs.Prelude.{◌≡◌, ◌≤◌, ◌↔◌, ◌⊎◌};
 ghost use Rattle.page.specs.Scripts.{IsScript};
 ghost use Rattle.page.specs.Roles.{AreSizes, TellsRole};
+ghost use Rattle.page.specs.Words.{TellsWords};
 ghost use Rattle.page.specs.Told.{IsPlayed, LacksRoom};
 
 use crate::play::{look_at, play_plain_script, play_script};
@@ -47,7 +48,7 @@ pub struct ImageSizes {
 }
 
 /// Tells what a sector of an image of these sizes is, and what these bytes would say in it. 0 where
-/// the sizes are none of the page.
+/// the sizes are none of the page, and the words stay.
 #[unsafe(no_mangle)]
 pub extern "C" fn page_sector(
     sizes: &ImageSizes,
@@ -57,7 +58,10 @@ pub extern "C" fn page_sector(
 ) -> u32
     ensures role { AreSizes sizes.now.format sizes.now.slots sizes.now.blocks
         → TellsRole sizes.now.format sizes.now.slots sizes.now.blocks sector result }
-    ensures none { (AreSizes sizes.now.format sizes.now.slots sizes.now.blocks → ⊥) → result ≡ 0 }
+    ensures words { AreSizes sizes.now.format sizes.now.slots sizes.now.blocks
+        → TellsWords sizes.now.format sizes.now.slots sizes.now.blocks sector bytes.now words.new }
+    ensures none { (AreSizes sizes.now.format sizes.now.slots sizes.now.blocks → ⊥)
+        → (result ≡ 0) × (words.new ≡ words.old) }
 {
     match look_at(sizes.format, sizes.slots, sizes.blocks, sector, bytes) {
         Some(seen) => {

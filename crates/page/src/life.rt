@@ -13,9 +13,12 @@ pub(crate) struct Life {
 
 impl Life {
     ghost use Rattle.std.specs.Prelude.{◌≡◌};
+    ghost use Rattle.page.specs.Standing.{first_life, next_life};
 
     /// Before the first start.
-    pub(crate) fn new() -> Life {
+    pub(crate) fn new() -> Life
+        ensures { result ≡ first_life }
+    {
         Life {
             accepted: 0,
             promised: 0,
@@ -27,10 +30,7 @@ impl Life {
 
     /// The life after a start.
     pub(crate) fn next(self) -> Life
-        ensures accepted { result.accepted ≡ 0 }
-        ensures promised { result.promised ≡ 0 }
-        ensures accepted_before { result.accepted_before ≡ self.accepted }
-        ensures promised_before { result.promised_before ≡ self.promised }
+        ensures { result ≡ next_life self }
     {
         Life {
             accepted: 0,

@@ -2,10 +2,11 @@
 ghost use Rattle.std.specs.Prelude.{◌≡◌, IfSome, IfNone};
 ghost use Rattle.journal.specs.Formats.{shape_of};
 ghost use Rattle.page.specs.Roles.{AreSizes, HasSizes, sector_code, part_code, part_of};
+ghost use Rattle.page.specs.Words.{Says, SaysPart};
 
 use crate::sectors::{
-    Part, Role, part_of, role_of, words_of_commit, words_of_data, words_of_descriptor,
-    words_of_head, words_of_super,
+    Part, Role, part_of, role_of, stamp_in, words_of_commit, words_of_descriptor, words_of_head,
+    words_of_super,
 };
 use journal::{LogFormat, Super};
 
@@ -27,7 +28,8 @@ pub(crate) fn sizes_of(format: u32, slots: u32, blocks: u32) -> Option<Super>
 
 /// What a sector is, as a number, and what its bytes say.
 pub(crate) fn look(sizes: &Super, sector: u64, bytes: &[u8; 512]) -> (u32, [u64; 8])
-    ensures { result.0 ≡ sector_code (shape_of sizes.now) sector }
+    ensures code { result.0 ≡ sector_code (shape_of sizes.now) sector }
+    ensures says { Says (shape_of sizes.now) sector bytes.now result.1 }
 {
     match role_of(sizes, sector) {
         Role::None => (0, [0; 8]),
@@ -40,14 +42,12 @@ pub(crate) fn look(sizes: &Super, sector: u64, bytes: &[u8; 512]) -> (u32, [u64;
 
 // The same of a sector of a slot, which stands first in the numbers.
 fn look_in_slot(format: LogFormat, slot: u64, number: u64, bytes: &[u8; 512]) -> (u32, [u64; 8])
-    ensures { result.0 ≡ part_code (part_of format number) }
+    ensures code { result.0 ≡ part_code (part_of format number) }
+    ensures says { SaysPart format slot (part_of format number) bytes.now result.1 }
 {
-    let (code, place, mut words) = match part_of(format, number) {
-        Part::Descriptor(j) => (3, j, words_of_descriptor(format, bytes)),
-        Part::Data(i) => (4, i, words_of_data(format, bytes)),
-        Part::Commit => (5, 0, words_of_commit(format, bytes)),
-    };
-    words[0] = slot;
-    words[1] = place;
-    (code, words)
+    match part_of(format, number) {
+        Part::Descriptor(j) => (3, words_of_descriptor(format, slot, j, bytes)),
+        Part::Data(i) => (4, [slot, i, 1, stamp_in(format, bytes), 0, 0, 0, 0]),
+        Part::Commit => (5, words_of_commit(format, slot, bytes)),
+    }
 }

@@ -3,7 +3,7 @@ ghost use Rattle.std.specs.Prelude.{◌≡◌, true, MatchResult};
 ghost use Rattle.medium.specs.Moments.{IsFlushed};
 ghost use Rattle.medium.specs.Sim.{state_of};
 ghost use Rattle.spec.specs.Book.{Book};
-ghost use Rattle.page.specs.Scenes.{LeavesBook, Finds, IsLeft};
+ghost use Rattle.page.specs.Scenes.{LeavesBook, IsStarted, IsLeft};
 
 use crate::watched::Watched;
 use blocks::Store;
@@ -20,7 +20,8 @@ pub(crate) fn open(
     goes_ahead: bool,
 ) -> Result<Store<Watched>, Watched>
     ensures { (book : Book) → LeavesBook medium book → book.ours ≡ true
-        → IsFlushed (state_of medium) → MatchResult result (Finds book) (IsLeft book) }
+        → IsFlushed (state_of medium) → MatchResult result
+        (IsStarted goes_ahead book medium) (IsLeft book medium) }
 {
     if goes_ahead {
         return match Store::start_ahead(alloc, medium) {

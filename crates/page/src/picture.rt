@@ -5,7 +5,6 @@ ghost use Rattle.spec.specs.Book.{Book, array_of, blocks_at};
 ghost use Rattle.blocks.specs.StoreValue.{FitsBook, blocks_of};
 ghost use Rattle.page.specs.Scenes.{Shows, HoldsAt};
 ghost use Rattle.page.specs.Pictures.{numbers_of, served_by, spelled, medium_bytes, picture};
-ghost use Rattle.page.specs.Pictures.{medium_of, place_code};
 
 use crate::place::Place;
 use crate::plain::Plain;

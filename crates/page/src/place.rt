@@ -4,7 +4,8 @@ ghost use Rattle.medium.specs.Sim.{state_of};
 ghost use Rattle.spec.specs.Book.{Book};
 ghost use Rattle.blocks.specs.StoreValue.{FitsBook};
 ghost use Rattle.page.specs.Scenes.{HoldsAt, LeavesBook};
-ghost use Rattle.page.specs.Pictures.{medium_of, place_code};
+ghost use Rattle.page.specs.Pictures.{place_code};
+ghost use Rattle.page.specs.Standing.{medium_of};
 
 use crate::watched::Watched;
 use blocks::Store;
@@ -33,7 +34,9 @@ impl Place {
 
     /// Gives the medium back.
     pub(crate) fn into_medium(self) -> Watched
-        ensures { (book : Book) → HoldsAt self book → book.ours ≡ true → LeavesBook result book }
+        ensures is { result ≡ medium_of self }
+        ensures leaves { (book : Book) → HoldsAt self book → book.ours ≡ true
+            → LeavesBook result book }
     {
         match self {
             Place::Runs(store) => stop(store),

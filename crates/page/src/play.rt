@@ -4,8 +4,9 @@ ghost use Rattle.std.specs.Prelude.{IfSome, IsTrue, MatchOption, false};
 ghost use Rattle.medium.specs.Sim.{state_of};
 ghost use Rattle.journal.specs.Places.{Shape, slot_sectors_of};
 ghost use Rattle.recovery.specs.Calls.{IsFormatted};
-ghost use Rattle.page.specs.Scripts.{Begins, IsHead, IsReached, IsScript};
+ghost use Rattle.page.specs.Scripts.{Begins, IsHead, IsReached, IsScript, shape_for};
 ghost use Rattle.page.specs.Roles.{AreSizes, TellsRole};
+ghost use Rattle.page.specs.Words.{TellsWords};
 ghost use Rattle.page.specs.Told.{IsPlayed, LacksRoom};
 
 use crate::life::Life;
@@ -90,7 +91,8 @@ pub(crate) fn look_at(
     bytes: &[u8; 512],
 ) -> Option<(u32, [u64; 8])>
     ensures { MatchOption result (AreSizes format slots blocks → ⊥) (λ seen.
-        AreSizes format slots blocks × TellsRole format slots blocks sector seen.0) }
+        AreSizes format slots blocks × TellsRole format slots blocks sector seen.0
+        × TellsWords format slots blocks sector bytes.now seen.1) }
 {
     match sizes_of(format, slots, blocks) {
         Some(sizes) => Some(look(&sizes, sector, bytes)),
@@ -137,7 +139,7 @@ fn hand_out(bytes: &[u8], to: &mut [u8]) -> bool
 fn reach(alloc: Global, head: &Head, script: &[u8], answers: &mut Vec<u8>) -> Option<Scene>
     requires { IsHead script.now head.now }
     ensures { answers.old.items ≡ []
-        → IfSome result (IsReached head.now.sizes.blocks script.now answers.new.items) }
+        → IfSome result (IsReached head.now script.now answers.new.items) }
 {
     match begin(alloc, head) {
         Some(scene) => play_all(alloc, scene, script, answers),
@@ -151,7 +153,7 @@ fn begin(alloc: Global, head: &Head) -> Option<Scene>
     requires blocks { head.now.sizes.blocks ≤ 32 }
     requires home { head.now.sizes.home
         ≡ 2 + slot_sectors_of head.now.sizes.format * head.now.sizes.slots }
-    ensures { IfSome result (Begins head.now.sizes.blocks) }
+    ensures { IfSome result (Begins (shape_for head.now.sizes) head.now.goes_ahead) }
 {
     let sizes = &head.sizes;
     let sectors = sizes.sectors() as usize;
@@ -166,7 +168,7 @@ fn begin(alloc: Global, head: &Head) -> Option<Scene>
 // Starts a disk on a new image.
 fn start_first(alloc: Global, medium: Watched, goes_ahead: bool) -> Option<Scene>
     ensures { (shape : Shape) → IsFormatted shape (state_of medium)
-        → IfSome result (Begins shape.blocks) }
+        → IfSome result (Begins shape goes_ahead) }
 {
     let Played {
         scene,

@@ -1,10 +1,12 @@
 //! A disk, its medium and its life so far, step by step.
-ghost use Rattle.std.specs.Prelude.{◌≡◌, true};
+ghost use Rattle.std.specs.Prelude.{◌≡◌, true, false, if◌then◌else◌};
 ghost use Rattle.medium.specs.Moments.{IsFlushed};
 ghost use Rattle.medium.specs.Sim.{state_of};
 ghost use Rattle.spec.specs.Book.{Book};
-ghost use Rattle.page.specs.Scenes.{LeavesBook, HoldsAt, Has, Plays, Shows};
-ghost use Rattle.page.specs.Scenes.{Commanded, Started, phase_of};
+ghost use Rattle.blocks.specs.StoreValue.{is_dead};
+ghost use Rattle.page.specs.Books.{IsArmed};
+ghost use Rattle.page.specs.Scenes.{LeavesBook, HoldsAt, Has, Plays, Shows, Commanded, Started};
+ghost use Rattle.page.specs.Standing.{between, running, standing};
 
 use crate::commands::carry_out;
 use crate::fault::Fault;
@@ -143,8 +145,9 @@ fn serve(
     goes_ahead: bool,
     command: &Command,
 ) -> Played
-    ensures { (book : Book) → Has life store book
-        → Commanded command.now result.result book result.scene }
+    ensures { (book : Book) → Has life store book → is_dead store.cached ≡ false
+        → Commanded command.now result.result store
+        (standing (running store life goes_ahead) book) result.scene }
 {
     let mut store = store;
     let mut life = life;
@@ -172,7 +175,7 @@ fn serve(
 // Arms a fuse of the medium, but where the power is off.
 fn fused(place: Place, writes: u64) -> Place
     ensures holds { (book : Book) → HoldsAt place book → HoldsAt result book }
-    ensures phase { phase_of result ≡ phase_of place }
+    ensures armed { IsArmed writes place result }
 {
     match place {
         Place::Runs(mut store) => {
@@ -190,7 +193,8 @@ fn fused(place: Place, writes: u64) -> Place
 /// Starts a disk on a medium of which nothing is unflushed.
 pub(crate) fn start_on(alloc: Global, medium: Watched, life: Life, goes_ahead: bool) -> Played
     ensures { (book : Book) → LeavesBook medium book → book.ours ≡ true
-        → IsFlushed (state_of medium) → Started result.result book result.scene }
+        → IsFlushed (state_of medium) → Started result.result medium
+        (standing (between medium life goes_ahead) book) result.scene }
 {
     let life = life.next();
     match open(alloc, medium, goes_ahead) {
@@ -217,7 +221,9 @@ pub(crate) fn start_on(alloc: Global, medium: Watched, life: Life, goes_ahead: b
 }
 
 // Why a start was refused.
-fn fault_of(medium: &Watched) -> Fault {
+fn fault_of(medium: &Watched) -> Fault
+    ensures { result ≡ (if medium.now.power.off then Fault.Lost else Fault.NoMemory) }
+{
     if medium.is_off() {
         Fault::Lost
     } else {

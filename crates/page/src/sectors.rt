@@ -1,6 +1,8 @@
 //! What the sectors of an image are, and what their bytes say.
-ghost use Rattle.std.specs.Prelude.{◌≡◌};
+ghost use Rattle.std.specs.Prelude.{◌≡◌, slice_index};
 ghost use Rattle.page.specs.Roles.{role_of, part_of, descriptors_in};
+ghost use Rattle.page.specs.Words.{SaysSuper, SaysHead, SaysDescriptor, SaysCommit};
+ghost use Rattle.page.specs.Words.{named, stamp_in};
 ghost use Rattle.journal.specs.Formats.{shape_of};
 
 use byteorder::{ByteOrder, LittleEndian};
@@ -72,64 +74,86 @@ fn descriptors_in(format: LogFormat) -> u64
 }
 
 /// The numbers that a super or a head spells: whether it is one, and then what it says.
-pub(crate) fn words_of_super(sector: &[u8; 512]) -> [u64; 8] {
+pub(crate) fn words_of_super(sector: &[u8; 512]) -> [u64; 8]
+    ensures { SaysSuper sector.now result }
+{
     match Super::decode(sector) {
         Ok(sizes) => [0, 0, 1, sizes.blocks, sizes.slots, sizes.home, 0, 0],
         Err(_) => [0; 8],
     }
 }
 
-pub(crate) fn words_of_head(sector: &[u8; 512]) -> [u64; 8] {
+pub(crate) fn words_of_head(sector: &[u8; 512]) -> [u64; 8]
+    ensures { SaysHead sector.now result }
+{
     match Head::decode(sector) {
         Some(head) => [0, 0, 1, head.stamp, 0, 0, 0, 0],
         None => [0; 8],
     }
 }
 
-/// The stamp of a descriptor, how many blocks it names, and the first three of them.
-pub(crate) fn words_of_descriptor(format: LogFormat, sector: &[u8; 512]) -> [u64; 8] {
-    if format.lacks_firsts() {
-        return match Descriptor2::decode(sector) {
-            Some(it) => named(it.stamp, it.count, &it.numbers),
-            None => [0; 8],
-        };
-    }
-    match Descriptor::decode(sector) {
-        Some(it) => named(it.stamp, it.numbers.len() as u64, &it.numbers),
-        None => [0; 8],
+/// The numbers of a sector of a slot: the slot and the place in it, and then of a descriptor its
+/// stamp, how many blocks it names, and the first three of them.
+pub(crate) fn words_of_descriptor(
+    format: LogFormat,
+    slot: u64,
+    place: u64,
+    sector: &[u8; 512],
+) -> [u64; 8]
+    ensures { SaysDescriptor format slot place sector.now result }
+{
+    match format {
+        LogFormat::One => match Descriptor::decode(sector) {
+            Some(it) => named(slot, place, it.stamp, it.numbers.len() as u64, &it.numbers),
+            None => [slot, place, 0, 0, 0, 0, 0, 0],
+        },
+        LogFormat::Two => match Descriptor2::decode(sector) {
+            Some(it) => named(slot, place, it.stamp, it.count, &it.numbers),
+            None => [slot, place, 0, 0, 0, 0, 0, 0],
+        },
     }
 }
 
-fn named(stamp: u64, count: u64, numbers: &[u64]) -> [u64; 8] {
-    let mut words = [0, 0, 1, stamp, count, 0, 0, 0];
-    for (i, number) in numbers.iter().enumerate() {
-        if i < 3 {
-            words[5 + i] = *number;
-        }
-    }
-    words
+fn named(slot: u64, place: u64, stamp: u64, count: u64, numbers: &[u64]) -> [u64; 8]
+    ensures { result ≡ named slot place stamp count numbers.now }
+{
+    let (first, second, third) = (
+        number_at(numbers, 0),
+        number_at(numbers, 1),
+        number_at(numbers, 2),
+    );
+    [slot, place, 1, stamp, count, first, second, third]
 }
 
-/// The stamp of a commit, and how many blocks its record has.
-pub(crate) fn words_of_commit(format: LogFormat, sector: &[u8; 512]) -> [u64; 8] {
-    if format.lacks_firsts() {
-        return match Commit2::decode(sector) {
-            Some(it) => [0, 0, 1, it.stamp, it.count, 0, 0, 0],
-            None => [0; 8],
-        };
-    }
-    match Commit::decode(sector) {
-        Some(it) => [0, 0, 1, it.stamp, it.count, 0, 0, 0],
-        None => [0; 8],
+// The number at a place of a list, 0 behind its end.
+fn number_at(numbers: &[u64], at: usize) -> u64
+    ensures { result ≡ slice_index numbers.now at }
+{
+    if at < numbers.len() { numbers[at] } else { 0 }
+}
+
+/// Of a commit its stamp, and how many blocks its record has.
+pub(crate) fn words_of_commit(format: LogFormat, slot: u64, sector: &[u8; 512]) -> [u64; 8]
+    ensures { SaysCommit format slot sector.now result }
+{
+    match format {
+        LogFormat::One => match Commit::decode(sector) {
+            Some(it) => [slot, 0, 1, it.stamp, it.count, 0, 0, 0],
+            None => [slot, 0, 0, 0, 0, 0, 0, 0],
+        },
+        LogFormat::Two => match Commit2::decode(sector) {
+            Some(it) => [slot, 0, 1, it.stamp, it.count, 0, 0, 0],
+            None => [slot, 0, 0, 0, 0, 0, 0, 0],
+        },
     }
 }
 
 /// In format 2, the stamp in the first 8 bytes of a data place.
-pub(crate) fn words_of_data(format: LogFormat, sector: &[u8; 512]) -> [u64; 8] {
-    let stamp = if format.lacks_firsts() {
-        LittleEndian::read_u64(sector)
-    } else {
-        0
-    };
-    [0, 0, 1, stamp, 0, 0, 0, 0]
+pub(crate) fn stamp_in(format: LogFormat, sector: &[u8; 512]) -> u64
+    ensures { result ≡ stamp_in format sector.now }
+{
+    match format {
+        LogFormat::One => 0,
+        LogFormat::Two => LittleEndian::read_u64(sector),
+    }
 }

@@ -3,7 +3,7 @@ use Rattle.page.proofs.play.play_script.Goals as goal
 
 pub returns-then-hand_out-clause-played : goal.returns-then-hand_out-clause-played
 returns-then-hand_out-clause-played c = λ code.
-    let r : IsReached c.in-Some.head.sizes.blocks c.args.steps.now c.reach.new.answers.items c.in-Some-reach.scene =
+    let r : IsReached c.in-Some.head c.args.steps.now c.reach.new.answers.items c.in-Some-reach.scene =
     c.in-Some-reach.ensures c.new-bytes.ensures.items in
     record {
       bytes = c.show.new.to.items;
@@ -21,7 +21,7 @@ returns-then-hand_out-clause-played c = λ code.
 
 pub returns-clause-room : goal.returns-clause-room
 returns-clause-room c = λ code.
-    let r : IsReached c.in-Some.head.sizes.blocks c.args.steps.now c.reach.new.answers.items c.in-Some-reach.scene =
+    let r : IsReached c.in-Some.head c.args.steps.now c.reach.new.answers.items c.in-Some-reach.scene =
     c.in-Some-reach.ensures c.new-bytes.ensures.items in
     record {
       bytes = c.show.new.to.items;

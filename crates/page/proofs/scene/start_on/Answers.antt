@@ -8,11 +8,16 @@ returns-in-Ok c = λ book leaves ours none.
     record {
       later = f.later;
       shows = record {
-        holds = f.fits;
-        ours = f.ours;
-        counts = counts_none c.next-life.result f.later c.next-life.ensures.accepted c.next-life.ensures.promised f.none f.mark;
+        holds = (f.fits, f.live);
+        ours = f.finds.ours;
+        counts = counts_none c.args.life c.next-life.result f.later c.next-life.ensures f.finds.none f.finds.mark;
       };
-      starts = (f.opens, refl);
+      starts = record {
+        opens = f.finds.opens;
+        life = c.next-life.ensures;
+        policy = refl;
+        ends = (c.in-Ok.store, refl, f.policy, f.follows);
+      };
     }
 
 pub returns-in-Err : goal.returns-in-Err
@@ -22,8 +27,18 @@ returns-in-Err c = λ book leaves ours none.
       later = f.later;
       shows = record {
         holds = f.leaves;
-        ours = f.ours;
-        counts = counts_none c.next-life.result f.later c.next-life.ensures.accepted c.next-life.ensures.promised f.none f.mark;
+        ours = f.finds.ours;
+        counts = counts_none c.args.life c.next-life.result f.later c.next-life.ensures f.finds.none f.finds.mark;
       };
-      starts = (f.opens, refl);
+      starts = record {
+        opens = f.finds.opens;
+        life = c.next-life.ensures;
+        policy = refl;
+        ends = (
+          c.in-Err.medium,
+          refl,
+          record { fault = f.fault; cause = f.cause; told = c.fault_of-fault.ensures },
+          f.follows,
+        );
+      };
     }

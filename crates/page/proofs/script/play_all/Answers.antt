@@ -1,5 +1,5 @@
 use Rattle.std.proofs.Common.{ℕ, refl, add-one, subst, arith}
-use Rattle.page.specs.Scenes.{standing}
+use Rattle.page.specs.Standing.{standing}
 use Rattle.page.specs.Scripts.{HasReached}
 use Rattle.page.proofs.script.play_all.Goals as goal
 

@@ -1,6 +1,7 @@
 use Rattle.std.proofs.Common.{◌≡◌, []}
 use Rattle.spec.specs.Book.{Book}
-use Rattle.page.specs.Scenes.{Shows, standing}
+use Rattle.page.specs.Scenes.{Shows}
+use Rattle.page.specs.Standing.{standing}
 use Rattle.page.specs.Scripts.{HasReached}
 use Rattle.page.proofs.script.play_all.Given as goal
 

@@ -1,10 +1,13 @@
-use Rattle.std.proofs.Common.{refl}
+use Rattle.std.proofs.Common.{refl, subst}
+use Rattle.medium.specs.Sim.{Sim, IsCut}
+use Rattle.medium.specs.Writes.{keeps}
+use Rattle.medium.specs.declared.kept.Kept.TheVariants.{Mask}
 use Rattle.page.proofs.Lives.{after_cut}
 use Rattle.page.proofs.scene.Scene.cut.Goals as goal
 
 pub returns : goal.returns
 returns c = λ book shows.
-    let leaves = c.into_medium-medium.ensures book shows.holds shows.ours in
+    let leaves = c.into_medium-medium.ensures.leaves book shows.holds shows.ours in
     record {
       later = book;
       shows = record {
@@ -15,5 +18,13 @@ returns c = λ book shows.
         ours = shows.ours;
         counts = shows.counts;
       };
-      turns = refl;
+      turns = (
+        refl,
+        refl,
+        (
+          c.cut.new.self,
+          refl,
+          subst (λ (m : Sim). IsCut (keeps (Mask c.args.mask)) m c.cut.new.self) c.into_medium-medium.ensures.is c.cut.ensures.cut,
+        ),
+      );
     }
