@@ -8,7 +8,6 @@ use Rattle.store_calls.specs.declared.call_fault.CallFault.{CallFault}
 use Rattle.store_calls.specs.declared.call_fault.CallFault.TheVariants as call
 use Rattle.store_calls.specs.declared.sight.Sight.{Sight}
 use Rattle.image_calls.specs.Formats as formats
-use Rattle.image_calls.specs.Images.{IsLaidOn, IsFinished}
 use Rattle.image_calls.specs.Machines as images
 use Rattle.image_calls.specs.Plans.{Migrates, IsPlanFault, shape_by, medium_by}
 use Rattle.image_calls.specs.declared.work.Work.{Work}
@@ -75,8 +74,7 @@ abbrev pub BeginsFormat : List ℕ → ImagePlan → Reading → Stage → Type 
 BeginsFormat content plan o new = BeginsBy formats.BeginsFormat content plan o new
 
 abbrev pub BeginsLog : List ℕ → ImagePlan → Reading → Stage → Type 0
-BeginsLog content plan o new = BeginsBy
-    (λ (shape : Shape) (first : Window). IsFinished (IsLaidOn shape first)) content plan o new
+BeginsLog content plan o new = BeginsBy formats.BeginsLog content plan o new
 
 abbrev pub BeginsMigration : List ℕ → Reading → Stage → Type 0
 BeginsMigration content o new = (result : Result images.Machine ImageFault) × IsImage result new

@@ -8,11 +8,11 @@ use Rattle.window.specs.{declared.call.DeviceCall.DeviceCall, Window.{Window, st
 use Rattle.window.specs.{declared.done_fault.DoneFault.DoneFault}
 use Rattle.journal.specs.{Places.Shape}
 use Rattle.store_calls.specs.{Outbox.without}
-use Rattle.image_calls.specs.Formats.{IsFormatting, MakesParts}
+use Rattle.image_calls.specs.{Formats.{IsMaking, MakesParts}, declared.plan.Aim.Aim}
 use Rattle.image_calls.specs.Machines.{Machine, begun, carried, under_way, MayLeave, LeavesSince, LeavesAtRest, CarriesOut, GoesOn, Asks}
 use Rattle.image_calls.specs.{Machines.{AsksBy, AsksForNext, IsDone}, declared.work.Work.Work, declared.image_asked.ImageAsked.ImageAsked}
 use Rattle.image_calls.specs.{declared.image_asked.ImageCall.ImageCall}
-use Rattle.image_calls.proofs.{NextCall.{on_way_on, has_room_on}, Taken.{IsSentStill, some_go, without_more}}
+use Rattle.image_calls.proofs.{NextCall.on_way_on, Taken.{IsSentStill, some_go, without_more}}
 use Rattle.store_calls.proofs.Handing.{taken_by, some_first, run_waits}
 use Rattle.window.specs.declared.ask.DeviceAsk.TheVariants as ask
 use Rattle.image_calls.specs.declared.image_asked.ImageAsked.TheVariants as asked
@@ -20,17 +20,17 @@ use Rattle.image_calls.specs.declared.image_asked.ImageCall.TheVariants as kind
 
 -- all but what is left at rest
 pub record Keeps (old new : Machine) : Type 0 where
-  pub formats : (shape : Shape) (first : Window) → IsFormatting shape first old.work → IsFormatting shape first new.work
+  pub makes : (what : Aim) (shape : Shape) (first : Window) → IsMaking what shape first old.work → IsMaking what shape first new.work
   pub carries : (first : Window) → CarriesOut first old → CarriesOut first new
   pub since : (first : Window) → LeavesSince first old → LeavesSince first new
 
 keeps_same : (old new : Machine) → new ≡ old → Keeps old new
 keeps_same old new same = subst (λ (s : Machine). Keeps old s) (sym same)
-    (record { formats = λ shape first f. f; carries = λ first c. c; since = λ first s. s })
+    (record { makes = λ what shape first f. f; carries = λ first c. c; since = λ first s. s })
 
 keeps_through : (a b c : Machine) → Keeps a b → Keeps b c → Keeps a c
 keeps_through a b c f g = record {
-  formats = λ shape first is. g.formats shape first (f.formats shape first is);
+  makes = λ what shape first is. g.makes what shape first (f.makes what shape first is);
   carries = λ first is. g.carries first (f.carries first is);
   since = λ first is. g.since first (f.since first is);
 }
@@ -96,7 +96,7 @@ module _ (old : Machine) (mid : Work) (free : old.asked ≡ asked.Nothing) (made
       subst (λ (w : Work). CarriesOut first (begun w)) (sym (made.stays (inr none))) (none, out)
 
   pub keeps_mid : Keeps old (begun mid)
-  keeps_mid = record { formats = made.keeps; carries = carries_mid; since = since_mid }
+  keeps_mid = record { makes = made.keeps; carries = carries_mid; since = since_mid }
 
 -- ---- calls leave what waits
 
@@ -107,11 +107,11 @@ module _ (mid : Work) (call : ImageCall) (count : ℕ) (le : count ≤ length mi
   still : IsSentStill mid.medium (without count mid.medium)
   still = some_go count mid.medium
 
-  formats_on : (shape : Shape) (first : Window) → IsFormatting shape first mid
-      → IsFormatting shape first (record mid { medium = without count mid.medium })
-  formats_on shape first formatting = record {
-    on_way = on_way_on shape first mid.medium (without count mid.medium) still.same still.looked mid.left formatting.on_way;
-    room = has_room_on mid.left mid.medium (without count mid.medium) still.room formatting.room;
+  makes_on : (what : Aim) (shape : Shape) (first : Window) → IsMaking what shape first mid
+      → IsMaking what shape first (record mid { medium = without count mid.medium })
+  makes_on what shape first making = record {
+    on_way = on_way_on what shape first mid.medium (without count mid.medium) still.same still.looked mid.left making.on_way;
+    room = omega (arith, still.room, making.room);
   }
 
   carries_on : (first : Window) → CarriesOut first (begun mid) → CarriesOut first (handed mid call count)
@@ -120,7 +120,7 @@ module _ (mid : Work) (call : ImageCall) (count : ℕ) (le : count ≤ length mi
 
   keeps_handed : Keeps (begun mid) (handed mid call count)
   keeps_handed = record {
-    formats = formats_on;
+    makes = makes_on;
     carries = carries_on;
     since = λ first. since_still first (begun mid) (handed mid call count) still (omega (arith, taken_by count mid.medium le));
   }
@@ -137,7 +137,7 @@ next_keeps mid room ask.Flush new filled asks =
 next_keeps mid room (ask.Read sectors) new filled asks = absurd asks
 
 goes : (old new : Machine) → Keeps old new → LeavesAtRest new → GoesOn old new
-goes old new keeps rest = record { formats = keeps.formats; carries = keeps.carries; since = keeps.since; rest = rest }
+goes old new keeps rest = record { makes = keeps.makes; carries = keeps.carries; since = keeps.since; rest = rest }
 
 asks_keeps : (a : ImageAsked) (old new : Machine) (room : List ℕ) (what : DeviceAsk) (filled : List ℕ) → PartsFollow → old.asked ≡ a
     → AsksBy a old room what new filled → Keeps old new
@@ -156,7 +156,7 @@ asks_goes old new room what filled parts asks rest =
 -- the work stays
 works_on : (old : Machine) (now : ImageAsked) → under_way now ≤ under_way old.asked → Keeps old (record old { asked = now })
 works_on old now fewer = record {
-  formats = λ shape first f. f;
+  makes = λ what shape first f. f;
   carries = λ first c. c;
   since = λ first. since_still first old (record old { asked = now }) (some_go 0 old.work.medium) (omega (arith, fewer));
 }

@@ -3,23 +3,15 @@ use Rattle.std.proofs.{Common.{◌≡◌, ◌⊎◌, inl, inr, ◌+◌, ◌<◌,
 use Rattle.medium.specs.{Sent.sent, declared.fault.MediumFault.MediumFault}
 use Rattle.std.specs.{Prelude.Bool}
 use Rattle.window.specs.{Window.{Window, state_of, kept_out, ComesAfter, CoversDevice}, Looks.{near_in_sight, none_missed}}
-use Rattle.journal.specs.{Places.{Shape, first_home}, Formats.shape_of}
-use Rattle.recovery.specs.{Calls.{MakesNoRead, IsLaid, LayingLeaves}, Causes.start_fault_of}
+use Rattle.journal.specs.{Places.Shape}
+use Rattle.recovery.specs.{Calls.MakesNoRead, Causes.start_fault_of}
 use Rattle.recovery.specs.Recovered.{IsMigrationBy, IsMigrationRefusal, IsMigrationCause, MigrationLeaves}
 use Rattle.recovery.specs.{declared.recovered.Recovered.Recovered, declared.start_fault.StartFault.StartFault}
-use Rattle.image_calls.specs.{Parts.IsBegun, Formats.{BeginsFormat, HasRoom}, declared.work.Work.Work, declared.plan.Plan.Plan}
-use Rattle.image_calls.specs.Images.{IsLaidOn, IsMigratedOn, IsMigratedNot, MissesNone}
+use Rattle.image_calls.specs.{Parts.IsBegun, Formats.{BeginsMaking, most_of_part}, declared.work.Work.Work}
+use Rattle.image_calls.specs.{declared.plan.Aim.Aim, declared.plan.Plan.Plan}
+use Rattle.image_calls.specs.Images.{IsMigratedOn, IsMigratedNot, MissesNone}
 use Rattle.recovery.specs.declared.start_fault.StartFault.TheVariants as start
 use Rattle.medium.specs.declared.fault.MediumFault.TheVariants as kind
-
--- a medium of the device that the first one tells
-pub laid_on : (shape : Shape) (first m new held : Window) → m ≡ first → held ≡ new → IsLaid shape (state_of m) (state_of new)
-    → LayingLeaves shape (state_of m) (state_of new) → (state_of new).calls ≡ (state_of m).calls + (first_home shape + 5)
-    → ComesAfter m new → CoversDevice m new → IsLaidOn shape first held
-laid_on shape first m new held on same laid leaves calls follows covers =
-    subst (λ (w : Window). IsLaidOn shape first w) (sym same)
-    (subst (λ (w : Window). IsLaidOn shape w new) on
-    (record { laid = laid; leaves = leaves; calls = calls; waits = record { follows = follows; covers = covers } }))
 
 -- no write and no flush is refused for which there is room
 pub kept_same : (old new : Window) → ComesAfter old new → length old.outbox + sent (state_of new) ≤ sent (state_of old) + old.room
@@ -94,26 +86,20 @@ migrated_not first m after why on empty refusal leaves follows =
       seen = misses_none m after follows leaves;
     })
 
--- ---- a format that has begun
-
--- there is room for each of its parts
-has_room : (shape : Shape) (plan : Plan) (first new : Window) → first_home shape + 5 ≤ first.room
-    → ComesAfter first new → shape ≡ shape_of plan.sizes → HasRoom (Some plan) new
-has_room shape plan first new room follows same =
-    subst (λ (s : Shape). first_home s + 5 ≤ new.room) same (omega (arith, room, follows.room_stays))
+-- ---- an image that has begun
 
 -- two calls wait
-pub begins : (shape : Shape) (first m new : Window) (plan : Plan) (held : Work) → m ≡ first
+pub begins : (what : Aim) (shape : Shape) (first m new : Window) (plan : Plan) (held : Work) → m ≡ first
     → held ≡ record { medium = new; left = Some plan }
-    → first.room ≡ first_home shape + 5 → IsBegun shape plan (state_of m) (state_of new) → ComesAfter m new
-    → CoversDevice m new → BeginsFormat shape first held
-begins shape first m new plan held on same room begun follows covers =
-    subst (λ (w : Work). BeginsFormat shape first w) (sym same)
-    (subst (λ (w : Window). BeginsFormat shape w (record { medium = new; left = Some plan })) on (record {
-      formatting = record {
-        on_way = begun.1;
-        room = has_room shape plan m new (omega (arith, room, ap (λ (w : Window). w.room) on)) follows begun.1.0;
+    → first.room ≡ most_of_part → IsBegun state_of what shape plan m new → ComesAfter m new
+    → CoversDevice m new → BeginsMaking what shape first held
+begins what shape first m new plan held on same room begun follows covers =
+    subst (λ (w : Work). BeginsMaking what shape first w) (sym same)
+    (subst (λ (w : Window). BeginsMaking what shape w (record { medium = new; left = Some plan })) on (record {
+      making = record {
+        on_way = begun.0;
+        room = omega (arith, room, ap (λ (w : Window). w.room) on, follows.room_stays);
       };
-      calls = omega (arith, begun.1.1.calls, begun.0);
+      calls = begun.1;
       waits = record { follows = follows; covers = covers };
     }))

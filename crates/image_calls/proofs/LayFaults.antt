@@ -1,12 +1,12 @@
 -- A medium for a plan that fits refuses no call that the plan makes.
-use Rattle.std.proofs.Common.{◌≡◌, ◌-◌, ◌*◌, ◌+◌, ◌≤◌, ◌++◌, ℕ, List, length, arith, length-append, ap, sym, subst}
+use Rattle.std.proofs.Common.{◌≡◌, ◌-◌, ◌*◌, ◌≤◌, ◌++◌, ℕ, List, length, arith, length-append, ap, sym, subst}
 use Rattle.std.proofs.lemmas.List.{length-take, length-replicate}
 use Rattle.std.specs.Prelude.{replicate, take}
 use Rattle.window.specs.Window.{Window, state_of, ComesAfter}
-use Rattle.journal.specs.Places.{Shape, first_home}
+use Rattle.journal.specs.Places.{Shape}
 use Rattle.recovery.specs.{Calls.{AreSizes, IsFormatCause}, declared.format_fault.FormatFault.FormatFault}
 use Rattle.recovery.specs.declared.format_fault.FormatFault.TheVariants as format_fault
-use Rattle.image_calls.specs.{Parts.SendsPart, Plans.{shape_by, medium_by}, declared.image_plan.ImagePlan.ImagePlan}
+use Rattle.image_calls.specs.{Parts.SendsPart, Formats.most_of_part, Plans.{shape_by, medium_by}, declared.image_plan.ImagePlan.ImagePlan}
 use Rattle.image_calls.proofs.{Laid.none_refused}
 
 module _ (near holds : List ℕ) (plan : ImagePlan) where
@@ -33,7 +33,7 @@ module _ (near holds : List ℕ) (plan : ImagePlan) where
   -- so many calls that read nothing
   pub never_fails : (shape : Shape) (m new : Window) (fault : FormatFault) (most : ℕ) → m ≡ medium_by near holds plan
       → shape ≡ shape_by plan → AreSizes plan.sectors (shape_by plan) → ComesAfter m new
-      → SendsPart most (state_of m) (state_of new) → most ≤ first_home shape + 5
+      → SendsPart most (state_of m) (state_of new) → most ≤ most_of_part
       → IsFormatCause shape (state_of m) (state_of new) fault → ⊥
   never_fails shape m new format_fault.BadSize most on same sizes follows sends few cause =
       cause (subst (λ (s : Shape). AreSizes (state_of m).size s) (sym same)
@@ -43,7 +43,6 @@ module _ (near holds : List ℕ) (plan : ImagePlan) where
         arith,
         ap (λ (w : Window). length w.outbox) on,
         ap (λ (w : Window). w.room) on,
-        ap (λ (s : Shape). first_home s) same,
         sends.1,
         few,
       )) sends.0 cause.1

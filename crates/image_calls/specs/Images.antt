@@ -1,8 +1,8 @@
 -- What is made of an image on a device, and what waits for the device then.
 use Rattle.std.specs.Prelude.{◌≡◌, ◌⊎◌, ◌+◌, ◌<◌, ◌≤◌, Bool, None}
 use Rattle.window.specs.Window.{Window, state_of, kept_out, ComesAfter, CoversDevice}
-use Rattle.journal.specs.{Places.{Shape, first_home}, Standing.HasShape}
-use Rattle.recovery.specs.Calls.{HoldsLog, IsLaid, LayingLeaves}
+use Rattle.journal.specs.{Places.Shape, Standing.HasShape}
+use Rattle.recovery.specs.Calls.{HoldsLog}
 use Rattle.recovery.specs.Recovered.{IsMigrationBy, IsMigrationRefusal, MigrationLeaves}
 use Rattle.recovery.specs.{Recovered.most_migration_sends, declared.recovered.Recovered.Recovered}
 use Rattle.recovery.specs.{declared.start_fault.StartFault.StartFault}
@@ -16,13 +16,6 @@ use Rattle.image_calls.specs.{declared.work.Work.Work}
 pub record WaitFor (first new : Window) : Type 0 where
   pub follows : ComesAfter first new
   pub covers : CoversDevice first new
-
--- A log was laid on the device of this medium, by 5 calls more than there are sectors before home.
-pub record IsLaidOn (shape : Shape) (first new : Window) : Type 0 where
-  pub laid : IsLaid shape (state_of first) (state_of new)
-  pub leaves : LayingLeaves shape (state_of first) (state_of new)
-  pub calls : (state_of new).calls ≡ (state_of first).calls + (first_home shape + 5)
-  pub waits : WaitFor first new
 
 -- No read was refused, where the first sectors are all before the first home sector: none named any
 -- other.

@@ -8,10 +8,11 @@ use Rattle.recovery.specs.{Calls.IsMidway, Recovered.{IsOursForSome, IsOursInEit
 use Rattle.window.specs.{Window.{Window, mirror_of}, OutboxMedium.sent, Device.{durable, after}}
 use Rattle.window.specs.{declared.ask.DeviceAsk.DeviceAsk}
 use Rattle.window.specs.{declared.done_fault.DoneFault.DoneFault}
-use Rattle.image_calls.specs.Formats.{BeginsFormat, IsFormatting}
-use Rattle.image_calls.specs.Images.{IsLaidOn, IsMigratedOn, IsFinished}
+use Rattle.image_calls.specs.Formats.{BeginsFormat, BeginsLog, IsMaking}
+use Rattle.image_calls.specs.Images.{IsMigratedOn, IsFinished}
 use Rattle.image_calls.specs.Machines.{Machine, Asks, Hears, MayLeave, Begins, GoesOn, carried}
-use Rattle.image_calls.specs.{Machines.state_of, Parts.IsMadeAnew}
+use Rattle.image_calls.specs.{Machines.state_of, Parts.{IsMadeAnew, IsLaidAnew}}
+use Rattle.image_calls.specs.declared.plan.{Aim.Aim}
 use Rattle.window.specs.Window as window
 use Rattle.window.specs.declared.ask.DeviceAsk.TheVariants as ask
 use Rattle.image_calls.specs.declared.image_asked.ImageAsked.TheVariants as asked
@@ -51,13 +52,13 @@ pub record LeavesMigrated (first begun : Window) (s : Machine) : Type 0 where
   pub done : state_of s ≡ state.Done → (image : Image) → MayLeave s image
       → (x : ℕ) → image x ≡ (window.state_of begun).content x
 
--- a format is under way, or made, or all that was to do was made at once
+-- an image is under way, or made, or all that was to do was made at once
 abbrev pub HasWork : Machine → Type 0
-HasWork s = ((shape : Shape) × (first : Window) × IsFormatting shape first s.work)
+HasWork s = ((what : Aim) × (shape : Shape) × (first : Window) × IsMaking what shape first s.work)
     ⊎ (s.work.left ≡ None)
 
 -- Whatever calls come, in any order. A format that is done has sent as many calls as the image has
--- sectors, and seven more.
+-- sectors, and seven more; a log that is laid, five more than there are sectors before home.
 pub record LeavesThroughout : Type 0 where
   pub formats : (shape : Shape) (first : Window) (calls : List Call) (old new : Machine)
       → Begins (BeginsFormat shape first) first old → AreMade calls old new
@@ -65,8 +66,10 @@ pub record LeavesThroughout : Type 0 where
       × (state_of new ≡ state.Done → IsMadeAnew shape (window.state_of first)
       (window.state_of new.work.medium))
   pub logs : (shape : Shape) (first : Window) (calls : List Call) (old new : Machine)
-      → Begins (IsFinished (IsLaidOn shape first)) first old → AreMade calls old new
+      → Begins (BeginsLog shape first) first old → AreMade calls old new
       → LeavesImage shape (home_of shape (window.state_of first).content) first new
+      × (state_of new ≡ state.Done → IsLaidAnew shape (window.state_of first)
+      (window.state_of new.work.medium))
   pub migrations : (first : Window) (calls : List Call) (old new : Machine)
       → Begins (IsFinished (IsMigratedOn first)) first old → AreMade calls old new
       → LeavesMigrated first old.work.medium new

@@ -9,10 +9,11 @@ use Rattle.window.specs.{Window.{Window, mirror_of}, declared.ask.DeviceAsk.Devi
 use Rattle.window.specs.{declared.done_fault.DoneFault.DoneFault}
 use Rattle.journal.specs.{Places.Shape}
 use Rattle.store_calls.specs.Outbox.{without, IsLongestRun}
-use Rattle.image_calls.specs.{Formats.{IsFormatting, MakesParts}, declared.work.Work.Work}
+use Rattle.image_calls.specs.{Formats.{IsMaking, MakesParts}, declared.work.Work.Work}
 use Rattle.image_calls.specs.{declared.image_asked.ImageAsked.ImageAsked}
 use Rattle.image_calls.specs.{declared.image_asked.ImageCall.ImageCall}
 use Rattle.image_calls.specs.{declared.machine.ImageMachine.ImageMachine, declared.plan.Plan.Plan}
+use Rattle.image_calls.specs.declared.plan.{Aim.Aim}
 use Rattle.image_calls.specs.{declared.state.ImageState.ImageState}
 use Rattle.window.specs.declared.call.DeviceCall.TheVariants as call
 use Rattle.window.specs.Window as window
@@ -147,8 +148,8 @@ CarriesOut first s = (s.work.left ≡ None)
 
 -- What each call keeps.
 pub record GoesOn (old new : Machine) : Type 0 where
-  pub formats : (shape : Shape) (first : Window) → IsFormatting shape first old.work
-      → IsFormatting shape first new.work
+  pub makes : (what : Aim) (shape : Shape) (first : Window) → IsMaking what shape first old.work
+      → IsMaking what shape first new.work
   pub carries : (first : Window) → CarriesOut first old → CarriesOut first new
   pub since : (first : Window) → LeavesSince first old → LeavesSince first new
   pub rest : LeavesAtRest new

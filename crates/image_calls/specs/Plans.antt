@@ -1,14 +1,15 @@
 -- What an image is begun on: by a plan, or by the super of the image that is there.
-use Rattle.std.specs.Prelude.{◌≡◌, ◌≢◌, ◌⊎◌, ℕ, ◌+◌, ◌≤◌, List, length, MatchResult, Result, Option}
+use Rattle.std.specs.Prelude.{◌≡◌, ◌≢◌, ◌⊎◌, ℕ, ◌≤◌, List, length, MatchResult, Result, Option}
 use Rattle.std.specs.Prelude.{Some, None, zero, suc}
 use Rattle.medium.specs.{Writes.sector_of}
-use Rattle.journal.specs.{Places.{Shape, shape_with, first_home}, Sectors.IsSuper}
+use Rattle.journal.specs.{Places.{Shape, shape_with}, Sectors.IsSuper}
 use Rattle.recovery.specs.Calls.{AreSizes, HoldsLog}
 use Rattle.recovery.specs.Recovered.{IsMigrationRefusal, most_migration_sends}
 use Rattle.recovery.specs.{declared.start_fault.StartFault.StartFault}
 use Rattle.window.specs.Window.{Window, state_of, fresh}
 use Rattle.store_calls.specs.{Starts.IsNoLength}
 use Rattle.image_calls.specs.{Images.{IsMigratedOn, IsFinished}, Machines.{Machine, Begins}}
+use Rattle.image_calls.specs.{Formats.most_of_part}
 use Rattle.image_calls.specs.{declared.image_fault.ImageFault.ImageFault}
 use Rattle.image_calls.specs.{declared.image_plan.ImagePlan.ImagePlan}
 use Rattle.recovery.specs.declared.start_fault.StartFault.TheVariants as start
@@ -23,10 +24,9 @@ home_in (suc n) = Some (suc n)
 abbrev pub shape_by : ImagePlan → Shape
 shape_by plan = shape_with plan.format plan.blocks plan.slots (home_in plan.home)
 
--- The medium that the plan is carried out on: there is room for a part of a format, and for the
--- laying of a log.
+-- the medium that the plan is carried out on: there is room for a part of it
 abbrev pub medium_by : List ℕ → List ℕ → ImagePlan → Window
-medium_by near holds plan = fresh plan.sectors near holds 0 (first_home (shape_by plan) + 5)
+medium_by near holds plan = fresh plan.sectors near holds 0 most_of_part
 
 -- why the plan is not carried out: by the lengths or the sizes, or for want of memory
 abbrev pub IsPlanFault : List ℕ → ImagePlan → ImageFault → Type 0

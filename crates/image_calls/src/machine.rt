@@ -2,8 +2,8 @@
 ghost use Rattle.std.specs.Prelude.{◌≡◌, MatchResult, List, []};
 ghost use Rattle.window.specs.OutboxMedium.{sent};
 ghost use Rattle.window.specs.Window.{Window, mirror_of};
-ghost use Rattle.image_calls.specs.Images.{IsLaidOn, IsFinished, WaitFor};
-ghost use Rattle.image_calls.specs.Formats.{BeginsFormat};
+ghost use Rattle.image_calls.specs.Images.{WaitFor};
+ghost use Rattle.image_calls.specs.Formats.{BeginsMaking, BeginsFormat, BeginsLog};
 ghost use Rattle.image_calls.specs.Machines.{Begins, LeavesSince, LeavesAtRest};
 ghost use Rattle.image_calls.specs.Machines.{begun, state_by, state_at_rest};
 ghost use Rattle.image_calls.specs.Plans.{Migrates, IsPlanFault, shape_by, medium_by};
@@ -11,7 +11,8 @@ ghost use Rattle.image_calls.specs.Plans.{Migrates, IsPlanFault, shape_by, mediu
 use crate::ImageFault;
 use crate::image_asked::ImageAsked;
 use crate::image_plan::ImagePlan;
-use crate::making::{begin_on, lay_on, migrate_on, window_of};
+use crate::making::{begin_on, migrate_on, window_of};
+use crate::plan::Aim;
 use crate::room::room_to_migrate;
 use crate::state::ImageState;
 use crate::work::Work;
@@ -44,8 +45,7 @@ impl ImageMachine {
             MatchResult result (Begins (BeginsFormat (shape_by plan.now) first) first)
             (IsPlanFault near.items plan.now) }
     {
-        let work = begin_on(alloc, near, device, plan)?;
-        Ok(ImageMachine::over(work))
+        ImageMachine::make(alloc, near, device, plan, Aim::Format)
     }
 
     /// Begins to lay a log before blocks that are at home already, as `format` begins a format.
@@ -60,11 +60,10 @@ impl ImageMachine {
         plan: &ImagePlan,
     ) -> Result<ImageMachine, ImageFault>
         ensures { let first = medium_by near.items device.now.bytes plan.now in
-            MatchResult result (Begins (IsFinished (IsLaidOn (shape_by plan.now) first)) first)
+            MatchResult result (Begins (BeginsLog (shape_by plan.now) first) first)
             (IsPlanFault near.items plan.now) }
     {
-        let work = lay_on(alloc, near, device, plan)?;
-        Ok(ImageMachine::over(work))
+        ImageMachine::make(alloc, near, device, plan, Aim::Laying)
     }
 
     /// Begins to make an image of format 1 one of format 2, on a device of `sectors` sectors, of
@@ -110,6 +109,22 @@ impl ImageMachine {
         } else {
             ImageState::Working
         }
+    }
+
+    // Begins to make one of the two.
+    fn make(
+        alloc: Global,
+        near: Vec<u8>,
+        device: &DeviceHolds,
+        plan: &ImagePlan,
+        aim: Aim,
+    ) -> Result<ImageMachine, ImageFault>
+        ensures { let first = medium_by near.items device.now.bytes plan.now in
+            MatchResult result (Begins (BeginsMaking aim (shape_by plan.now) first) first)
+            (IsPlanFault near.items plan.now) }
+    {
+        let work = begin_on(alloc, near, device, plan, aim)?;
+        Ok(ImageMachine::over(work))
     }
 
     // Over work whose calls wait for the device.

@@ -1,19 +1,19 @@
-//! What comes first of the work on an image: all of it, or the first part of a format.
-ghost use Rattle.std.specs.Prelude.{◌≡◌, ◌⊎◌, ◌<◌, ◌+◌, ◌/◌, length};
+//! What comes first of the work on an image: the first part of it, or all of a migration.
+ghost use Rattle.std.specs.Prelude.{◌≡◌, ◌⊎◌, ◌<◌, ◌/◌, length};
 ghost use Rattle.std.specs.Prelude.{IfOk, IfErr, OnOk, MatchResult};
 ghost use Rattle.window.specs.Window.{Window, fresh};
 ghost use Rattle.store_calls.specs.Starts.{IsNoLength};
-ghost use Rattle.image_calls.specs.Images.{IsLaidOn, IsMigratedOn, IsMigratedNot, IsFinished};
-ghost use Rattle.image_calls.specs.Formats.{BeginsFormat};
+ghost use Rattle.image_calls.specs.Images.{IsMigratedOn, IsMigratedNot, IsFinished};
+ghost use Rattle.image_calls.specs.Formats.{BeginsMaking};
 ghost use Rattle.image_calls.specs.Plans.{shape_by, medium_by, IsPlanFault};
 ghost use Rattle.recovery.specs.declared.start_fault.StartFault.TheVariants.{NoMemory};
 
 use crate::ImageFault;
 use crate::image_plan::ImagePlan;
-use crate::part::begin_format;
+use crate::part::{PART, begin};
+use crate::plan::Aim;
 use crate::work::Work;
-use journal::Super;
-use recovery::{StartFault, lay_log, migrate};
+use recovery::{StartFault, migrate};
 use std::alloc::Global;
 use window::{DeviceHolds, Reserve, WindowError, WindowMedium};
 
@@ -38,53 +38,23 @@ pub(crate) fn window_of(
     }
 }
 
-// How many calls it takes to lay the log of these sizes.
-fn calls_to_lay(sizes: &Super) -> usize
-    ensures { result ≡ sizes.now.home + 5 }
-{
-    sizes.home as usize + 5
-}
-
-/// Lays a log on a device.
-pub(crate) fn lay_on(
-    alloc: Global,
-    near: Vec<u8>,
-    device: &DeviceHolds,
-    plan: &ImagePlan,
-) -> Result<Work, ImageFault>
-    ensures { let first = medium_by near.items device.now.bytes plan.now in
-        MatchResult result (IsFinished (IsLaidOn (shape_by plan.now) first))
-        (IsPlanFault near.items plan.now) }
-{
-    let sizes = plan.sizes().ok_or(ImageFault::Sizes)?;
-    let room = calls_to_lay(&sizes);
-    let mut medium = window_of(alloc, near, plan.sectors, device, room)?;
-    // The law of the outbox, from the first call on.
-    let _waiting = medium.waiting();
-    match lay_log(&mut medium, &sizes) {
-        Ok(()) => Ok(Work { medium, left: None }),
-        // There is room for all of its calls, so that none is refused.
-        Err(_) => Err(ImageFault::Sizes),
-    }
-}
-
-/// Begins to make an image of zeros on a device.
+/// Begins to make an image on a device, or to lay a log on it.
 pub(crate) fn begin_on(
     alloc: Global,
     near: Vec<u8>,
     device: &DeviceHolds,
     plan: &ImagePlan,
+    aim: Aim,
 ) -> Result<Work, ImageFault>
     ensures { let first = medium_by near.items device.now.bytes plan.now in
-        MatchResult result (BeginsFormat (shape_by plan.now) first)
+        MatchResult result (BeginsMaking aim (shape_by plan.now) first)
         (IsPlanFault near.items plan.now) }
 {
     let sizes = plan.sizes().ok_or(ImageFault::Sizes)?;
-    let room = calls_to_lay(&sizes);
-    let mut medium = window_of(alloc, near, plan.sectors, device, room)?;
+    let mut medium = window_of(alloc, near, plan.sectors, device, PART as usize)?;
     // The law of the outbox, from the first call on.
     let _waiting = medium.waiting();
-    match begin_format(&mut medium, &sizes) {
+    match begin(&mut medium, &sizes, aim) {
         Ok(left) => Ok(Work {
             medium,
             left: Some(left),

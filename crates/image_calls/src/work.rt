@@ -2,7 +2,7 @@
 use crate::plan::Plan;
 use window::WindowMedium;
 
-/// A medium whose calls wait for the device, and what is left of a format of it.
+/// A medium whose calls wait for the device, and what is left of the making of its image.
 #[derive(Drop)]
 pub struct Work {
     pub medium: WindowMedium,

@@ -6,7 +6,7 @@ use Rattle.image_calls.proofs.going.go_on.Goals as goal
 pub loop-plan-init : goal.loop-plan-init
 loop-plan-init c = record {
   follows = comes_after_itself c.args.work.now.medium;
-  keeps = λ shape first formatting. formatting;
+  keeps = λ what shape first making. making;
   stays = λ either. refl;
 }
 
