@@ -154,6 +154,15 @@ uint64_t usbdisk_memory(uint32_t format, uint64_t slots);
 /* The same where `kept` is that of its options. */
 uint64_t usbdisk_memory_kept(uint32_t format, uint64_t slots, uint32_t kept);
 
+/* How many bytes of memory usbdisk_format and usbdisk_lay_log take at most, for an image of this
+ * format with `slots` log slots: the same for every number of either. 0 where there is no such
+ * format or number of slots. */
+uint64_t usbdisk_memory_to_format(uint32_t format, uint64_t slots);
+
+/* How many bytes of memory usbdisk_migrate takes at most, of an image of format 1 with `slots` log
+ * slots. 0 where there is no such number of slots. */
+uint64_t usbdisk_memory_to_migrate(uint64_t slots);
+
 /* Who the disk is, as INQUIRY tells it: printable ASCII, padded with spaces, with no final 0. C++
  * takes no string literal of full length for such a field: usbdisk_identify fills it there too. */
 struct usbdisk_identity {
@@ -344,10 +353,10 @@ struct usbdisk_plan {
 };
 
 /* Makes an image of blocks of zeros. The device is to read sector 0, and then to carry out as many
- * calls as the image has sectors, and seven more, in runs as the buffer has room for. Only a part
- * of them waits at a time, so the memory is the same for every number of blocks. When the state is
- * DONE the image is there. Power may go at any point: a cut leaves what was there before, until the
- * second write is carried out, no image, or the new one, whole.
+ * calls as the image has sectors, and seven more, in runs of up to 32. No more than these wait at a
+ * time, so the memory is the same for every number of blocks and slots. When the state is DONE the
+ * image is there. Power may go at any point: a cut leaves what was there before, until the second
+ * write is carried out, no image, or the new one, whole.
  *
  * Answers 0; STARTED or BAD_SIZES; or NO_MEMORY, and the handle stays empty. */
 uint32_t usbdisk_format(struct usbdisk *image, const struct usbdisk_plan *plan);

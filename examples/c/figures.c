@@ -16,7 +16,7 @@ enum { BLOCKS_AT = 16 };
 
 /* What a start takes and gives back: its recovery, and the first that it reads of the log. What a
  * handle takes of which nothing is left to do. */
-enum { RECOVERY = 37408 + 64, HANDLE = 944 };
+enum { RECOVERY = 37472, HANDLE = 944 };
 
 static uint8_t *medium;
 static struct usbdisk_options options = {
@@ -29,12 +29,12 @@ static uint64_t home_of(uint32_t format, uint64_t slots)
     return 2 + (format == 1 ? 50 : 249) * slots;
 }
 
-/* An image in memory stands for the device. */
+/* Memory stands for the device. */
 static void make_device(uint32_t format, uint64_t slots)
 {
     options.sectors = home_of(format, slots) + BLOCKS;
-    medium = malloc(512 * options.sectors);
-    if (!medium || format_memory(medium, 512 * options.sectors, format, BLOCKS, slots))
+    medium = calloc(options.sectors, 512);
+    if (!medium)
         exit(EXIT_FAILURE);
 }
 
@@ -103,8 +103,8 @@ static bool is_memory_told(uint32_t format, uint64_t slots, bool tells)
  * among them; with few blocks, and where none or all are kept with the most. */
 static bool are_told(uint32_t format, uint64_t slots, bool tells)
 {
-    bool good = true;
     make_device(format, slots);
+    bool good = true;
     for (options.kept = 0; options.kept <= slots + 1; options.kept++) {
         have_blocks(format, slots, BLOCKS);
         good &= is_memory_told(format, slots, tells && (options.kept < 5 || options.kept > slots));
@@ -139,10 +139,12 @@ static bool is_work_told(uint32_t format, uint64_t slots, uint64_t between)
 {
     uint64_t home = home_of(format, slots) + between, sectors = home + BLOCKS;
     const struct usbdisk_plan plan = { sectors, format, slots, BLOCKS, home };
-    uint64_t moved = format == 1 ? 6720 + 77344 * slots : 4080 + 254208 * slots + 512 * between;
+    uint64_t made = usbdisk_memory_to_format(format, slots);
+    uint64_t moved =
+        format == 1 ? usbdisk_memory_to_migrate(slots) : 4080 + 254208 * slots + 512 * between;
     medium = calloc(512, sectors);
-    bool good = medium && takes(usbdisk_format, &plan, "a format", 4096 + 528 * home) &&
-                takes(usbdisk_lay_log, &plan, "a laying", 4096 + 528 * home) &&
+    bool good = medium && takes(usbdisk_format, &plan, "a format", made) &&
+                takes(usbdisk_lay_log, &plan, "a laying", made) &&
                 takes(usbdisk_migrate, &plan, "a migration", moved);
     if (!good)
         printf("format %u, %llu slots\n", format, (unsigned long long)slots);
@@ -166,6 +168,8 @@ int main(int count, char **words)
             good &= format == 1 || is_work_told(format, slots, PAGE);
         }
     good &= measure_stacks(&most);
+    printf("heap: %d bytes of a recovery, %llu of an image that is made\n", RECOVERY,
+           (unsigned long long)usbdisk_memory_to_format(2, 64));
     for (uint32_t format = 1; format <= 2; format++)
         printf("a store of format %u: %llu bytes less\n", format,
                (unsigned long long)store_takes_less(format));

@@ -372,6 +372,13 @@ static void play_images(void)
     must(usbdisk_memory_kept(1, 6, 4) == usbdisk_memory_kept(1, 6, 3) + 26952 &&
              usbdisk_memory_kept(2, 6, 4) == usbdisk_memory_kept(2, 6, 3) + 128720,
          "the memory of one record more");
+    must(usbdisk_memory_to_format(2, 1) == usbdisk_memory_to_format(1, 64) &&
+             !usbdisk_memory_to_format(0, 1) && !usbdisk_memory_to_format(3, 1) &&
+             !usbdisk_memory_to_format(2, 0) && !usbdisk_memory_to_format(1, 65),
+         "the memory of an image that is made");
+    must(usbdisk_memory_to_migrate(6) == usbdisk_memory_to_migrate(5) + 77344 &&
+             !usbdisk_memory_to_migrate(0) && !usbdisk_memory_to_migrate(65),
+         "the memory of a migration");
 }
 
 int main(void)

@@ -31,7 +31,7 @@ pub use bus::{answer_setup, send_in, take_out};
 pub use handle::{Opaque, UsbDisk};
 pub use idling::{look_ahead, make_steps};
 pub use imaging::{format, lay_log, migrate};
-pub use memory::memory_of;
+pub use memory::{memory_of, memory_to_format, memory_to_migrate};
 pub use options::{UsbDiskOptions, UsbDiskPlan};
 pub use starting::{start_disk, start_store, stop};
 pub use state::tell_state;

@@ -1,10 +1,12 @@
-//! How much memory a disk takes.
+//! How much memory a disk takes, and the work on an image.
 ghost use Rattle.std.specs.Prelude.{◌≡◌, ◌≤◌};
 ghost use Rattle.calls.specs.Memory.{TellsMemory, memory_on};
+ghost use Rattle.calls.specs.Memory.{TellsMemoryToFormat, TellsMemoryToMigrate};
 ghost use Rattle.disk_machine.specs.Room.{record_memory};
 
 use crate::options::kept_by;
 use disk_machine::room_for;
+use image_calls::PART;
 use journal::LogFormat;
 use store_calls::span_of;
 
@@ -13,6 +15,11 @@ const HELD: u64 = 944;
 
 // What the first two sectors take.
 const NEAR: u64 = 1_024;
+
+// What a sector takes, and a call that waits.
+const SECTOR: u64 = 512;
+
+const CALL: u64 = 528;
 
 /// How many bytes of memory a disk takes on an image of this format with `slots` slots, of whose
 /// log so many records lie in memory: four where `kept` is 0. 0 where there is no such format or
@@ -45,4 +52,27 @@ fn record_memory(format: LogFormat) -> u64
     ensures { result ≡ record_memory format }
 {
     1_928 * format.version() + 520 * u64::from(format.limit()) + 64
+}
+
+/// How many bytes of memory it takes to make an image of this format with `slots` slots, or to lay
+/// its log: sector 0, a part of the image and the work. 0 where there is no such format or number of
+/// slots.
+pub fn memory_to_format(version: u32, slots: u64) -> u64
+    ensures { TellsMemoryToFormat version slots result }
+{
+    if slots < 1 || slots > 64 || LogFormat::of_version(u64::from(version)).is_none() {
+        return 0;
+    }
+    SECTOR + CALL * PART + HELD
+}
+
+/// How many bytes of memory it takes to migrate an image of format 1 with `slots` slots: all sectors
+/// before home, all calls of the migration and the work. 0 where there is no such number of slots.
+pub fn memory_to_migrate(slots: u64) -> u64
+    ensures { TellsMemoryToMigrate slots result }
+{
+    if slots < 1 || slots > 64 {
+        return 0;
+    }
+    SECTOR * (2 + 50 * slots) + CALL * (98 * slots + 9) + HELD
 }

@@ -1,9 +1,11 @@
 //! The parts by which an image is made: each by so few calls that they have room in an outbox.
-ghost use Rattle.std.specs.Prelude.{◌≡◌, ◌+◌, ◌<◌, ◌≤◌, Some, OnOk, OnErr, IfOk, IfErr, MatchOption};
+ghost use Rattle.std.specs.Prelude.{◌≡◌, ◌+◌, ◌<◌, ◌≤◌, Some, OnOk, OnErr, IfOk, IfErr};
+ghost use Rattle.std.specs.Prelude.{MatchOption};
 ghost use Rattle.journal.specs.Formats.{shape_of};
 ghost use Rattle.recovery.specs.Calls.{IsFormatCause};
 ghost use Rattle.image_calls.specs.Parts.{IsBegun, KeepsOnWay, FailsOnWay, GoesPart};
 ghost use Rattle.image_calls.specs.Parts.{LaysTheRest, parts_left};
+ghost use Rattle.image_calls.specs.Formats.{most_of_part};
 ghost use Rattle.image_calls.specs.declared.plan.Plan.TheVariants as left;
 
 use crate::plan::{Aim, HomePlan, LogPlan, Plan};
@@ -50,7 +52,7 @@ pub(crate) fn next_part<M: Medium>(m: &mut M, plan: Plan) -> Result<Option<Plan>
     ensures ok { IfOk result (λ rest. KeepsOnWay M.state plan rest m.old m.new) }
     ensures err { OnErr result (FailsOnWay M.state plan m.old m.new) }
     ensures nearer { IfOk result (λ rest. parts_left rest < parts_left (Some plan)) }
-    ensures goes { GoesPart M.state M.follows 32 m.old m.new }
+    ensures goes { GoesPart M.state M.follows most_of_part m.old m.new }
 {
     match plan {
         Plan::Home(home) => Ok(Some(home_part(m, home)?)),
@@ -78,21 +80,22 @@ fn home_part<M: Medium>(m: &mut M, plan: HomePlan) -> Result<Plan, FormatFault>
 }
 
 // The next part where home stays, or was cleared: none is left behind head and super.
-fn log_part<M: Medium>(m: &mut M, plan: LogPlan) -> Result<Option<Plan>, FormatFault>
-    ensures ok { IfOk result (λ rest. KeepsOnWay M.state (left.Log plan) rest m.old m.new) }
-    ensures err { OnErr result (FailsOnWay M.state (left.Log plan) m.old m.new) }
+fn log_part<M: Medium>(medium: &mut M, plan: LogPlan) -> Result<Option<Plan>, FormatFault>
+    ensures ok { IfOk result
+        (λ rest. KeepsOnWay M.state (left.Log plan) rest medium.old medium.new) }
+    ensures err { OnErr result (FailsOnWay M.state (left.Log plan) medium.old medium.new) }
     ensures nearer { IfOk result (λ rest. parts_left rest < parts_left (Some (left.Log plan))) }
-    ensures goes { GoesPart M.state M.follows 32 m.old m.new }
+    ensures goes { GoesPart M.state M.follows 32 medium.old medium.new }
 {
     let sizes = plan.sizes;
-    if m.sectors() < sizes.sectors() {
+    if medium.sectors() < sizes.sectors() {
         return Err(FormatFault::BadSize);
     }
     let Some(to) = end_of_part(plan.at, sizes.home) else {
-        lay_rest(m, &sizes)?;
+        lay_rest(medium, &sizes)?;
         return Ok(None);
     };
-    clear(m, plan.at, to)?;
+    clear(medium, plan.at, to)?;
     Ok(Some(Plan::Log(LogPlan { sizes, at: to })))
 }
 

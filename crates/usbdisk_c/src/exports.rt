@@ -2,7 +2,7 @@
 ghost use Rattle.std.specs.Prelude.{◌≡◌, ℕ, List};
 ghost use Rattle.calls.specs.Asking.{HandsOut};
 ghost use Rattle.calls.specs.Handles.{InHandle};
-ghost use Rattle.calls.specs.Memory.{TellsMemory};
+ghost use Rattle.calls.specs.Memory.{TellsMemory, TellsMemoryToFormat, TellsMemoryToMigrate};
 ghost use Rattle.calls.specs.Starting.{StartsDisk, Stops};
 ghost use Rattle.calls.specs.State.{TellsState};
 ghost use Rattle.calls.specs.Telling.{TellsDone};
@@ -31,6 +31,20 @@ pub extern "C" fn usbdisk_memory_kept(format: u32, slots: u64, kept: u32) -> u64
     ensures { TellsMemory format slots kept result }
 {
     calls::memory_of(format, slots, kept)
+}
+
+#[unsafe(no_mangle)]
+pub extern "C" fn usbdisk_memory_to_format(format: u32, slots: u64) -> u64
+    ensures { TellsMemoryToFormat format slots result }
+{
+    calls::memory_to_format(format, slots)
+}
+
+#[unsafe(no_mangle)]
+pub extern "C" fn usbdisk_memory_to_migrate(slots: u64) -> u64
+    ensures { TellsMemoryToMigrate slots result }
+{
+    calls::memory_to_migrate(slots)
 }
 
 #[unsafe(no_mangle)]

@@ -11,8 +11,9 @@ mod store_exports;
 
 pub use bus_exports::{usbdisk_ahead, usbdisk_idle, usbdisk_in, usbdisk_out, usbdisk_setup};
 pub use exports::{
-    usbdisk_done, usbdisk_memory, usbdisk_memory_kept, usbdisk_next, usbdisk_start, usbdisk_state,
-    usbdisk_stop, usbdisk_version,
+    usbdisk_done, usbdisk_memory, usbdisk_memory_kept, usbdisk_memory_to_format,
+    usbdisk_memory_to_migrate, usbdisk_next, usbdisk_start, usbdisk_state, usbdisk_stop,
+    usbdisk_version,
 };
 pub use image_exports::{usbdisk_format, usbdisk_lay_log, usbdisk_migrate};
 pub use look::usbdisk_look;

@@ -186,6 +186,20 @@ pub fn memory_kept(format: u32, slots: u64, kept: u32) -> u64 {
     unsafe { sys::usbdisk_memory_kept(format, slots, kept) }
 }
 
+/// How many bytes of memory it takes at most to make an image of this format with so many slots, or to
+/// lay its log: the same for every number of them. 0 where there is no such image.
+pub fn memory_to_format(format: u32, slots: u64) -> u64 {
+    // SAFETY: the call takes numbers alone.
+    unsafe { sys::usbdisk_memory_to_format(format, slots) }
+}
+
+/// How many bytes of memory it takes at most to migrate an image of format 1 with so many slots. 0 where
+/// there is no such image.
+pub fn memory_to_migrate(slots: u64) -> u64 {
+    // SAFETY: the call takes numbers alone.
+    unsafe { sys::usbdisk_memory_to_migrate(slots) }
+}
+
 /// What image begins with these bytes of sector 0: [`Fault::BadSuper`], [`Fault::BadVersion`] or
 /// [`Fault::BadSize`] where none does, as a start tells it.
 pub fn look(sector: &[u8; SECTOR]) -> Result<Layout, Refusal> {

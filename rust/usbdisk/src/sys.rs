@@ -43,6 +43,8 @@ extern "C" {
     pub fn usbdisk_look(sector: *const u8, layout: *mut crate::Layout) -> u32;
     pub fn usbdisk_memory(format: u32, slots: u64) -> u64;
     pub fn usbdisk_memory_kept(format: u32, slots: u64, kept: u32) -> u64;
+    pub fn usbdisk_memory_to_format(format: u32, slots: u64) -> u64;
+    pub fn usbdisk_memory_to_migrate(slots: u64) -> u64;
 
     pub fn usbdisk_start(disk: *mut usbdisk, options: *const usbdisk_options) -> u32;
     pub fn usbdisk_stop(disk: *mut usbdisk) -> u32;

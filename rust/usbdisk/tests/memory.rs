@@ -1,7 +1,7 @@
 //! What is started takes memory, and gives all of it back where it is dropped.
 use std::alloc::{GlobalAlloc, Layout, System};
 use std::cell::Cell;
-use usbdisk::{memory, memory_kept, version, Disk, Identity, Image, Plan, Store, VERSION};
+use usbdisk::{memory, memory_kept, memory_to_format, memory_to_migrate, version, Disk, Identity, Image, Plan, Store, VERSION};
 
 struct Counted;
 
@@ -73,6 +73,8 @@ fn what_is_dropped_gives_its_memory_back() {
     assert!(taken(|| Disk::start_keeping(sectors, &who, 512, 1).unwrap()) > 0);
     assert!(taken(|| Store::start_keeping(sectors, 1).unwrap()) > 0);
     assert!(memory(1, 3) > memory(1, 2) && memory(1, 2) > 0);
+    assert!(memory_to_format(2, 64) > 0 && memory_to_format(2, 65) == 0);
+    assert!(memory_to_migrate(6) > memory_to_migrate(5) && memory_to_migrate(0) == 0);
     assert_eq!(memory(2, 6), memory_kept(2, 6, 4));
     assert_eq!(memory_kept(2, 6, 4), memory_kept(2, 6, 3) + 128_720);
     assert_eq!((memory(3, 2), memory_kept(2, 65, 1)), (0, 0));
