@@ -21,8 +21,8 @@ TellsMemory format slots kept told =
     Tells (λ (kind : LogFormat). memory_on kind (ring_of kept slots)) format slots told
     × TellsNone format slots told
 
--- By measure, of work that has read so many sectors, and of which so many calls wait at most: these,
--- and what the box behind a handle takes.
+-- By measure, of work that has read so many sectors, and of which so many calls wait at most:
+-- these, and what the box behind a handle takes.
 abbrev pub memory_of_work : ℕ → ℕ → ℕ
 memory_of_work read waiting = 512 * read + 528 * waiting + 944
 

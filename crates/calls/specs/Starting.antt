@@ -17,7 +17,6 @@ use Rattle.disk_machine.specs.Machine.{Machine}
 use Rattle.disk_machine.specs.Moves.{begun, ServesAtRest, LeavesOfStart, HasRoomBeside}
 use Rattle.image_calls.specs.Reading.{Reading, unread, IsWhole}
 use Rattle.image_calls.specs.declared.reach.Reach.{Reach}
-use Rattle.image_calls.specs.declared.reach.Reach.TheVariants as reach
 use Rattle.calls.specs.Beginning.{BeginsStore, BeginsFormat, BeginsLog, BeginsMigration}
 use Rattle.calls.specs.Handles.{Held}
 use Rattle.calls.specs.Recovers.{IsFirst}

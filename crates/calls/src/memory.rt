@@ -55,8 +55,8 @@ fn record_memory(format: LogFormat) -> u64
 }
 
 /// How many bytes of memory it takes to make an image of this format with `slots` slots, or to lay
-/// its log: sector 0, a part of the image and the work. 0 where there is no such format or number of
-/// slots.
+/// its log: sector 0, a part of the image and the work. 0 where there is no such format or number
+/// of slots.
 pub fn memory_to_format(version: u32, slots: u64) -> u64
     ensures { TellsMemoryToFormat version slots result }
 {
@@ -66,13 +66,15 @@ pub fn memory_to_format(version: u32, slots: u64) -> u64
     SECTOR + CALL * PART + HELD
 }
 
-/// How many bytes of memory it takes to migrate an image of format 1 with `slots` slots: all sectors
+/// How many bytes of memory it takes to migrate an image of format 1 with `many` slots: all sectors
 /// before home, all calls of the migration and the work. 0 where there is no such number of slots.
-pub fn memory_to_migrate(slots: u64) -> u64
-    ensures { TellsMemoryToMigrate slots result }
+pub fn memory_to_migrate(many: u64) -> u64
+    ensures { TellsMemoryToMigrate many result }
 {
-    if slots < 1 || slots > 64 {
+    if many < 1 || many > 64 {
         return 0;
     }
-    SECTOR * (2 + 50 * slots) + CALL * (98 * slots + 9) + HELD
+    let log = LogFormat::One.slot_sectors() * many;
+    let sends = u64::from(LogFormat::One.limit()) * many + 9 + log;
+    NEAR + SECTOR * log + CALL * sends + HELD
 }

@@ -1,7 +1,10 @@
 //! What is started takes memory, and gives all of it back where it is dropped.
 use std::alloc::{GlobalAlloc, Layout, System};
 use std::cell::Cell;
-use usbdisk::{memory, memory_kept, memory_to_format, memory_to_migrate, version, Disk, Identity, Image, Plan, Store, VERSION};
+use usbdisk::{
+    memory, memory_kept, memory_to_format, memory_to_migrate, version, Disk, Identity, Image, Plan,
+    Store, VERSION,
+};
 
 struct Counted;
 
