@@ -10,6 +10,7 @@ pub mod LoggedSteps
 pub mod LoggedTurns
 pub mod Logging
 pub mod Making
+pub mod LogRuns
 pub mod Steady
 pub mod Headroom
 pub mod PacketsHidden

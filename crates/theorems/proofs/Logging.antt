@@ -5,6 +5,7 @@ use Rattle.std.specs.Prelude.{◌^◌, Ok}
 use Rattle.medium.specs.{Medium.{State, IsSound}, Performed.Performed, declared.medium_call.Call.Call}
 use Rattle.medium.specs.declared.medium_call.Call.TheVariants.{Read, Write, Flush}
 use Rattle.journal.specs.Record.{Entry}
+use Rattle.spec.specs.Blocks.{Array}
 use Rattle.redo_log.specs.{Value.{LogValue, keeping_from, settled, of_oldest, IsStepped}, declared.progress.Progress.Progress}
 use Rattle.redo_log.specs.declared.progress.Progress.TheVariants.{More, Durable}
 use Rattle.redo_log.proofs.RecordSteps.{none_written}
@@ -121,6 +122,24 @@ module _ {M : Type 0} (state : M → State) (sound : (m : M) → IsSound (state 
   Keeps On = (log next : LogValue) (m n : M) (w : Written) → Logs log w → Kept w (state m) → On log m next n
       → Grown next n w (landed_in log next)
 
+  -- so it is safe
+  abbrev pub safe_log : {opening : Array} {records : List (List Entry)} {log : LogValue} {m : M} {w : Written} → Logs log w
+      → Kept w (state m) → w.opening ≡ opening → w.records ≡ records → IsSafeLog state opening records log m
+  safe_log {w = w} logs kept opening records = record {
+    w = w;
+    opening_is = opening;
+    records_are = records;
+    logs = logs;
+    safe = kept_safe state sound kept;
+    between = λ by made. let s = retires logs by in (s.0, s.1, kept_safe state sound (call_kept kept _ s.0 _ s.1 made));
+  }
+
+  -- a log that is opened
+  pub opened_logs : {w : Written} {m : M} (count : ℕ) → Opens w (state m) → Logs (keeping_from w.shape w.first count) w
+  opened_logs {w} {m} count is =
+      let keeps = (is.rests (state m).content (sound m).holds_content).keeps in
+      subst (λ v. Logs (keeping_from w.shape w.first count) v) (sym is.is) (opens w count keeps.super.most_blocks keeps.head_is.least)
+
   module _ (On : LogValue → M → LogValue → M → Type 0) (on : Keeps On) where
     goes_through : {log next : LogValue} {m n : M} {w : Written} (through : List (LogValue × M)) → Logs log w → Kept w (state m)
         → Through On log m through next n → Grown next n w (all_landed log through)
@@ -134,20 +153,10 @@ module _ {M : Type 0} (state : M → State) (sound : (m : M) → IsSound (state 
         → Through On (keeping_from w.shape w.first count) m through log n
         → IsSafeLog state w.opening (all_landed (keeping_from w.shape w.first count) through) log n
     every_order w count log m n through is goes =
-        let keeps = (is.rests (state m).content (sound m).holds_content).keeps in
-        let logs : Logs (keeping_from w.shape w.first count) w =
-        subst (λ v. Logs (keeping_from w.shape w.first count) v) (sym is.is) (opens w count keeps.super.most_blocks keeps.head_is.least) in
-        let end = goes_through through logs (opened_kept (sound m) is) goes in
+        let end = goes_through through (opened_logs count is) (opened_kept (sound m) is) goes in
         let none : w.records ≡ [] = rw is.is refl in
-        record {
-          w = end.0;
-          opening_is = end.3;
-          records_are = end.4 ∙ ap (λ (l : List (List Entry)). l ++ all_landed (keeping_from w.shape w.first count) through) none;
-          logs = end.1;
-          safe = kept_safe state sound end.2;
-          between = λ by made.
-              let s = retires end.1 by in (s.0, s.1, kept_safe state sound (call_kept end.2 _ s.0 _ s.1 made));
-        }
+        safe_log end.1 end.2 end.3
+        (end.4 ∙ ap (λ (l : List (List Entry)). l ++ all_landed (keeping_from w.shape w.first count) through) none)
 
   pub every_log : EveryLogIsSafe state
   every_log = every_order (GoesOn state) (λ log next m n w logs kept goes. goes_on logs kept goes)

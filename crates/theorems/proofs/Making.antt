@@ -12,7 +12,7 @@ use Rattle.redo_log.specs.{declared.fault.LogFault.LogFault, declared.progress.P
 use Rattle.redo_log.specs.declared.progress.Progress.TheVariants.{More, Durable}
 use Rattle.redo_log.proofs.RecordSteps.{durable_of, retired_of}
 use Rattle.theorems.specs.{Ordering.{Written, MayBeNext, MayLeave}, Logging.{Logs, GoesOn, StepsBy, TurnsBy, RetiresBy, IsSafeLog}}
-use Rattle.theorems.specs.{Logging.{begun_of, landed_in}, Making.{Turns, LivesOn, EveryMakingIsSafe}}
+use Rattle.theorems.specs.{Logging.{begun_of, landed_in}, Making.{Turns, MakesCalls, LivesOn, EveryMakingIsSafe}}
 use Rattle.theorems.proofs.{LoggedSteps.steps, LoggedTurns.first_may, Ordering.Kept, Logging.{Keeps, Grown, none_landed, goes_on}}
 use Rattle.theorems.proofs.Logging.{every_order}
 
@@ -187,12 +187,15 @@ module _ {M : Type 0} (state : M → State) (sound : (m : M) → IsSound (state 
         (⊎_elim (λ r. ⊎_elim (λ stays. rests stays.1) (λ turn. turn_safe turn.1) (home_turn result r))
         (λ r. ⊎_elim (λ stays. rests stays.1) (λ turn. turn_safe turn.1) (pass_turn result r))) made
 
+    pub makes_safe : {n : M} {next : LogValue} → MakesCalls state Follows log m next n → LeavesOnly Left (state m) (state n)
+    makes_safe = ⊎_elim (λ s. step_safe s.under_way s.made.told) (λ t. turns_safe t.0 t.1)
+
   stays_grown : {log next : LogValue} {m n : M} {w : Written} → Logs log w → Kept w (state m) → Stays log m next n
       → Grown state sound next n w (landed_in log next)
   stays_grown {log} {w = w} logs kept is =
       rw (is.0, is.1, none_landed state sound log log refl, append-nil) (w, logs, kept, refl, refl)
 
-  lives_on : Keeps state sound (LivesOn state Follows)
+  pub lives_on : Keeps state sound (LivesOn state Follows)
   lives_on log next m n w logs kept on =
       let goes = λ (goes : GoesOn state log m next n). goes_on state sound logs kept goes in
       elim on [
@@ -204,7 +207,4 @@ module _ {M : Type 0} (state : M → State) (sound : (m : M) → IsSound (state 
   pub every_making : EveryMakingIsSafe state Follows
   every_making w count log m n through is goes =
       let now = every_order state sound (LivesOn state Follows) lives_on w count log m n through is goes in
-      record {
-        now = now;
-        next = ⊎_elim (λ s. step_safe now s.under_way s.made.told) (λ t. turns_safe now t.0 t.1);
-      }
+      record { now = now; next = makes_safe now }

@@ -4,7 +4,7 @@ use Rattle.std.proofs.{Common.{sym, ◌∙◌, arith, rules, subst, Result, leng
 use Rattle.std.proofs.{lemmas.Bool.Decides.nat_tests, lemmas.Nat.mod_below, lemmas.List.{get_or_append_left, take-append-le}}
 use Rattle.std.proofs.Math.Seq.{take-nil, get_or-append_seam}
 use Rattle.std.specs.{Prelude.Ok}
-use Rattle.medium.specs.{Medium.{State, Image, Sets, Gains, IsSound}, Moments.EachCut, Performed.Performed}
+use Rattle.medium.specs.{Medium.{State, Image, Sets, Gains, IsSound}, Moments.{EachCut, IsQuiet}, Performed.Performed}
 use Rattle.medium.specs.{declared.fault.MediumFault.MediumFault, declared.medium_call.Call.Call}
 use Rattle.medium.specs.declared.medium_call.Call.TheVariants.{Read, Write, Flush}
 use Rattle.medium.proofs.Moments.{one_call, updated, updated_here, updated_elsewhere}
@@ -219,6 +219,15 @@ module _ {w : Written} {m n : State} (k : Kept w m) (bytes : List ℕ) (new : Wr
         cuts = λ s c left. (w.written, below, below, rw (made.done.1 s c left) (now s));
         now = λ s. rw (made.changes s) (now s);
       })
+
+-- so do calls that write nothing
+pub quiet_kept : {w : Written} {m n : State} → Kept w m → IsQuiet m n → Kept w n
+quiet_kept k quiet = record {
+  ordered = k.ordered;
+  fits = rw quiet.size_stays k.fits;
+  cuts = λ s c left. k.cuts s c (quiet.sets_shrink s c left);
+  now = λ s. rw (quiet.content_stays s) (k.now s);
+}
 
 module _ {M : Type 0} (state : M → State) (sound : (m : M) → IsSound (state m)) where
   step_kept : {w new : Written} {m n : M} → Kept w (state m) → IsStep state w m new n → Kept new (state n)

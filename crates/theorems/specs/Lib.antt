@@ -1,5 +1,6 @@
 pub mod Ahead
 pub mod Headroom
+pub mod LogRuns
 pub mod Logging
 pub mod Making
 pub mod Ordering
