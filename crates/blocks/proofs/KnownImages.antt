@@ -125,5 +125,11 @@ module _ (keeping : Keeping) (before after : State) (answer : Recovered) (from :
     empty = refl;
     rests = refl;
     log = refl;
+    opened = λ ours. record {
+      is = refl;
+      fits = omega (arith, from.stood.fits, size_stays);
+      rests = λ image cut.
+          let left = fresh (shape_of answer.sizes) from.array answer.next ours image cut in search (rules, arith, left);
+    };
     recovered = (answer, from);
   }

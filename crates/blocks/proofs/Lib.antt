@@ -7,4 +7,6 @@ pub mod KnownImages
 pub mod FlushesOnce
 pub mod OneBatchSent
 pub mod EmptyBatches
+pub mod LogSteps
 pub mod TurnsJoined
+pub mod StoreRuns

@@ -1,6 +1,6 @@
 -- What a read gives, and how many calls of the medium it makes.
 use Rattle.std.proofs.Common.{rules, ◌≡◌, ℕ, zero, suc, ◌+◌, ◌-◌, ◌*◌, ◌≤◌, ◌<◌, List, [], ◌∷◌, ◌++◌, length, take, drop, None, ◌∙◌, arith}
-use Rattle.std.proofs.{Common.{inl, inr, ◌⊎◌, append_assoc, append-nil, add-zero, Result, false, refl}, lemmas.List.length-drop}
+use Rattle.std.proofs.{Common.{subst, sym, inl, inr, ◌⊎◌, append_assoc, append-nil, add-zero, Result, false, refl}, lemmas.List.length-drop}
 use Rattle.std.proofs.lemmas.{List.length-take-le, Slice.take-put_mid, Bool.{Decides.nat_tests, cases_Bool, false≢true, cases_eq}}
 use Rattle.std.specs.Prelude.{Ok, Err, OnOk, IsOk, Contains, true, get_or}
 use Rattle.medium.specs.{Medium.{State, Passes, IsSound, LooksOnly, Stays, Within, Image}, declared.fault.MediumFault.TheVariants.Read}
@@ -8,13 +8,26 @@ use Rattle.medium.{specs.{declared.fault.MediumFault.MediumFault, Range.{held_fr
 use Rattle.medium.proofs.{Moments.{quiet_joined, quiet_call, quiet_start}, SectorsRead.{one_look, looks_wider}}
 use Rattle.spec.specs.{Blocks.Array, Book.{Book, array_of, blocks_at}}
 use Rattle.journal.specs.Places.{first_home}
+use Rattle.theorems.{specs.LogRuns.IsLogRun, proofs.LogRuns.run_one}
 use Rattle.redo_log.{proofs.StoreFacts.home_is, specs.{Steps.{KeepsLog, ReadsCopy}, Value.{LogValue, IsNewestCopy, HasNoCopy}}}
 use Rattle.cache.{specs.{Blocks.{is_listed, Listed, unlisted}, Entries.{map_of, Entries}}, proofs.{Maps.listed_is, Arrays.unlisted_most}}
 use Rattle.blocks.specs.{Reads.{AreReadable, AreAtHome, IsOnlyAtHome, IsInBatch, IsInNone, ReadsBlocks, told}, Looks.IsReadFor}
-use Rattle.blocks.specs.{StoreValue.{Cached, blocks_of, layout_of, FitsBook, StoreValue}, Calls.{block_reads, reads_of, is_logged}}
-use Rattle.blocks.{specs.{Calls.log_reads, Passing.KeepsStore, declared.fault.StoreFault.StoreFault}, proofs.SectorsRead.one_more}
+use Rattle.blocks.specs.{StoreValue.{Cached, blocks_of, layout_of, is_dead, FitsBook, StoreValue}, Calls.{block_reads, reads_of}}
+use Rattle.blocks.specs.{Calls.{CostsReads, is_logged, log_reads}, Passing.{KeepsStore, IsReadBeside}}
+use Rattle.blocks.{specs.declared.fault.StoreFault.StoreFault, proofs.SectorsRead.one_more}
 use Rattle.blocks.proofs.{SectorsRead.{fewer_read, none_read}, TurnsJoined.{quiet_turn, turns}, BookTurns.listed_at}
 use borrow.Rule.Slice.PartMut.{put_mid}
+
+-- a read of a live store is one beside its log
+pub read_beside : {M : Type 0} {state : M → State} {Follows : M → M → Type 0} {address count most reads : ℕ}
+    {result : Result (Unit {0}) StoreFault} {old new : StoreValue M} → is_dead old.cached ≡ false
+    → KeepsStore state Follows address count old new → CostsReads result most reads (state old.medium) (state new.medium)
+    → IsReadBeside state Follows address count old new
+read_beside {state = state} {Follows = Follows} {old = old} {new = new} live keeps cost = record {
+  keeps = keeps;
+  runs = subst (λ s. IsLogRun state Follows old.cached.log old.medium s.log new.medium) (sym keeps.stays)
+      (run_one refl (λ _. record { live = live; on = inr (inr (refl, record { quiet = keeps.quiet; none_sent = cost.none_sent })) }));
+}
 
 -- a block that no batch holds is the durable one
 pub durable_is : (m : State) (s : Cached) (book : Book) (f : FitsBook m s book) (b : ℕ) → b < blocks_of s → map_of s.active b ≡ None

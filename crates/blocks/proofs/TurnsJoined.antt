@@ -1,23 +1,24 @@
 -- Turns of a store follow one another, what its calls pass on of them, and its own turns, from what the log's calls do.
 use Rattle.std.proofs.Common.{rules, ◌≡◌, ℕ, inl, arith, ◌∙◌, refl, subst, Bool, true, false, ◌<◌, ◌+◌, ◌≤◌, ◌*◌, ap, ◌-◌, ◌^◌, inr, List}
-use Rattle.std.proofs.{Common.{[], ◌∷◌, length, length-append}, lemmas.Bool.{Decides.nat_tests, cases_Bool, cases_lt}}
+use Rattle.std.proofs.{Common.{[], ◌∷◌, length, length-append}, lemmas.Bool.{Decides.nat_tests, cases_Bool}}
 use Rattle.std.{proofs.lemmas.List.nil_from_length, specs.Prelude.{Result, Ok, Err}}
 use Rattle.medium.proofs.{Moments.{joined_same, weaker, quiet_leaves, quiet_start, unchanged_quiet, started}, SparedSectors.spared_joined}
 use Rattle.medium.{proofs.SparedSectors.{spared_quiet, spared_start}, specs.{Medium.{State, IsSound}, Sent.{sent, SendsUpTo}}}
 use Rattle.medium.specs.Moments.{EachCut, LeavesOnly, IsQuiet, IsUnchanged}
 use Rattle.spec.specs.{Blocks.{Write, chunks}, Book.Book}
 use Rattle.journal.specs.{declared.super_sector.Super.Super, Places.sectors_of}
-use Rattle.redo_log.specs.Value.{LogValue, Owes, CanPass, IsAway, IsSentHome, HasRoom, begun, died, IsRetireStepped, IsBatch, entries_of}
-use Rattle.redo_log.specs.{Value.pass_calls, Steps.{MakesTurns, MakesStep, CountsStep, LeavesLog, MakesHeadAhead, MakesHomeAhead}}
+use Rattle.redo_log.specs.Value.{LogValue, CanPass, IsAway, IsSentHome, HasRoom, begun, died, IsRetireStepped, IsBatch, entries_of}
+use Rattle.redo_log.specs.{Value.pass_calls, Steps.{MakesStep, LeavesLog, MakesHeadAhead, MakesHomeAhead}}
 use Rattle.redo_log.specs.{Steps.MakesRetireStep, declared.progress.Progress.{TheVariants.{More, Durable}, Progress}}
 use Rattle.redo_log.{specs.{declared.fault.LogFault.LogFault, Held.{View, HoldsView, stamps_of}}, proofs.StoreFacts.quiet_held}
 use Rattle.redo_log.proofs.{StoreFacts.{died_holds, settled_holds, begun_holds}, HeldLog.many}
-use Rattle.theorems.specs.{Retiring.firsts_in, Ahead.{counted, is_covered}}
+use Rattle.theorems.specs.{Retiring.firsts_in, Ahead.{counted, is_covered}, Making.Turns}
+use Rattle.theorems.proofs.LogRuns.{run_none, run_then}
 use Rattle.cache.specs.{Entries.{Entries, map_of}, Blocks.with_range}
 use Rattle.blocks.specs.{StoreValue.{Cached, layout_of, is_dead, FitsBook, steps_left, StoreValue}, Turns.{GoesOn, IsTurn, IsWriteTurn}}
 use Rattle.blocks.specs.{Passing.{IsUntouched, PassesOn, PassesPaid, KeepsMedium}, Background.{PassesHead, BringsHome, IsRetiring}}
 use Rattle.blocks.{specs.{Finding.{MayFind, Found}, Kept.Invariant}, proofs.BookTurns.{moves, finds, becomes_durable, freezes, appends}}
-use Rattle.blocks.proofs.SectorsRead.{none, looks_on}
+use Rattle.blocks.proofs.{SectorsRead.{none, looks_on}, LogSteps.{Stays, Made, turn_runs, IsKept, step_runs}}
 
 -- what a cut leaves between two calls may be found
 pub exits : (m : State) (s : Cached) (book : Book) → FitsBook m s book → book.ours ≡ true → EachCut (MayFind m.size book) m
@@ -70,42 +71,47 @@ untouched sound same = search (rules, arith, quiet_turn, unchanged_quiet)
 -- ---- what the calls of a store pass on, one after another
 
 -- one turn without a call, and then one that accepts a write
-pub written_on : {M : Type 0} {state : M → State} {w : Write} {old mid new : StoreValue M} → KeepsMedium state IsTurn old mid
-    → KeepsMedium state (IsWriteTurn w true) mid new → KeepsMedium state (IsWriteTurn w true) old new
-written_on first last = grind (arith, then_written, first, last)
+pub written_on : {M : Type 0} {state : M → State} {Follows : M → M → Type 0} {w : Write} {old mid new : StoreValue M}
+    → KeepsMedium state Follows IsTurn old mid → KeepsMedium state Follows (IsWriteTurn w true) mid new
+    → KeepsMedium state Follows (IsWriteTurn w true) old new
+written_on first last = let runs = run_then first.runs last.runs in grind (arith, then_written, first, last, runs)
 
 module _ {M : Type 0} {state : M → State} {Follows : M → M → Type 0} where
   -- no call was made
   pub kept_on : {Turn : State → State → Cached → Cached → Type 0} {most sends : ℕ} {old new : StoreValue M} → ((m : M) → Follows m m)
-      → KeepsMedium state Turn old new → PassesOn state Follows Turn most sends old new
+      → KeepsMedium state Follows Turn old new → PassesOn state Follows Turn most sends old new
   kept_on {old = old} {new = new} itself keeps = grind (arith, none)
 
   -- and no step more is left
-  pub kept_paid : {sends : ℕ} {old new : StoreValue M} → ((m : M) → Follows m m) → KeepsMedium state IsTurn old new
+  pub kept_paid : {sends : ℕ} {old new : StoreValue M} → ((m : M) → Follows m m) → KeepsMedium state Follows IsTurn old new
       → (is_dead new.cached ≡ false → steps_left new.cached ≤ steps_left old.cached) → PassesPaid state Follows sends old new
   kept_paid {sends = sends} {old = old} {new = new} itself keeps fewer = search (rules, arith, kept_on)
 
   -- and then others were
-  pub kept_then : {most sends : ℕ} {old mid new : StoreValue M} → KeepsMedium state IsTurn old mid
+  pub kept_then : {most sends : ℕ} {old mid new : StoreValue M} → KeepsMedium state Follows IsTurn old mid
       → PassesOn state Follows IsTurn most sends mid new → PassesOn state Follows IsTurn most sends old new
   kept_then {old = old} {mid = mid} {new = new} keeps made =
       let looks = looks_on _ _ _ _ _ keeps.turn.goes_on (none _ _ old.cached (ap (λ m. (state m).looked) keeps.medium)) made.looks in
-      grind (arith, keeps.policy, turns _ _ _ _ _ _ keeps.turn made.turn, looks, (rw keeps.medium at made))
+      let runs = run_then keeps.runs made.runs in
+      grind (arith, keeps.policy, turns _ _ _ _ _ _ keeps.turn made.turn, looks, (rw keeps.medium at made), runs)
 
   -- nothing was done, as a record of each kind tells it
   pub rested_on : {most sends : ℕ} (old : StoreValue M) → ((m : M) → Follows m m) → ((m : M) → IsSound (state m))
       → PassesOn state Follows IsTurn most sends old old
-  rested_on old itself sound = kept_on itself (record { turn = stays _ _ (sound old.medium); medium = refl; policy = refl })
+  rested_on old itself sound =
+      kept_on itself (record { turn = stays _ _ (sound old.medium); medium = refl; runs = run_none; policy = refl })
 
   pub rested_paid : {sends : ℕ} {old : StoreValue M} → ((m : M) → Follows m m) → ((m : M) → IsSound (state m))
       → PassesPaid state Follows sends old old
-  rested_paid {old = old} itself sound = search (rules, arith, kept_paid, stays)
+  rested_paid {old = old} itself sound =
+      kept_paid itself (record { turn = stays _ _ (sound old.medium); medium = refl; runs = run_none; policy = refl }) (omega arith)
 
   -- one call after another, with so many writes and flushes in all
   pub paid_then : {first last all : ℕ} {old mid new : StoreValue M} → ((m n k : M) → Follows m n → Follows n k → Follows m k)
       → PassesPaid state Follows first old mid → is_dead mid.cached ≡ false → PassesPaid state Follows last mid new
       → SendsUpTo all (state old.medium) (state new.medium) → PassesPaid state Follows all old new
-  paid_then {old = old} {mid = mid} {new = new} through one live two sent = search (rules, arith, turns, looks_on)
+  paid_then {old = old} {mid = mid} {new = new} through one live two sent =
+      let runs = run_then one.runs two.runs in search (rules, arith, turns, looks_on)
 
   -- as a write that is refused tells it, and one that takes place without a call
   pub paid_refused : {w : Write} {sends : ℕ} {old new : StoreValue M} → PassesPaid state Follows sends old new
@@ -113,10 +119,11 @@ module _ {M : Type 0} {state : M → State} {Follows : M → M → Type 0} where
   paid_refused {w = w} paid = grind (arith, paid, refuses w paid.turn)
 
   pub paid_written : {w : Write} {sends : ℕ} {old mid new : StoreValue M} → PassesPaid state Follows sends old mid
-      → is_dead mid.cached ≡ false → KeepsMedium state (IsWriteTurn w true) mid new
+      → is_dead mid.cached ≡ false → KeepsMedium state Follows (IsWriteTurn w true) mid new
       → PassesOn state Follows (IsWriteTurn w true) (2 * steps_left old.cached) sends old new
   paid_written {w = w} paid live keeps =
-      grind (arith, paid, live, keeps.medium, keeps.policy, then_written _ _ _ _ _ _ paid.turn w keeps.turn)
+      let runs = run_then paid.runs keeps.runs in
+      grind (arith, paid, live, keeps.medium, keeps.policy, then_written _ _ _ _ _ _ paid.turn w keeps.turn, runs)
 
   -- a step of at most two calls, where one was left
   pub on_paid : {most sends : ℕ} {old new : StoreValue M} → 0 < steps_left old.cached
@@ -129,32 +136,6 @@ module _ {M : Type 0} {state : M → State} {Follows : M → M → Type 0} where
   pub paid_more : {few many : ℕ} {old new : StoreValue M} → PassesPaid state Follows few old new
       → SendsUpTo many (state old.medium) (state new.medium) → PassesPaid state Follows many old new
   paid_more paid sent = grind (arith, paid, sent)
-
--- ---- what stays of a log of which a record goes home, is flushed there, or is retired
-
-pub record Stays (old new : LogValue) : Type 0 where
-  pub shape : new.shape ≡ old.shape
-  pub ring : new.ring ≡ old.ring
-  pub keeps : new.keeps ≡ old.keeps
-  pub head : old.head ≤ new.head
-  pub stamp : new.head + length new.waiting ≡ old.head + length old.waiting
-  pub next : new.next ≡ old.next
-  pub under_way : new.under_way ≡ old.under_way
-  pub steps : new.steps_left ≡ old.steps_left
-  pub retire : new.retire_steps_left ≤ old.retire_steps_left
-  pub dead : new.dead ≡ old.dead
-
--- a retire step, or none where no record waits
-pub retire_stays : (old new : LogValue) → (old.waiting ≡ [] → new ≡ old) → (0 < length old.waiting → IsRetireStepped old new)
-    → Stays old new
-retire_stays old new none some = grind (arith, cases_lt 0 (length old.waiting), nil_from_length old.waiting, none, some)
-
--- the head goes past the oldest record, or stays; or a block of that goes home
-pub past_stays : (old new : LogValue) → Owes old → ((CanPass old → ⊥) → new ≡ old) → (CanPass old → IsRetireStepped old new) → Stays old new
-past_stays old new owes none some = grind (arith, owes, none, some)
-
-pub home_stays : (old new : LogValue) → IsAway old → IsSentHome old new → Stays old new
-home_stays old new away sent = grind (arith, sent)
 
 -- what a cut may leave at any moment of it may be found, and it is a turn
 turned : {before after : State} {s new : Cached} → ((book : Book) → FitsBook before s book → FitsBook after new book)
@@ -178,12 +159,6 @@ dies before after s log' is grew size holds leaves =
 pub died_kept : {before after : ℕ} {sizes : Super} {s : Cached} {log' : LogValue} {writing ahead : Bool} → after ≡ before
     → log' ≡ died s.log → Invariant before sizes s writing ahead → Invariant after sizes (record s { log = log' }) writing ahead
 died_kept same is k = rw is (grind (arith, same, k))
-
--- a call that brings the oldest record on, with a count of its calls, its writes and flushes, and its flushes
-abbrev pub Made : {M : Type 0} → (M → State) → (M → M → Type 0) → (None Done : Type 0) → (count sends flushes : ℕ) → (View → View)
-    → Result (Unit {0}) LogFault → (log log' : LogValue) → (m n : M) → Type 0
-Made state Follows None Done count sends flushes after result log log' m n =
-    MakesTurns state Follows None Done (CountsStep count sends flushes result (state m) (state n)) after result log log' m n
 
 -- a view that differs in its records at most
 abbrev pub KeepsArray : (View → View) → Type 0
@@ -211,11 +186,11 @@ module _ {M : Type 0} {state : M → State} {Follows : M → M → Type 0} {None
 
   module _ (ahead : Bool) (result : Result (Unit {0}) LogFault)
       (called : Made state Follows None Done count sends flushes after result s.log log' m n) (same : KeepsArray after)
-      (stays : Done → Stays s.log log') where
+      (stays : Done → Stays s.log log') (live : is_dead s ≡ false) (makes : Turns state Follows s.log m result log' n) where
     pub passes_turn : {most : ℕ} → sends ≤ most
         → PassesOn state Follows IsTurn 2 most (record { medium = m; cached = s; goes_ahead = ahead })
         (record { medium = n; cached = record s { log = log' }; goes_ahead = ahead })
-    passes_turn few = grind (arith, nat_tests, turn_made)
+    passes_turn few = let runs = turn_runs result called stays live makes in grind (arith, nat_tests, turn_made, runs)
 
     pub paid_turn : {most : ℕ} → sends ≤ most → count ≤ 2 * steps_left s
         → (Done → count + 2 * steps_left (record s { log = log' }) ≤ 2 * steps_left s)
@@ -249,11 +224,19 @@ step_turn {state = state} {m = m} {n = n} (Err e) s log' none empty some called 
 
 pub passes_step : {M : Type 0} {state : M → State} {Follows : M → M → Type 0} {m n : M} (ahead : Bool) (result : Result Progress LogFault)
     (s : Cached) (log' : LogValue) (none : Entries) → none.numbers ≡ [] → 0 < s.log.steps_left
+    → is_dead s ≡ false → IsKept s
     → MakesStep state Follows (entries_of s.frozen.numbers s.frozen.bytes) result s.log log' m n
     → PassesOn state Follows IsTurn 1 1 (record { medium = m; cached = s; goes_ahead = ahead })
     (record { medium = n; cached = stepped result s log' none; goes_ahead = ahead })
-passes_step ahead result s log' none empty some called =
-    grind (arith, step_turn result s log' none empty some called, called.answers, called.passes, called.leaves.looks)
+passes_step ahead (Ok More) s log' none empty some live kept called =
+    let runs = step_runs (Ok More) s log' live kept some called in
+    grind (arith, step_turn (Ok More) s log' none empty some called, called.answers, called.passes, called.leaves.looks, runs)
+passes_step ahead (Ok Durable) s log' none empty some live kept called =
+    let runs = step_runs (Ok Durable) s log' live kept some called in
+    grind (arith, step_turn (Ok Durable) s log' none empty some called, called.answers, called.passes, called.leaves.looks, runs)
+passes_step ahead (Err e) s log' none empty some live kept called =
+    let runs = step_runs (Err e) s log' live kept some called in
+    grind (arith, step_turn (Err e) s log' none empty some called, called.answers, called.passes, called.leaves.looks, runs)
 
 -- ---- where no call is made
 

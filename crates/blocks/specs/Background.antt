@@ -99,17 +99,18 @@ LeavesFewer old new =
     is_dead new ≡ false → (steps_left new < steps_left old) ⊎ (steps_left old ≡ 0)
 
 -- the active batch becomes the frozen one
-pub record Freezes {M : Type 0} (state : M → State) (old new : StoreValue M) : Type 0 where
-  pub keeps : KeepsMedium state IsTurn old new
+pub record Freezes {M : Type 0} (state : M → State) (Follows : M → M → Type 0)
+    (old new : StoreValue M) : Type 0 where
+  pub keeps : KeepsMedium state Follows IsTurn old new
   pub is : new ≡ record old {
     cached = record old.cached { active = old.cached.frozen; frozen = old.cached.active };
   }
 
 -- The record of the frozen batch is begun, which leaves fewer steps, and some of its own, or, where
 -- no stamp is left for it, the log is dead. No record is retired, and both batches stay.
-pub record Begins {M : Type 0} (state : M → State) (result : Result (Unit {0}) StoreFault)
-    (old new : StoreValue M) : Type 0 where
-  pub keeps : KeepsMedium state IsTurn old new
+pub record Begins {M : Type 0} (state : M → State) (Follows : M → M → Type 0)
+    (result : Result (Unit {0}) StoreFault) (old new : StoreValue M) : Type 0 where
+  pub keeps : KeepsMedium state Follows IsTurn old new
   pub live : is_dead new.cached ≡ false → (old.cached.log.next < 2 ^ 63 - 1)
       × (new.cached.log ≡ begun old.cached.frozen.numbers (firsts_in old.cached.frozen)
       old.cached.frozen.bytes old.cached.log)
@@ -194,8 +195,9 @@ abbrev pub with_counted : Cached → Cached
 with_counted s = record s { log = counted s.log }
 
 -- a flush is counted where it covers the oldest record: the medium and the store's life stay
-pub record SettlesFlush {M : Type 0} (state : M → State) (old new : StoreValue M) : Type 0 where
-  pub keeps : KeepsMedium state IsTurn old new
+pub record SettlesFlush {M : Type 0} (state : M → State) (Follows : M → M → Type 0)
+    (old new : StoreValue M) : Type 0 where
+  pub keeps : KeepsMedium state Follows IsTurn old new
   pub is : new ≡ record old { cached = with_counted old.cached }
   pub fewer : steps_left new.cached ≤ steps_left old.cached
   pub head : new.cached.log.head ≡ old.cached.log.head

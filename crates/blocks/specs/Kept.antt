@@ -1,8 +1,8 @@
 -- What is true of the fields of every store.
-use Rattle.std.specs.Prelude.{◌≡◌, ℕ, ◌+◌, ◌*◌, ◌≤◌, ◌<◌, Bool, true, false, [], length}
+use Rattle.std.specs.Prelude.{◌≡◌, ℕ, ◌+◌, ◌*◌, ◌≤◌, ◌<◌, Bool, true, false, [], length, get_or}
 use Rattle.journal.specs.{Formats.shape_of, declared.super_sector.Super.Super, Places.Shape}
 use Rattle.journal.specs.Places.{limit_of, sectors_of}
-use Rattle.redo_log.specs.Value.{most_steps, most_retire_steps}
+use Rattle.redo_log.specs.Value.{LogValue, most_steps, most_retire_steps}
 use Rattle.theorems.specs.Ahead.{may_go_by}
 use Rattle.cache.specs.{Blocks.Listed, Entries.{Entries, IsWellFormed}}
 use Rattle.blocks.specs.StoreValue.{Cached}
@@ -12,6 +12,12 @@ pub record IsBatchOf (shape : Shape) (batch : Entries) : Type 0 where
   pub well_formed : IsWellFormed batch
   pub room : batch.room ≡ limit_of shape.format
   pub inside : (n : ℕ) → Listed batch.numbers n → n < shape.blocks
+
+-- the bytes that the log keeps of the record under way, behind those of each record that waits, are
+-- those of the frozen batch
+pub record HasCopy (log : LogValue) (frozen : Entries) : Type 0 where
+  pub count : length log.copies ≡ length log.waiting + 1
+  pub last : get_or log.copies (length log.waiting) [] ≡ frozen.bytes
 
 -- the log and the batches of a store over a medium of `size` sectors, with these sizes, whether a
 -- record is under way, and whether the store goes ahead
@@ -26,6 +32,11 @@ pub record Invariant (size : ℕ) (sizes : Super) (cached : Cached) (writing ahe
   -- the record under way is the frozen batch
   pub under_way : cached.log.dead ≡ false → 0 < cached.log.steps_left
       → cached.log.under_way ≡ cached.frozen.numbers
+  -- so are its bytes, where the log keeps them; else it keeps those of each record that waits
+  pub copies : cached.log.dead ≡ false → cached.log.keeps ≡ true → cached.log.steps_left ≡ 0
+      → length cached.log.copies ≡ length cached.log.waiting
+  pub copy : cached.log.dead ≡ false → cached.log.keeps ≡ true → 0 < cached.log.steps_left
+      → HasCopy cached.log cached.frozen
   pub none_under_way : cached.log.dead ≡ false → cached.log.steps_left ≡ 0
       → cached.log.under_way ≡ []
   pub some_ring : 1 ≤ cached.log.ring

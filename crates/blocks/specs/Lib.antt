@@ -12,6 +12,7 @@ pub mod Opening
 pub mod Passing
 pub mod Prepared
 pub mod Reads
+pub mod Running
 pub mod Sent
 pub mod Settled
 pub mod Started

@@ -2,9 +2,17 @@
 use Rattle.std.specs.Prelude.{◌≡◌, ◌⊎◌, ℕ, ◌+◌, ◌≤◌, true, false, List, [], Result, Err, IfErr}
 use Rattle.std.specs.Prelude.{MatchResult}
 use Rattle.medium.specs.{Medium.State, Moments.{IsQuiet, IsUnchanged}, Sent.SendsUpTo}
+use Rattle.theorems.specs.LogRuns.{IsLogRun}
 use Rattle.blocks.specs.{declared.fault.StoreFault.{TheVariants.Dead, StoreFault}, Looks.LooksAtLog}
 use Rattle.blocks.specs.{Looks.LooksAtBlocks, Turns.{IsTurn, IsReadCause, IsPaid}}
 use Rattle.blocks.specs.StoreValue.{Cached, StoreValue, is_dead}
+
+-- All that was made of a store's log, and of its medium, is steps of the log: each call that is no
+-- read beside it is one that the log may make.
+abbrev pub RunsLog : {M : Type 0} → (M → State) → (M → M → Type 0) → StoreValue M → StoreValue M
+    → Type 0
+RunsLog state Follows old new =
+    IsLogRun state Follows old.cached.log old.medium new.cached.log new.medium
 
 -- A call makes a turn of this kind, and at most `most` calls of the medium, with at most `sends`
 -- writes and flushes among them. The medium comes after what it was, by calls alone.
@@ -18,6 +26,7 @@ pub record PassesOn {M : Type 0} (state : M → State) (Follows : M → M → Ty
   pub none_refused : is_dead new.cached ≡ false
       → (state new.medium).failures ≡ (state old.medium).failures
   pub follows : Follows old.medium new.medium
+  pub runs : RunsLog state Follows old new
   -- no sector at home is read, and none of a log that keeps its blocks
   pub looks : LooksAtLog (state old.medium) (state new.medium) old.cached
   pub policy : new.goes_ahead ≡ old.goes_ahead
@@ -32,14 +41,16 @@ pub record PassesPaid {M : Type 0} (state : M → State) (Follows : M → M → 
   pub none_refused : is_dead new.cached ≡ false
       → (state new.medium).failures ≡ (state old.medium).failures
   pub follows : Follows old.medium new.medium
+  pub runs : RunsLog state Follows old new
   pub looks : LooksAtLog (state old.medium) (state new.medium) old.cached
   pub policy : new.goes_ahead ≡ old.goes_ahead
 
 -- a call makes a turn of this kind, and leaves the medium as it is
-pub record KeepsMedium {M : Type 0} (state : M → State)
+pub record KeepsMedium {M : Type 0} (state : M → State) (Follows : M → M → Type 0)
     (Turn : State → State → Cached → Cached → Type 0) (old new : StoreValue M) : Type 0 where
   pub turn : Turn (state old.medium) (state new.medium) old.cached new.cached
   pub medium : new.medium ≡ old.medium
+  pub runs : RunsLog state Follows old new
   pub policy : new.goes_ahead ≡ old.goes_ahead
 
 -- a store that answers Ok is live, and one that answers Err is dead, and says so
@@ -57,6 +68,13 @@ pub record KeepsStore {M : Type 0} (state : M → State) (Follows : M → M → 
   pub follows : Follows old.medium new.medium
   pub looks : LooksAtBlocks (state old.medium) (state new.medium) old.cached address count
   pub policy : new.goes_ahead ≡ old.goes_ahead
+
+-- A read keeps the store so, and each of its calls is one beside the store's log.
+pub record IsReadBeside {M : Type 0} (state : M → State) (Follows : M → M → Type 0)
+    (address count : ℕ) (old new : StoreValue M) : Type 0 where
+  pub keeps : KeepsStore state Follows address count old new
+  pub open keeps use *
+  pub runs : RunsLog state Follows old new
 
 -- A call is none of the medium: it changes nothing of that, and nothing that the store keeps.
 pub record IsUntouched {M : Type 0} (state : M → State) (old new : StoreValue M) : Type 0 where

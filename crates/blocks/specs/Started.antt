@@ -7,6 +7,7 @@ use Rattle.journal.specs.{Places.Shape, declared.super_sector.Super.Super, Stand
 use Rattle.journal.specs.Standing.{IsOurs, HasShape}
 use Rattle.redo_log.specs.Value.{LogValue, empty_from}
 use Rattle.theorems.specs.{Ahead.may_go_by, Headroom.HasHeadroom, Steady.{IsFilling, ReachesSteady}}
+use Rattle.theorems.specs.{LogRuns.opened_with, Ordering.Opens}
 use Rattle.recovery.specs.{Causes.{IsCause, IsDeviceFault}, Calls.most_start_of}
 use Rattle.recovery.specs.Recovered.{IsRecoveredFrom, IsOursForSome, IsOursWithNext, StandsForOneOf}
 use Rattle.recovery.specs.Recovered.{RecoverySends, SparesTheRest}
@@ -49,6 +50,9 @@ pub record IsStartedBy (keeping : Keeping) (before after : State) (new : Cached)
   pub rests : steps_left new ≡ 0
   -- no record waits, and the first one takes that stamp
   pub log : new.log ≡ started_log keeping (layout_of new) next
+  -- where the contents were ours, that log is one that was opened
+  pub opened : IsOurs before.size (layout_of new) before.content array next
+      → Opens (opened_with (layout_of new) array next) after
   -- the medium was recovered, and nothing was done to it afterwards
   pub recovered : (answer : Recovered) × IsRecoveredFrom before after answer
 

@@ -18,8 +18,8 @@ impl<M: Medium> Store<M> {
     /// Counts the flush of a record that became durable for the oldest one, which went home before
     /// it.
     pub(crate) fn count_flush(&mut self)
-        requires idle { self.old.cached.log.steps_left ≡ 0 }
-        ensures { SettlesFlush M.state self.old self.new }
+        requires { IsIdle self.old.cached }
+        ensures { SettlesFlush M.state M.follows self.old self.new }
     {
         count_covered(&mut self.log);
     }

@@ -92,7 +92,7 @@ impl<M: Medium> Store<M> {
     /// Begins the frozen batch, or the active one in its place.
     pub(crate) fn begin_next(&mut self) -> Result<(), StoreFault>
         requires { MayBeginNow self.old.cached (unwritten self.old.cached) }
-        ensures keeps { KeepsMedium M.state IsTurn self.old self.new }
+        ensures keeps { KeepsMedium M.state M.follows IsTurn self.old self.new }
         ensures beginning { IsBeginning (M.state self.old.medium) (M.state self.new.medium)
             self.old.cached self.new.cached }
         ensures falls { is_dead self.new.cached ≡ false
@@ -108,7 +108,7 @@ impl<M: Medium> Store<M> {
     /// The active batch becomes the frozen one, and its blocks are put into order.
     pub(crate) fn freeze(&mut self)
         requires { CanBegin self.old.cached }
-        ensures { Freezes M.state self.old self.new }
+        ensures { Freezes M.state M.follows self.old self.new }
     {
         self.active.freeze(&mut self.frozen);
     }
@@ -116,7 +116,7 @@ impl<M: Medium> Store<M> {
     /// Begins the record of the frozen batch.
     pub(crate) fn begin(&mut self) -> Result<(), StoreFault>
         requires { MayBeginNow self.old.cached (length self.old.cached.frozen.numbers) }
-        ensures { Begins M.state result self.old self.new }
+        ensures { Begins M.state M.follows result self.old self.new }
     {
         match self.log.begin(self.frozen.numbers(), self.frozen.bytes()) {
             Ok(()) => {

@@ -21,7 +21,7 @@ mod write;
 mod write_back;
 
 pub use fault::StoreFault;
-pub use laws::flush_laws;
+pub use laws::{flush_laws, run_laws};
 pub use recovery::StartFault;
 pub use start::Keeping;
 pub use start_error::StartError;

@@ -4,7 +4,7 @@ ghost use Rattle.std.specs.Prelude.{IfSome, IsNone};
 ghost use Rattle.spec.specs.Book.{Book, array_of, blocks_at};
 ghost use Rattle.blocks.specs.Book.{IsTransfer};
 ghost use Rattle.blocks.specs.StoreValue.{blocks_of, transfer_limit, FitsBook};
-ghost use Rattle.blocks.specs.Passing.{KeepsStore, RefusesRead};
+ghost use Rattle.blocks.specs.Passing.{IsReadBeside, RefusesRead};
 ghost use Rattle.blocks.specs.Calls.{reads_of, CostsReads};
 ghost use Rattle.blocks.specs.Reads.{AreReadable, HasPlaces, IsOnlyAtHome, AreAtHome};
 ghost use Rattle.blocks.specs.Reads.{ReadsNext, ReadsBlocks, IsInBatch, IsInNone};
@@ -28,7 +28,7 @@ impl<M: Medium> Store<M> {
         ensures ok { (book : Book) → FitsBook (M.state self.old.medium) self.old.cached book
             → OnOk result (to.new ≡ blocks_at (array_of book) address (length to.old / 512)) }
         ensures refuses { RefusesRead M.state result self.old self.new }
-        ensures keeps { KeepsStore M.state M.follows address (length to.old / 512)
+        ensures keeps { IsReadBeside M.state M.follows address (length to.old / 512)
             self.old self.new }
         // It reads no block twice, and makes no call for a block that a batch has, or that the log
         // keeps.

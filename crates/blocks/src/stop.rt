@@ -2,6 +2,7 @@
 ghost use Rattle.std.specs.Prelude.{◌≡◌};
 ghost use Rattle.spec.specs.Book.{Book};
 ghost use Rattle.blocks.specs.StoreValue.{FitsBook};
+ghost use Rattle.blocks.specs.Passing.{RunsLog};
 ghost use Rattle.blocks.specs.Stopping.{stopped_store};
 
 use crate::Store;
@@ -14,6 +15,7 @@ impl<M: Medium> Store<M> {
         ensures dead { self.new ≡ stopped_store self.old }
         ensures fits { (book : Book) → FitsBook (M.state self.old.medium) self.old.cached book
             → FitsBook (M.state self.new.medium) self.new.cached book }
+        ensures runs { RunsLog M.state M.follows self.old self.new }
     {
         self.log.stop();
     }

@@ -64,8 +64,8 @@ impl<M: Medium> Store<M> {
     // The active batch takes a write that fits.
     fn append(&mut self, address: u64, bytes: &[u8])
         requires { TakesBeside self.old.cached address (length bytes.now) }
-        ensures keeps { KeepsMedium M.state (IsWriteTurn (write_of address bytes.now) true)
-            self.old self.new }
+        ensures keeps { KeepsMedium M.state M.follows
+            (IsWriteTurn (write_of address bytes.now) true) self.old self.new }
         ensures batch { AppendsRange address (length bytes.now / 512)
             self.old.cached self.new.cached }
     {

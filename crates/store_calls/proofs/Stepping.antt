@@ -1,6 +1,7 @@
 -- Steps of a store in the background, one after the other.
 use Rattle.std.proofs.{Common.{◌≡◌, ◌*◌, ◌+◌, ℕ, suc, Bool, true, false, refl, sym, ◌∙◌, subst, arith}, lemmas.Bool.false≢true}
 use Rattle.blocks.specs.{Passing.PassesOn, StoreValue.is_dead, Turns.IsTurn, declared.work.Work.Work}
+use Rattle.theorems.proofs.LogRuns.{run_none, run_then}
 use Rattle.blocks.proofs.{SectorsRead.{none, looks_on}, TurnsJoined.{stays, turns}}
 use Rattle.window.specs.{Window.{state_of, ComesAfter}, WindowLaws.{is_sound, comes_after_itself, comes_after_through}}
 use Rattle.store_calls.specs.{Calls.IsStep, Idling.{AreSteps, IsShort}, Stores.Store}
@@ -17,6 +18,7 @@ none_made May work s = record {
     sent = omega arith;
     none_refused = λ live. refl;
     follows = comes_after_itself s.medium;
+    runs = run_none;
     looks = none (state_of s.medium) (state_of s.medium) s.cached refl;
     policy = refl;
   };
@@ -39,6 +41,7 @@ joined first second old mid new a b = record {
   none_refused = λ live. b.none_refused live
       ∙ a.none_refused (lived (is_dead mid.cached) (is_dead new.cached) b.turn.goes_on.dead_stays live);
   follows = comes_after_through old.medium mid.medium new.medium a.follows b.follows;
+  runs = run_then a.runs b.runs;
   looks = looks_on (state_of old.medium) (state_of mid.medium) (state_of new.medium) old.cached mid.cached a.turn.goes_on
       a.looks b.looks;
   policy = b.policy ∙ a.policy;

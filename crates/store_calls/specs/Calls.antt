@@ -5,7 +5,8 @@ use Rattle.spec.specs.{Blocks.Write, Book.{Book, array_of, blocks_at}}
 use Rattle.journal.specs.Places.{first_home}
 use Rattle.theorems.specs.Headroom.{HasHeadroom}
 use Rattle.window.specs.Window.{state_of, ComesAfter, AreOnDevice, IsShown}
-use Rattle.blocks.specs.{Book.IsTransfer, Passing.{KeepsStore, KeepsMedium, PassesOn, IsUntouched}}
+use Rattle.blocks.specs.{Book.IsTransfer, Passing.{IsReadBeside, KeepsMedium, PassesOn}}
+use Rattle.blocks.specs.Passing.{IsUntouched}
 use Rattle.blocks.specs.StoreValue.{Cached, layout_of, blocks_of, transfer_limit, is_dead, FitsBook}
 use Rattle.blocks.specs.{Headroom.{KeepsHeadroom, FlushesOnce}, Prepared.IsTakenAtOnce}
 use Rattle.blocks.specs.{Turns.{IsTurn, IsWriteTurn}, Work.{IsWork, CountsBy, RetiresNone}}
@@ -41,7 +42,7 @@ home_of s address = first_home (layout_of s.cached) + address
 
 -- The store is as it was, and nothing is written.
 pub record KeepsAll (address count : ℕ) (old new : Store) : Type 0 where
-  pub keeps : KeepsStore state_of ComesAfter address count old new
+  pub keeps : IsReadBeside state_of ComesAfter address count old new
   pub turn : IsTurn (state_of old.medium) (state_of new.medium) old.cached new.cached
   pub none_sent : SendsUpTo 0 (state_of old.medium) (state_of new.medium)
   pub appends : Appends (TakesCalls 0 old) old new
@@ -61,7 +62,7 @@ pub record IsUnread (address count : ℕ) (old new : Store) : Type 0 where
 
 -- One write was accepted, whole, and the medium is as it was.
 pub record IsWritten (write : Write) (old new : Store) : Type 0 where
-  pub keeps : KeepsMedium state_of (IsWriteTurn write true) old new
+  pub keeps : KeepsMedium state_of ComesAfter (IsWriteTurn write true) old new
   pub live : is_dead new.cached ≡ false
   pub appends : Appends (TakesCalls 0 old) old new
 

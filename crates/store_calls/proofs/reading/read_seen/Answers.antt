@@ -1,12 +1,12 @@
 use Rattle.std.proofs.Common.{refl, ◌/◌, ℕ, length}
 use Rattle.window.specs.{Window.{state_of, ComesAfter}, Sight.AreInSight}
 use Rattle.medium.specs.{Sent.SendsUpTo}
-use Rattle.blocks.specs.{Passing.KeepsStore, Turns.IsTurn}
+use Rattle.blocks.specs.{Passing.IsReadBeside, Turns.IsTurn}
 use Rattle.store_calls.specs.{Stores.Store, Rooms.Foresees, Calls.{KeepsAll, home_of}}
 use Rattle.store_calls.proofs.Served.{appends_read, unread}
 use Rattle.store_calls.proofs.reading.read_seen.Goals as goal
 
-keeps_all : (address count : ℕ) (old new : Store) → Foresees old.medium → KeepsStore state_of ComesAfter address count old new
+keeps_all : (address count : ℕ) (old new : Store) → Foresees old.medium → IsReadBeside state_of ComesAfter address count old new
     → IsTurn (state_of old.medium) (state_of new.medium) old.cached new.cached
     → SendsUpTo 0 (state_of old.medium) (state_of new.medium) → AreInSight old.medium (home_of old address) count
     → KeepsAll address count old new

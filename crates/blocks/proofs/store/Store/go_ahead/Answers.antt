@@ -64,4 +64,20 @@ returns g c =
     let limit = ap (λ (shape : Shape). limit_of shape.format) first.turn.goes_on.layout_stays in
     let all = paid_then {all = limit_of c.args.self.now.cached.log.shape.format + 1} g.met.M.Medium.follows_through first
     c.in_ok-pass_head.ensures.answer last.passes (omega (arith, first.sent, last.passes.sent, limit)) in
-    grind (arith, nat_tests, all, some, short, past, last.going, c.count_flush.ensures, c.pass_head.ensures.way.stays)
+    let counts = c.count_flush.ensures in
+    record {
+      passes = all;
+      going = grind (
+        arith,
+        nat_tests,
+        short,
+        past,
+        last.going,
+        counts.is,
+        counts.head,
+        counts.stays,
+        counts.life,
+        c.pass_head.ensures.way.stays,
+      );
+      rests = λ none. absurd (some none);
+    }

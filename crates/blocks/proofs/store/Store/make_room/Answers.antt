@@ -1,4 +1,4 @@
-use Rattle.std.proofs.Common.{false, ◌≤◌, ◌<◌, ℕ, length, arith, rules}
+use Rattle.std.proofs.Common.{false, ◌≤◌, ◌<◌, ℕ, length, ap, arith, rules}
 use Rattle.medium.specs.Sent.{sent, SendsUpTo}
 use Rattle.redo_log.specs.Value.{HasRoom, sends_of_oldest, most_retire_sends}
 use Rattle.theorems.{specs.Room.RetiresForRoom, proofs.Steady.{IsFull, retires_none, retires_more, retires_refused, retires_room}}
@@ -61,7 +61,26 @@ returns-in_err-retire g c =
 
 pub returns : goal.returns
 returns g c =
-    let few = c.has_room-few.ensures.few in
-    let view = c.self-in-loop-self.view_is in
-    let room = c.has_room.ensures.room.0 in
-    grind (arith, retires_room, paid_more, c.self.view_is, c.loop-self-test.false, c.loop-self.invariant)
+    let old = c.args.self.now.cached.log in
+    let few : sends_of_oldest old ≤ most_retire_sends old.shape.format = rw (← c.self.view_is) c.has_room-few.ensures.few in
+    let so_far = c.loop-self.invariant in
+    let has : HasRoom c.loop-self.self.cached.log =
+    grind (arith, c.self-in-loop-self.view_is, c.has_room.ensures.room, c.loop-self-test.false) in
+    let before = g.M.Medium.state c.args.self.now.medium in
+    let sent : SendsUpTo (most_retire_sends old.shape.format) before (g.M.Medium.state c.loop-self.self.medium) =
+    grind (arith, few, so_far.retires) in
+    let all = retires_room (λ room. (ap (λ s. s.cached.log) (so_far.stays room), ap (λ s. g.M.Medium.state s.medium) (so_far.stays room)))
+    has so_far.retires in
+    record {
+      passes = paid_more so_far.passes sent;
+      answer = so_far.live;
+      retires = grind (arith, so_far.stays, so_far.retires.so_far);
+      room = has;
+      made = all.0;
+      quiet = grind (arith, so_far.stays);
+      active = so_far.active;
+      frozen = so_far.frozen;
+      cost = all.1;
+      flushed = all.2;
+      blocks = λ on. absurd (cc on);
+    }

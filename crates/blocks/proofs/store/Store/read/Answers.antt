@@ -1,6 +1,8 @@
-use Rattle.std.proofs.Common.{◌/◌, length, ap, arith}
+use Rattle.std.proofs.Common.{◌≡◌, ◌∙◌, ◌/◌, length, ap, sym, arith, false}
 use Rattle.journal.specs.Places.{Shape}
-use Rattle.blocks.{specs.Reads.AreReadable, proofs.{ReadCalls.keeps_none, store.Store.read.Goals.Else-is_dead}}
+use Rattle.theorems.proofs.LogRuns.{run_none}
+use Rattle.blocks.{specs.{Reads.AreReadable, StoreValue.is_dead}, proofs.ReadCalls.{keeps_none, read_beside}}
+use Rattle.blocks.proofs.store.Store.read.Goals.{Else-is_dead}
 use Rattle.blocks.proofs.store.Store.read.Goals as goal
 
 -- the blocks can be read
@@ -21,5 +23,20 @@ pub read_each-requires : goal.read_each-requires
 read_each-requires g c = readable g (goal.at.read_each-requires g c).Else-is_dead
 
 pub returns-then-is_dead-clause-keeps : goal.returns-then-is_dead-clause-keeps
-returns-then-is_dead-clause-keeps g c =
-    keeps_none (g.met.M.Medium.sound c.args.self.now.medium) (g.met.M.Medium.follows_itself c.args.self.now.medium)
+returns-then-is_dead-clause-keeps g c = record {
+  keeps = keeps_none (g.met.M.Medium.sound c.args.self.now.medium) (g.met.M.Medium.follows_itself c.args.self.now.medium);
+  runs = run_none;
+}
+
+live : (g : _) (c : Else-is_dead g) → is_dead c.args.self.now.cached ≡ false
+live g c = rw (← c.self.view_is) (sym c.is_dead.ensures ∙ c.if-is_dead.false)
+
+pub returns-then-are_at_home-clause-keeps : goal.returns-then-are_at_home-clause-keeps
+returns-then-are_at_home-clause-keeps g c =
+    let reads = c.read_home.ensures in
+    read_beside (live g (goal.at.returns-then-are_at_home-clause-keeps g c).Else-is_dead) reads.keeps reads.cost
+
+pub returns-clause-keeps : goal.returns-clause-keeps
+returns-clause-keeps g c =
+    let reads = c.read_each.ensures in
+    read_beside (live g (goal.at.returns-clause-keeps g c).Else-is_dead) reads.keeps reads.cost
