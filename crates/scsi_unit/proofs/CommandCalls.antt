@@ -6,7 +6,7 @@ use Rattle.medium.proofs.SectorsRead.{no_looks, looks_joined, looks_wider}
 use Rattle.spec.specs.{Sense.Sense, declared.command.{Transfer.Transfer, Command.Command}, Rules.{forces_reading, moves_blocks}}
 use Rattle.theorems.{specs.Retiring.{firsts_in, wants}, proofs.{Headroom.{one_each, both_each, headroom_finished}, Steady.steady_sync}}
 use Rattle.blocks.specs.{Limit.Shape, Looks.{LooksAtLog, IsReadFor}, OneBatch.SendsOneBatch, Sent.most_sent, StoreValue.StoreValue}
-use Rattle.blocks.specs.StoreValue.{is_dead, layout_of, transfer_limit, active_of, Cached, HasLimits, blocks_of, slots_of, batch_steps}
+use Rattle.blocks.specs.StoreValue.{is_dead, transfer_limit, active_of, Cached, HasLimits, blocks_of, slots_of, batch_steps}
 use Rattle.blocks.{specs.StoreValue.{steps_left, unwritten, FitsBeside}, proofs.EmptyBatches.{both_empty, fits_alone, frozen_as, step_sent}}
 use Rattle.blocks.proofs.{OneBatchSent.none_sent, ReadCalls.reads_few, SectorsRead.looks_on, Limits.few_batch_steps}
 use Rattle.scsi_unit.specs.{UnitValue.{UnitValue, unit_limit}, Calls.{calls_of_sync, calls_of_read, calls_of_write, MakesAtMost}}
@@ -45,11 +45,11 @@ synced_none promising before mid after unit live unwanted rests (inr (inl dead))
 synced_none promising before mid after unit live unwanted rests (inr (inr all)) none =
     omega (arith, ap (λ (made : MediumFault → ℕ). made Write + made Flush) (rests all).made, none)
 
-module _ {M : Type 0} {Follows : M → M → Type 0} {before after : State} {old : UnitValue M} {last : StoreValue M}
+module _ {M : Type 0} {Comes : StoreValue M → StoreValue M → Type 0} {before after : State} {old : UnitValue M} {last : StoreValue M}
     {done : Result (Unit {0}) Sense} (live : is_dead old.store.cached ≡ false) where
   -- writes are made durable, if that is wanted
   pub synced : {wanted : Bool} {count : ℕ} {read : Option Transfer} {promising : Bool}
-      → MakesDurable Follows wanted before after old.store last done → (promising ≡ false → wanted ≡ false)
+      → MakesDurable Comes wanted before after old.store last done → (promising ≡ false → wanted ≡ false)
       → (if wanted then calls_of_sync old.store.cached else 0) ≤ count
       → MakesAtMost count read promising (IsQuietBy promising old.store.cached) before after old
   synced {read = read} {promising = promising} makes wants few = record {
@@ -64,8 +64,8 @@ module _ {M : Type 0} {Follows : M → M → Type 0} {before after : State} {old
 
   module _ {half : StoreValue M} {mid : State} {transfer : Transfer} (some : transfer.count ≢ 0) where
     -- and blocks are read behind that
-    pub read_on : {result : Result ℕ Sense} {out : List ℕ} → MakesDurable Follows transfer.fua before mid old.store half done
-        → ReadsBlocks Follows transfer mid after half last out result
+    pub read_on : {result : Result ℕ Sense} {out : List ℕ} → MakesDurable Comes transfer.fua before mid old.store half done
+        → ReadsBlocks Comes transfer mid after half last out result
         → MakesAtMost (calls_of_read transfer old.store.cached) (some_read transfer) (forces_reading transfer)
         (IsQuietBy (forces_reading transfer) old.store.cached) before after old
     read_on makes reads =
@@ -83,8 +83,8 @@ module _ {M : Type 0} {Follows : M → M → Type 0} {before after : State} {old
         }
 
     -- they are accepted, and are made durable, if that is wanted
-    pub write_on : {value : Unit {0}} {taken : List ℕ} → WritesBlocks Follows transfer taken before mid old.store half (Ok value)
-        → MakesDurable Follows (transfer.fua || not old.write_cache) mid after half last done
+    pub write_on : {value : Unit {0}} {taken : List ℕ} → WritesBlocks Comes transfer taken before mid old.store half (Ok value)
+        → MakesDurable Comes (transfer.fua || not old.write_cache) mid after half last done
         → transfer.count ≤ transfer_limit old.store.cached
         → MakesAtMost (calls_of_write transfer old.write_cache old.store.cached) None (forces_writing transfer old.write_cache)
         (IsQuietWrite transfer old.write_cache old.store.cached) before after old
@@ -108,9 +108,10 @@ module _ {M : Type 0} {Follows : M → M → Type 0} {before after : State} {old
         }
 
 -- blocks are not accepted
-pub write_stops : {M : Type 0} {Follows : M → M → Type 0} {before after : State} {old : UnitValue M} {last : StoreValue M}
+pub write_stops : {M : Type 0} {Comes : StoreValue M → StoreValue M → Type 0} {before after : State} {old : UnitValue M}
+    {last : StoreValue M}
     {transfer : Transfer} {taken : List ℕ} {sense : Sense} → transfer.count ≢ 0
-    → WritesBlocks Follows transfer taken before after old.store last (Err sense)
+    → WritesBlocks Comes transfer taken before after old.store last (Err sense)
     → MakesAtMost (calls_of_write transfer old.write_cache old.store.cached) None (forces_writing transfer old.write_cache)
     (IsQuietWrite transfer old.write_cache old.store.cached) before after old
 write_stops {before = before} {after = after} {old = old} some writes =
@@ -126,9 +127,10 @@ pub step_made : {M : Type 0} (before after : State) (unit : UnitValue M) → Sen
 step_made before after unit two = step_sent unit.store.goes_ahead before after unit.store.cached.log two
 
 -- a WRITE that was accepted, and made durable if that was wanted
-module _ {M : Type 0} {Follows : M → M → Type 0} {before mid : State} {transfer : Transfer} {taken : List ℕ} {value : Unit {0}} where
+module _ {M : Type 0} {Comes : StoreValue M → StoreValue M → Type 0} {before mid : State} {transfer : Transfer} {taken : List ℕ}
+    {value : Unit {0}} where
   -- the calls and the flushes of it
-  costs_by : {old half : StoreValue M} → WritesBlocks Follows transfer taken before mid old half (Ok value)
+  costs_by : {old half : StoreValue M} → WritesBlocks Comes transfer taken before mid old half (Ok value)
       → (durable : Bool) (after : State) → CostsFinishing old.goes_ahead durable mid after half.cached
       → CostsWriting old.goes_ahead true durable transfer before after old.cached
   costs_by writes false after costs = λ not. let alone = writes.alone not in grind (arith, costs, alone)
@@ -149,8 +151,8 @@ module _ {M : Type 0} {Follows : M → M → Type 0} {before mid : State} {trans
   }
 
   pub spares_writing : {after : State} {old : UnitValue M} {half last : StoreValue M} {done : Result (Unit {0}) Sense}
-      → WritesBlocks Follows transfer taken before mid old.store half (Ok value)
-      → MakesDurable Follows (transfer.fua || not old.write_cache) mid after half last done → transfer.count ≢ 0
+      → WritesBlocks Comes transfer taken before mid old.store half (Ok value)
+      → MakesDurable Comes (transfer.fua || not old.write_cache) mid after half last done → transfer.count ≢ 0
       → Spares before after (Ok (command.Write10 transfer)) taken old (silent done) (record old { store = last })
   spares_writing {after = after} {old = old} {half = half} writes makes some =
       let moves : moves_blocks transfer ≡ true = grind (arith, nat_tests) in

@@ -15,7 +15,7 @@ use Rattle.scsi_commands.specs.Supported.{IsSupported, IsWithin}
 use Rattle.scsi_commands.proofs.RowLaws.{supported}
 use Rattle.scsi_unit.specs.{Laws.{IsSized, KeepsIntentions, WritesAreWrites}, UnitValue.{UnitValue, unit_limit}}
 use Rattle.scsi_unit.specs.Calls.{SendsAsMeant, SendsOver}
-use Rattle.blocks.specs.StoreValue.{layout_of}
+use Rattle.blocks.specs.StoreValue.{StoreValue, layout_of}
 use Rattle.blocks.proofs.Limits.{limit_least}
 
 -- ---- how many bytes are moved
@@ -36,9 +36,9 @@ pub meant_to_send : (bytes limit : ℕ) (result : Result ℕ Sense) → IfOk res
     → SendsAsMeant (sends bytes) limit result
 meant_to_send bytes limit result is few = grind (arith, nat_tests, nothing_intended)
 
-pub data_sent : {M : Type 0} {Follows : M → M → Type 0} {new : M} (bytes : ℕ) (unit : UnitValue M) (result : Result ℕ Sense)
-    → IfOk result (λ sent. sent ≡ bytes) → bytes ≤ 64 → Follows unit.store.medium new
-    → SendsOver Follows (sends bytes) (unit_limit unit) result unit.store.medium new
+pub data_sent : {M : Type 0} {Comes : StoreValue M → StoreValue M → Type 0} {new : StoreValue M} (bytes : ℕ) (unit : UnitValue M)
+    (result : Result ℕ Sense) → IfOk result (λ sent. sent ≡ bytes) → bytes ≤ 64 → Comes unit.store new
+    → SendsOver Comes (sends bytes) (unit_limit unit) result unit.store new
 data_sent bytes unit result is few follows =
     let least = limit_least (layout_of unit.store.cached).format in
     record { sends = meant_to_send bytes (unit_limit unit) result is (omega (arith, least, few)); follows = follows }

@@ -7,3 +7,4 @@ pub mod Outcomes
 pub mod Intentions
 pub mod StartedUnit
 pub mod UnitLaws
+pub mod UnitRuns

@@ -104,11 +104,12 @@ faults before after old last command taken book next layout cause writes dead ac
       after = grind (arith, limit, dead);
     }))
 
-module _ {M : Type 0} {Follows : M → M → Type 0} {before after : State} {old : UnitValue M} {last : StoreValue M} {taken : List ℕ}
+module _ {M : Type 0} {Comes : StoreValue M → StoreValue M → Type 0} {before after : State} {old : UnitValue M} {last : StoreValue M}
+    {taken : List ℕ}
     (live : is_dead old.store.cached ≡ false) where
   -- they were to be, and were not
   pub dies_writing : {wanted : Bool} {sense : Sense} (command : Command)
-      → MakesDurable Follows wanted before after old.store last (Err sense) → write_of_command command taken ≡ None
+      → MakesDurable Comes wanted before after old.store last (Err sense) → write_of_command command taken ≡ None
       → wants_writing command taken old.write_cache ≡ true
       → Performs before after (Ok command) taken old (Err sense) (record old { store = last })
   dies_writing command makes none writes =
@@ -121,7 +122,7 @@ module _ {M : Type 0} {Follows : M → M → Type 0} {before after : State} {old
         makes.turn.fits book fits,
       ))
 
-  pub synchronizes : {range : BlockRange} (done : Result (Unit {0}) Sense) → MakesDurable Follows true before after old.store last done
+  pub synchronizes : {range : BlockRange} (done : Result (Unit {0}) Sense) → MakesDurable Comes true before after old.store last done
       → Performs before after (Ok (command.SynchronizeCache10 range)) taken old (silent done) (record old { store = last })
   synchronizes (Ok value) makes =
       let limit = limit_stays old.store.cached last.cached makes.turn.goes_on.layout_stays in
@@ -130,7 +131,7 @@ module _ {M : Type 0} {Follows : M → M → Type 0} {before after : State} {old
 
   -- WCE changes, and they are, if that is wanted
   pub selects_bit : {value : Unit {0}} {size : ℕ} {enabled : Bool}
-      → MakesDurable Follows (old.write_cache && not enabled) before after old.store last (Ok value)
+      → MakesDurable Comes (old.write_cache && not enabled) before after old.store last (Ok value)
       → selected_by size taken old.write_cache ≡ Ok enabled
       → Performs before after (Ok (command.ModeSelect size)) taken old (Ok []) (record old { store = last; write_cache = enabled })
   selects_bit {enabled = enabled} makes chosen =
@@ -143,7 +144,7 @@ module _ {M : Type 0} {Follows : M → M → Type 0} {before after : State} {old
       ))
 
   -- a write is not accepted: the store died
-  pub write_refused : {sense : Sense} {transfer : Transfer} → WritesBlocks Follows transfer taken before after old.store last (Err sense)
+  pub write_refused : {sense : Sense} {transfer : Transfer} → WritesBlocks Comes transfer taken before after old.store last (Err sense)
       → transfer.count ≢ 0 → Performs before after (Ok (command.Write10 transfer)) taken old (Err sense) (record old { store = last })
   write_refused {transfer = transfer} writes some =
       let write = write_by transfer taken in
@@ -162,11 +163,12 @@ module _ {M : Type 0} {Follows : M → M → Type 0} {before after : State} {old
 
 -- ---- commands that move blocks: a call of the store behind another
 
-module _ {M : Type 0} {Follows : M → M → Type 0} {before mid after : State} {old : UnitValue M} {half last : StoreValue M} {taken : List ℕ}
+module _ {M : Type 0} {Comes : StoreValue M → StoreValue M → Type 0} {before mid after : State} {old : UnitValue M}
+    {half last : StoreValue M} {taken : List ℕ}
     {value : Unit {0}} {transfer : Transfer} (live : is_dead old.store.cached ≡ false) (some : transfer.count ≢ 0) where
   -- READ: accepted writes are durable, if that is wanted, and blocks are read
   pub reads_blocks_of : (result : Result ℕ Sense) (out : List ℕ)
-      → MakesDurable Follows transfer.fua before mid old.store half (Ok value) → ReadsBlocks Follows transfer mid after half last out result
+      → MakesDurable Comes transfer.fua before mid old.store half (Ok value) → ReadsBlocks Comes transfer mid after half last out result
       → Performs before after (Ok (command.Read10 transfer)) taken old (answer_of result out) (record old { store = last })
   reads_blocks_of (Ok sent) out makes reads =
       let turn = turns before mid after old.store.cached half.cached last.cached makes.turn reads.turn in
@@ -191,8 +193,8 @@ module _ {M : Type 0} {Follows : M → M → Type 0} {before mid after : State} 
       ))
 
   -- WRITE: the write is accepted, and all accepted writes are made durable, if that is wanted
-  module _ (writes : WritesBlocks Follows transfer taken before mid old.store half (Ok value)) where
-    accepted_line : (done : Result (Unit {0}) Sense) → MakesDurable Follows (transfer.fua || not old.write_cache) mid after half last done
+  module _ (writes : WritesBlocks Comes transfer taken before mid old.store half (Ok value)) where
+    accepted_line : (done : Result (Unit {0}) Sense) → MakesDurable Comes (transfer.fua || not old.write_cache) mid after half last done
         → Stays before after old.store.cached last.cached
         → Lines before after (Ok (command.Write10 transfer)) taken old (silent done) (record old { store = last })
     accepted_line (Ok v) makes stay book fits =
@@ -215,7 +217,7 @@ module _ {M : Type 0} {Follows : M → M → Type 0} {before mid after : State} 
         )
 
     pub writes_blocks : (done : Result (Unit {0}) Sense)
-        → MakesDurable Follows (transfer.fua || not old.write_cache) mid after half last done
+        → MakesDurable Comes (transfer.fua || not old.write_cache) mid after half last done
         → Performs before after (Ok (command.Write10 transfer)) taken old (silent done) (record old { store = last })
     writes_blocks done makes =
         let write = write_by transfer taken in

@@ -41,8 +41,9 @@ dead_stays : (work : Work) (ahead : Bool) (before after : State) (old new : Cach
 dead_stays work ahead before after old new step dead = grind (arith, dead, step)
 
 -- a unit over a store that made a step in the background
-pub ticks_over : {M : Type 0} {Follows : M → M → Type 0} (work : Work) (before after : State) (old : UnitValue M) (store : StoreValue M)
-    → StepsBehind Follows work before after old.store store → TicksOver work before after old (record old { store = store })
+pub ticks_over : {M : Type 0} {Comes : StoreValue M → StoreValue M → Type 0} (work : Work) (before after : State) (old : UnitValue M)
+    (store : StoreValue M) → StepsBehind Comes work before after old.store store
+    → TicksOver work before after old (record old { store = store })
 ticks_over work before after old store steps =
     let on = steps.turn.goes_on in
     let steady = steady_through old store on in

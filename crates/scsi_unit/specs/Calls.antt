@@ -7,6 +7,8 @@ pub use Rattle.blocks.specs.OneBatch.{SendsOneBatch, most_steps}
 pub use Rattle.blocks.specs.Written.{IsWritten}
 use Rattle.blocks.specs.Sent.{LogFormat, most_sent}
 use Rattle.blocks.specs.StoreValue.{layout_of, slots_of, batch_steps, steps_left}
+-- handed on to the layers above: each call is one that the log may make, or a read
+pub use Rattle.blocks.specs.Running.{ComesBy}
 pub use Rattle.blocks.specs.StoreValue.{Cached}
 -- handed on to the layers above: one call for each block that no batch has
 pub use Rattle.blocks.specs.Calls.{reads_of}
@@ -122,17 +124,17 @@ pub record SendsAsMeant (intention : Intention) (limit : ℕ) (result : Result �
   pub none : ((n : ℕ) → intention ≢ intent.In n) → IfOk result (λ sent. sent ≡ 0)
   pub most : IfOk result (λ sent. sent ≤ 512 * limit)
 
--- the same, and the medium comes after what it was, by calls alone
-pub record SendsOver {M : Type 0} (Follows : M → M → Type 0) (intention : Intention)
-    (limit : ℕ) (result : Result ℕ Sense) (old new : M) : Type 0 where
+-- the same, and the store comes after what it was by this
+pub record SendsOver {S : Type 0} (Comes : S → S → Type 0) (intention : Intention) (limit : ℕ)
+    (result : Result ℕ Sense) (old new : S) : Type 0 where
   pub sends : SendsAsMeant intention limit result
-  pub follows : Follows old new
+  pub follows : Comes old new
 
 -- What carrying out a command block passes on: how many calls it made, how many bytes it sends, and
--- the medium, which comes after what it was.
+-- the store, which comes after what it was.
 pub record PassesOn {M : Type 0} (state : M → State) (Follows : M → M → Type 0)
     (block taken : List ℕ) (old : UnitValue M) (result : Result ℕ Sense) (new : UnitValue M)
     : Type 0 where
   pub calls : MakesFew (state old.store.medium) (state new.store.medium) block taken old
   pub sends : SendsAsMeant (intention_of old block) (unit_limit old) result
-  pub follows : Follows old.store.medium new.store.medium
+  pub follows : ComesBy state Follows old.store new.store

@@ -8,8 +8,9 @@ use Rattle.spec.specs.Rules.{reads_blocks, wants_writing, write_in_progress, Car
 use Rattle.theorems.specs.Retiring.{finished}
 use Rattle.blocks.specs.{Finding.{MayFind, FoundWith}, Calls.TurnsBatches, Headroom.KeepsHeadroom}
 use Rattle.blocks.specs.{Looks.LooksAtLog, Work.{IsWork, LeavesBy}, declared.work.Work.Work}
-use Rattle.blocks.specs.{Passing.MayEmpty, StoreValue.{Cached, layout_of, blocks_of, is_dead}}
-use Rattle.blocks.specs.StoreValue.{active_of, transfer_limit, FitsBeside, TakesRange}
+use Rattle.blocks.specs.{Passing.MayEmpty, Running.ComesBy, StoreValue.{Cached, layout_of}}
+use Rattle.blocks.specs.StoreValue.{blocks_of, is_dead, active_of, transfer_limit, FitsBeside}
+use Rattle.blocks.specs.StoreValue.{TakesRange}
 use Rattle.scsi_unit.specs.{Costs.CostsAfter, UnitValue.{UnitValue, unit_limit, state_of}}
 use Rattle.scsi_unit.specs.UnitValue.{intention_of, FitsUnit}
 use Rattle.spec.specs.declared.command.Command.TheVariants as command
@@ -189,8 +190,8 @@ pub record TicksOver {M : Type 0} (work : Work) (before after : State) (old new 
   pub left : LeavesBy work old.store.cached new.store.cached
   pub active : MayEmpty (active_of old.store.cached) (active_of new.store.cached)
 
--- the same of a unit whose medium comes after what it was, by calls alone
+-- the same of a unit whose store comes after what it was
 pub record WorksUnit {M : Type 0} (work : Work) (state : M → State) (Follows : M → M → Type 0)
     (old new : UnitValue M) : Type 0 where
   pub ticks : TicksOver work (state old.store.medium) (state new.store.medium) old new
-  pub follows : Follows old.store.medium new.store.medium
+  pub follows : ComesBy state Follows old.store new.store

@@ -15,10 +15,10 @@ use Rattle.blocks.specs.declared.work.Work.{Work}
 use Rattle.scsi_unit.specs.{Serving.{IsEmptied, IsFinished}, Calls.calls_of_sync}
 use Rattle.scsi_unit.specs.Costs.{CostsFinishing, CostsAlone}
 
--- the medium comes after what it was, by calls alone, the policy stays, and headroom is kept
-pub record ComesAfter {M : Type 0} (Follows : M → M → Type 0) (old new : StoreValue M)
-    : Type 0 where
-  pub medium : Follows old.medium new.medium
+-- the store comes after what it was by this, the policy stays, and headroom is kept
+pub record ComesAfter {M : Type 0} (Comes : StoreValue M → StoreValue M → Type 0)
+    (old new : StoreValue M) : Type 0 where
+  pub comes : Comes old new
   pub policy : new.goes_ahead ≡ old.goes_ahead
   pub headroom : KeepsHeadroom old new
 
@@ -34,9 +34,9 @@ TellsDeath result new = MatchResult result (λ _. is_dead new ≡ false)
 
 -- All accepted writes are durable, where that is wanted and the answer is good. Where it is not
 -- wanted, nothing is done and the answer is good.
-pub record MakesDurable {M : Type 0} (Follows : M → M → Type 0) (wanted : Bool)
-    (before after : State) (old new : StoreValue M) (result : Result (Unit {0}) Sense)
-    : Type 0 where
+pub record MakesDurable {M : Type 0} (Comes : StoreValue M → StoreValue M → Type 0)
+    (wanted : Bool) (before after : State) (old new : StoreValue M)
+    (result : Result (Unit {0}) Sense) : Type 0 where
   pub turn : IsTurn before after old.cached new.cached
   pub ok : (book : Book) → FitsBook before old.cached book
       → OnOk result (FitsBook after new.cached (if wanted then promised book else book))
@@ -53,13 +53,13 @@ pub record MakesDurable {M : Type 0} (Follows : M → M → Type 0) (wanted : Bo
   pub rests : unwritten old.cached ≡ 0 → MakesNone before after
   pub looks : LooksAtLog before after old.cached
   pub unwanted : wanted ≡ false → (new ≡ old) × MakesNone before after × (is_ok result ≡ true)
-  pub follows : ComesAfter Follows old new
+  pub follows : ComesAfter Comes old new
 
 -- The blocks of a transfer are at the front of a buffer, all of them, where the answer is good. The
 -- batches and the log stay.
-pub record ReadsBlocks {M : Type 0} (Follows : M → M → Type 0) (transfer : Transfer)
-    (before after : State) (old new : StoreValue M) (out : List ℕ) (result : Result ℕ Sense)
-    : Type 0 where
+pub record ReadsBlocks {M : Type 0} (Comes : StoreValue M → StoreValue M → Type 0)
+    (transfer : Transfer) (before after : State) (old new : StoreValue M) (out : List ℕ)
+    (result : Result ℕ Sense) : Type 0 where
   pub ok : (book : Book) → FitsBook before old.cached book
       → OnOk result (take (512 * transfer.count) out
       ≡ blocks_at (array_of book) transfer.address transfer.count)
@@ -71,11 +71,11 @@ pub record ReadsBlocks {M : Type 0} (Follows : M → M → Type 0) (transfer : T
   pub sent : SendsUpTo 0 before after
   pub looks : LooksAtBlocks before after old.cached transfer.address transfer.count
   pub turn : IsTurn before after old.cached new.cached
-  pub follows : ComesAfter Follows old new
+  pub follows : ComesAfter Comes old new
 
 -- The blocks at the front of what was taken are accepted, where the answer is good.
-pub record WritesBlocks {M : Type 0} (Follows : M → M → Type 0) (transfer : Transfer)
-    (taken : List ℕ) (before after : State) (old new : StoreValue M)
+pub record WritesBlocks {M : Type 0} (Comes : StoreValue M → StoreValue M → Type 0)
+    (transfer : Transfer) (taken : List ℕ) (before after : State) (old new : StoreValue M)
     (result : Result (Unit {0}) Sense) : Type 0 where
   pub turn : IsWriteTurn (write_of transfer.address (take (512 * transfer.count) taken))
       (is_ok result) before after old.cached new.cached
@@ -97,12 +97,12 @@ pub record WritesBlocks {M : Type 0} (Follows : M → M → Type 0) (transfer : 
   pub alone : ¬ FitsBeside (transfer_limit old.cached) (active_of old.cached) transfer.address
       transfer.count
       → OnOk result (CostsAlone old.goes_ahead before after old.cached)
-  pub follows : ComesAfter Follows old new
+  pub follows : ComesAfter Comes old new
 
 -- One step in the background, by what it works towards: by the order of the store's work, of at
 -- most two calls, and with as many steps left behind it as such a step leaves.
-pub record StepsBehind {M : Type 0} (Follows : M → M → Type 0) (work : Work)
-    (before after : State) (old new : StoreValue M) : Type 0 where
+pub record StepsBehind {M : Type 0} (Comes : StoreValue M → StoreValue M → Type 0)
+    (work : Work) (before after : State) (old new : StoreValue M) : Type 0 where
   pub turn : IsTurn before after old.cached new.cached
   pub order : IsWork work old.goes_ahead before after old.cached new.cached
   pub calls : after.calls ≤ before.calls + 2
@@ -110,10 +110,10 @@ pub record StepsBehind {M : Type 0} (Follows : M → M → Type 0) (work : Work)
   pub looks : LooksAtLog before after old.cached
   pub left : LeavesBy work old.cached new.cached
   pub active : MayEmpty (active_of old.cached) (active_of new.cached)
-  pub follows : ComesAfter Follows old new
+  pub follows : ComesAfter Comes old new
 
--- a READ sends all of its blocks where it is good, and the medium comes after what it was
-pub record SendsRead {M : Type 0} (Follows : M → M → Type 0) (transfer : Transfer)
-    (old new : M) (result : Result ℕ Sense) : Type 0 where
+-- a READ sends all of its blocks where it is good, and the store comes after what it was by this
+pub record SendsRead {S : Type 0} (Comes : S → S → Type 0) (transfer : Transfer) (old new : S)
+    (result : Result ℕ Sense) : Type 0 where
   pub sent : IfOk result (λ sent. sent ≡ 512 * transfer.count)
-  pub follows : Follows old new
+  pub follows : Comes old new

@@ -7,6 +7,7 @@ ghost use Rattle.spec.specs.Inquiry.{inquiry_data, inquiry_size};
 ghost use Rattle.spec.specs.ModePage.{mode_data};
 ghost use Rattle.spec.specs.Capacity.{capacity_10, capacity_16};
 ghost use Rattle.spec.specs.Rules.{moves};
+ghost use Rattle.blocks.specs.Running.{ComesBy};
 ghost use Rattle.scsi_unit.specs.UnitValue.{unit_limit, intention_of, answer_of};
 ghost use Rattle.scsi_unit.specs.Serving.{command_for};
 ghost use Rattle.scsi_unit.specs.Reading.{read_of};
@@ -83,8 +84,8 @@ impl<M: Medium> Unit<M> {
             (answer_of result out.new) self.new }
         ensures calls { MakesFew (M.state self.old.store.medium)
             (M.state self.new.store.medium) block.now taken.now self.old }
-        ensures sends { SendsOver M.follows (intention_of self.old block.now) (unit_limit self.old)
-            result self.old.store.medium self.new.store.medium }
+        ensures sends { SendsOver (ComesBy M.state M.follows) (intention_of self.old block.now)
+            (unit_limit self.old) result self.old.store self.new.store }
     {
         let command = self.command(block)?;
         self.perform(command, taken, out)
@@ -105,8 +106,8 @@ impl<M: Medium> Unit<M> {
             (read_of (Ok command)) (promises command self.old.write_cache)
             (IsQuiet command self.old.write_cache self.old.store.cached)
             (M.state self.old.store.medium) (M.state self.new.store.medium) self.old }
-        ensures sends { SendsOver M.follows (moves command) (unit_limit self.old) result
-            self.old.store.medium self.new.store.medium }
+        ensures sends { SendsOver (ComesBy M.state M.follows) (moves command) (unit_limit self.old)
+            result self.old.store self.new.store }
     {
         match command {
             Command::TestUnitReady => Ok(0),

@@ -1,5 +1,6 @@
 //! The calls of the store that the unit makes.
 ghost use Rattle.std.specs.Prelude.{◌≡◌, ◌≤◌, ◌*◌, false, length};
+ghost use Rattle.blocks.specs.Running.{ComesBy};
 ghost use Rattle.blocks.specs.StoreValue.{is_dead};
 ghost use Rattle.scsi_unit.specs.Asking.{CanTransfer};
 ghost use Rattle.scsi_unit.specs.StoreCalls.{MakesDurable, ReadsBlocks, WritesBlocks, StepsBehind};
@@ -12,8 +13,8 @@ use scsi_commands::{Sense, Transfer};
 /// Makes all accepted writes durable, where that is wanted. Else nothing is done.
 pub(crate) fn synchronize_if<M: Medium>(store: &mut Store<M>, wanted: bool) -> Result<(), Sense>
     requires live { is_dead store.old.cached ≡ false }
-    ensures { MakesDurable M.follows wanted (M.state store.old.medium) (M.state store.new.medium)
-        store.old store.new result }
+    ensures { MakesDurable (ComesBy M.state M.follows) wanted (M.state store.old.medium)
+        (M.state store.new.medium) store.old store.new result }
 {
     if !wanted {
         return Ok(());
@@ -32,8 +33,8 @@ pub(crate) fn read_blocks<M: Medium>(
 ) -> Result<usize, Sense>
     requires can { CanTransfer store.old.cached transfer }
     requires room { 512 * transfer.count ≤ length out.old }
-    ensures { ReadsBlocks M.follows transfer (M.state store.old.medium) (M.state store.new.medium)
-        store.old store.new out.new result }
+    ensures { ReadsBlocks (ComesBy M.state M.follows) transfer (M.state store.old.medium)
+        (M.state store.new.medium) store.old store.new out.new result }
 {
     let size = (BLOCK * transfer.count) as usize;
     match store.read(transfer.address, &mut out[..size]) {
@@ -50,7 +51,7 @@ pub(crate) fn write_blocks<M: Medium>(
 ) -> Result<(), Sense>
     requires can { CanTransfer store.old.cached transfer }
     requires taken { 512 * transfer.count ≤ length taken.now }
-    ensures { WritesBlocks M.follows transfer taken.now (M.state store.old.medium)
+    ensures { WritesBlocks (ComesBy M.state M.follows) transfer taken.now (M.state store.old.medium)
         (M.state store.new.medium) store.old store.new result }
 {
     let blocks = &taken[..(BLOCK * transfer.count) as usize];
@@ -62,8 +63,8 @@ pub(crate) fn write_blocks<M: Medium>(
 
 /// Makes a step in the background.
 pub(crate) fn step<M: Medium>(store: &mut Store<M>, work: Work)
-    ensures { StepsBehind M.follows work (M.state store.old.medium) (M.state store.new.medium)
-        store.old store.new }
+    ensures { StepsBehind (ComesBy M.state M.follows) work (M.state store.old.medium)
+        (M.state store.new.medium) store.old store.new }
 {
     store.work(work);
 }

@@ -4,6 +4,7 @@ ghost use Rattle.blocks.specs.StoreValue.{is_dead};
 ghost use Rattle.spec.specs.declared.command.BlockRange.{BlockRange};
 ghost use Rattle.spec.specs.declared.command.Command.TheVariants as command;
 ghost use Rattle.spec.specs.Rules.{forces_reading};
+ghost use Rattle.blocks.specs.Running.{ComesBy};
 ghost use Rattle.scsi_unit.specs.UnitValue.{answer_of};
 ghost use Rattle.scsi_unit.specs.Asking.{CanRead, CanWrite, CanSelect};
 ghost use Rattle.scsi_unit.specs.Calls.{calls_of_sync, calls_of_read, calls_of_write, calls_of};
@@ -33,7 +34,7 @@ impl<M: Medium> Unit<M> {
             (some_read transfer) (forces_reading transfer)
             (IsQuietBy (forces_reading transfer) self.old.store.cached)
             (M.state self.old.store.medium) (M.state self.new.store.medium) self.old }
-        ensures sends { SendsRead M.follows transfer self.old.store.medium self.new.store.medium
+        ensures sends { SendsRead (ComesBy M.state M.follows) transfer self.old.store self.new.store
             result }
     {
         if transfer.count == 0 {
@@ -58,7 +59,7 @@ impl<M: Medium> Unit<M> {
             None (forces_writing transfer self.old.write_cache)
             (IsQuietWrite transfer self.old.write_cache self.old.store.cached)
             (M.state self.old.store.medium) (M.state self.new.store.medium) self.old }
-        ensures follows { M.follows self.old.store.medium self.new.store.medium }
+        ensures follows { ComesBy M.state M.follows self.old.store self.new.store }
     {
         if transfer.count == 0 {
             return Ok(());
@@ -80,7 +81,7 @@ impl<M: Medium> Unit<M> {
         ensures bounded { MakesAtMost (calls_of_sync self.old.store.cached)
             None true (IsQuietBy true self.old.store.cached) (M.state self.old.store.medium)
             (M.state self.new.store.medium) self.old }
-        ensures follows { M.follows self.old.store.medium self.new.store.medium }
+        ensures follows { ComesBy M.state M.follows self.old.store self.new.store }
     {
         synchronize_if(&mut self.store, true)
     }
@@ -100,7 +101,7 @@ impl<M: Medium> Unit<M> {
             None self.old.write_cache
             (IsQuietBy self.old.write_cache self.old.store.cached)
             (M.state self.old.store.medium) (M.state self.new.store.medium) self.old }
-        ensures follows { M.follows self.old.store.medium self.new.store.medium }
+        ensures follows { ComesBy M.state M.follows self.old.store self.new.store }
     {
         let enabled = mode_select(&taken[..usize::from(list_len)], self.write_cache)?;
         let clears = is_disabled(self.write_cache, enabled);

@@ -2,6 +2,7 @@ use Rattle.std.proofs.{Common.{inl, inr, Ok, refl, rules, arith}, lemmas.Bool.De
 use Rattle.std.specs.Prelude.{min, unwrap_or, ◌*◌}
 use Rattle.scsi_unit.proofs.{PerformedCommands.{by_table, take-capacity_10}, Intentions.{meant_to_send, data_sent, inquiry_most}}
 use Rattle.spec.specs.{declared.command.BlockRange.BlockRange, Inquiry.inquiry_size}
+use Rattle.blocks.proofs.StoreRuns.{comes_itself}
 use Rattle.scsi_unit.specs.UnitValue.{unit_limit}
 use Rattle.scsi_unit.proofs.unit.Unit.perform.Goals as goal
 
@@ -66,29 +67,31 @@ returns-in-ModeSelect-clause-spares g c = rw (c.in-ModeSelect.is, c.silent.ensur
 pub returns-in-RequestSense-clause-sends : goal.returns-in-RequestSense-clause-sends
 returns-in-RequestSense-clause-sends g c =
     rw (c.in-RequestSense.is, c.report.ensures.left)
-    (data_sent _ c.args.self.now (Ok c.report.result) c.report.ensures.size (omega arith) (g.met.M.Medium.follows_itself _))
+    (data_sent _ c.args.self.now (Ok c.report.result) c.report.ensures.size (omega arith) (comes_itself g.met.M.Medium.follows_itself))
 
 pub returns-in-Inquiry-clause-sends : goal.returns-in-Inquiry-clause-sends
 returns-in-Inquiry-clause-sends g c =
     rw c.in-Inquiry.is
     (data_sent _ c.args.self.now (Ok c.inquire.result) c.inquire.ensures.size (omega (arith, inquiry_most c.in-Inquiry.page))
-    (g.met.M.Medium.follows_itself _))
+    (comes_itself g.met.M.Medium.follows_itself))
 
 pub returns-in-ModeSense-clause-sends : goal.returns-in-ModeSense-clause-sends
 returns-in-ModeSense-clause-sends g c =
     rw c.in-ModeSense.is
-    (data_sent _ c.args.self.now (Ok c.sense_mode.result) c.sense_mode.ensures.size (omega arith) (g.met.M.Medium.follows_itself _))
+    (data_sent _ c.args.self.now (Ok c.sense_mode.result) c.sense_mode.ensures.size (omega arith)
+    (comes_itself g.met.M.Medium.follows_itself))
 
 pub returns-in-ReadCapacity10-clause-sends : goal.returns-in-ReadCapacity10-clause-sends
 returns-in-ReadCapacity10-clause-sends g c =
     rw c.in-ReadCapacity10.is
-    (data_sent 8 c.args.self.now (Ok c.send.result) (omega (arith, c.send.ensures.size)) (omega arith) (g.met.M.Medium.follows_itself _))
+    (data_sent 8 c.args.self.now (Ok c.send.result) (omega (arith, c.send.ensures.size)) (omega arith)
+    (comes_itself g.met.M.Medium.follows_itself))
 
 pub returns-in-ReadCapacity16-clause-sends : goal.returns-in-ReadCapacity16-clause-sends
 returns-in-ReadCapacity16-clause-sends g c =
     rw c.in-ReadCapacity16.is
     (data_sent _ c.args.self.now (Ok c.send-in-ReadCapacity16.result) (omega (arith, c.send-in-ReadCapacity16.ensures.size)) (omega arith)
-    (g.met.M.Medium.follows_itself _))
+    (comes_itself g.met.M.Medium.follows_itself))
 
 pub read-requires : goal.read-requires
 read-requires g c = grind (arith, nat_tests, c.requires.room (512 * c.in-Read10.transfer.count))
@@ -150,3 +153,7 @@ returns-in-Read10-clause-sends g c =
       );
       follows = c.read.ensures.sends.follows;
     }
+
+pub returns-in-TestUnitReady-clause-sends : goal.returns-in-TestUnitReady-clause-sends
+returns-in-TestUnitReady-clause-sends g c =
+    record { sends = rw c.in-TestUnitReady.is (search rules); follows = comes_itself g.met.M.Medium.follows_itself }

@@ -1,6 +1,7 @@
 use Rattle.std.proofs.{Common.{arith, refl}, lemmas.Result.err_from_is_err_and, lemmas.Bool.Decides.nat_tests}
 use Rattle.spec.specs.declared.command.Command.TheVariants as command
 use Rattle.scsi_unit.proofs.{CommandCalls.{synced, read_on}, PerformedCommands.{by_table, dies_writing, reads_blocks_of}}
+use Rattle.blocks.proofs.StoreRuns.{comes_itself, comes_through}
 use Rattle.scsi_unit.proofs.unit.Unit.read.Goals as goal
 
 pub returns-then-transfer-eq0-clause-performs : goal.returns-then-transfer-eq0-clause-performs
@@ -28,3 +29,15 @@ returns-in_err-synchronize_if-clause-bounded g c =
 
 pub returns-clause-bounded : goal.returns-clause-bounded
 returns-clause-bounded g c = read_on c.requires.live c.if-transfer-eq0.false c.in_ok-synchronize_if.ensures c.read_blocks.ensures
+
+pub returns-then-transfer-eq0-clause-sends : goal.returns-then-transfer-eq0-clause-sends
+returns-then-transfer-eq0-clause-sends g c = record {
+  sent = grind (arith, nat_tests, c.if-transfer-eq0.true);
+  follows = comes_itself g.met.M.Medium.follows_itself;
+}
+
+pub returns-clause-sends : goal.returns-clause-sends
+returns-clause-sends g c = record {
+  sent = c.read_blocks.ensures.sent_all;
+  follows = comes_through g.met.M.Medium.follows_through c.synchronize_if.ensures.follows.comes c.read_blocks.ensures.follows.comes;
+}

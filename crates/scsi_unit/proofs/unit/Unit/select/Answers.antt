@@ -1,6 +1,7 @@
 use Rattle.std.proofs.{Common.{arith, refl, sym, ◌∙◌}, lemmas.Result.err_from_is_err_and, lemmas.Bool.Decides.nat_tests}
 use Rattle.spec.specs.declared.command.Command.TheVariants as command
 use Rattle.scsi_unit.proofs.{CommandCalls.synced, PerformedCommands.{by_table, dies_writing, selects_bit}}
+use Rattle.blocks.proofs.StoreRuns.{comes_itself}
 use Rattle.scsi_unit.proofs.unit.Unit.select.Goals as goal
 
 pub returns-in_err-enabled-clause-performs : goal.returns-in_err-enabled-clause-performs
@@ -35,3 +36,6 @@ returns-clause-bounded g c =
     let chosen = sym c.mode_select.ensures.answer ∙ c.in_ok-enabled.was in
     let clears = c.is_disabled-clears.ensures in
     synced c.requires.live c.synchronize_if.ensures (λ plain. grind (arith, clears, plain)) (grind (arith, chosen, c.from.ensures, clears))
+
+pub returns-in_err-enabled-clause-follows : goal.returns-in_err-enabled-clause-follows
+returns-in_err-enabled-clause-follows g c = comes_itself g.met.M.Medium.follows_itself

@@ -1,6 +1,7 @@
 use Rattle.std.proofs.{Common.{arith, refl}, lemmas.Result.err_from_is_err_and, lemmas.Bool.Decides.nat_tests}
 use Rattle.scsi_unit.proofs.CommandCalls.{write_stops, write_on, spares_writing}
 use Rattle.scsi_unit.proofs.PerformedCommands.{by_table, write_refused, writes_blocks}
+use Rattle.blocks.proofs.StoreRuns.{comes_itself, comes_through}
 use Rattle.scsi_unit.proofs.unit.Unit.write.Goals as goal
 
 pub returns-then-transfer-eq0-clause-performs : goal.returns-then-transfer-eq0-clause-performs
@@ -31,3 +32,10 @@ returns-clause-bounded g c =
 pub returns-clause-spares : goal.returns-clause-spares
 returns-clause-spares g c =
     spares_writing c.in_ok-write_blocks.ensures (rw c.goes_through-through.ensures at c.synchronize_if.ensures) c.if-transfer-eq0.false
+
+pub returns-then-transfer-eq0-clause-follows : goal.returns-then-transfer-eq0-clause-follows
+returns-then-transfer-eq0-clause-follows g c = comes_itself g.met.M.Medium.follows_itself
+
+pub returns-clause-follows : goal.returns-clause-follows
+returns-clause-follows g c =
+    comes_through g.met.M.Medium.follows_through c.write_blocks.ensures.follows.comes c.synchronize_if.ensures.follows.comes
