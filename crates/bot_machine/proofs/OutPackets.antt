@@ -1,5 +1,6 @@
 -- What a packet to Bulk-Out does, by whether it is halted and by what is left of the exchange.
 use Rattle.std.proofs.Common.{◌≡◌, ap, ℕ, List, [], ◌∷◌, refl, subst, sym, ◌⊎◌, true, false, inl, slice_range, ◌∙◌, arith, rules}
+use Rattle.scsi_unit.proofs.UnitRuns.{comes_itself}
 use Rattle.bot_machine.specs.{declared.bulk_state.Taking.Taking, declared.bulk_state.Phase.Phase}
 use Rattle.bot_machine.specs.declared.bulk_state.Phase.TheVariants.{Command, DataOut, DataIn, Status}
 use Rattle.bot_machine.specs.Disk.{status_of_answer, Tells, DiskValue, over, TicksIn, Proceeds, IsStepBy, IsStep, Elapses, TakesFew}
@@ -230,7 +231,9 @@ pub unit_stays : {M : Type 0} (state : M → State) (Follows : M → M → Type 
     → ((m : M) → Follows m m) → IsInPhase (unit_limit unit) (intention_of unit) to.phase → to.size ≡ from.size
     → HandsOn state Follows At unit unit from to
 unit_stays state Follows At unit from to itself phase size =
-    let m = state unit.store.medium in search (rules, no_calls m unit, none_besides At m unit, no_time m, itself, phase, size)
+    let m = state unit.store.medium in
+    let comes = comes_itself {state = state} {Follows = Follows} {s = unit.store} itself in
+    search (rules, no_calls m unit, none_besides At m unit, no_time m, comes, phase, size)
 
 -- what is passed on where this holds of a home sector that was read, too
 pub passes_wider : {M : Type 0} (state : M → State) (Follows : M → M → Type 0) (At Other : ℕ → Type 0) (old new : UnitValue M)

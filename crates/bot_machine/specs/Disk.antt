@@ -13,7 +13,8 @@ use Rattle.spec.specs.UnitConversation.{Intends, write_of_event, UnitRun, UnitSt
 use Rattle.medium.specs.{Medium.{State, Image}, Moments.{LeavesOnly, EachCut, IsUnchanged}}
 use Rattle.medium.specs.Sent.{SendsUpTo}
 use Rattle.scsi_unit.specs.{Background.{Work, Settle, is_dead}, Books.{MayFind, FoundWith}}
-use Rattle.scsi_unit.specs.Calls.{IsBounded, IsWritten, SendsOneBatch, most_calls, most_sends}
+use Rattle.scsi_unit.specs.Calls.{ComesBy, IsBounded, IsWritten, SendsOneBatch, most_calls}
+use Rattle.scsi_unit.specs.Calls.{most_sends}
 use Rattle.scsi_unit.specs.{Costs.KeepsHeadroom, Serving.{has_refused, IsSparing, TicksOver}}
 use Rattle.scsi_unit.specs.Starting.{layout_of}
 use Rattle.scsi_unit.specs.UnitValue.{UnitValue, unit_limit, state_of, FitsUnit, IsOfSize}
@@ -173,13 +174,13 @@ pub record IsRun {M : Type 0} (state : M → State) (old : DiskValue M) (events 
   pub elapses : Elapses (state old.unit.store.medium) (state new.unit.store.medium)
   pub packets_stay : new.line.packet_size ≡ old.line.packet_size
 
--- a step in the background that works towards this was made on a disk, and its medium comes after
+-- a step in the background that works towards this was made on a disk, and its store comes after
 -- what it was, by calls alone
 pub record WorksDisk {M : Type 0} (work : Work) (state : M → State) (Follows : M → M → Type 0)
     (old new : DiskValue M) : Type 0 where
   pub step : IsStepBy work (state old.unit.store.medium) (state new.unit.store.medium) old
       happens.Tick Ticked new
-  pub follows : Follows old.unit.store.medium new.unit.store.medium
+  pub follows : ComesBy state Follows old.unit.store new.unit.store
 
 -- something was armed in the medium, and nothing else of the disk has changed
 abbrev pub IsRearmed : {M : Type 0} → DiskValue M → DiskValue M → Type 0
@@ -205,9 +206,9 @@ pub record AnswersSetup {M : Type 0} (packet : List ℕ) (old : DiskValue M) (an
   pub request : SetupStep packet old.line answer new.line
   pub others : new ≡ record old { line = new.line }
 
--- events were played on a disk, and its medium comes after what it was, by calls alone
+-- events were played on a disk, and its store comes after what it was, by calls alone
 pub record PlaysEvents {M : Type 0} (state : M → State) (Follows : M → M → Type 0)
     (old : DiskValue M) (events : List Event) (answers : List Answer) (new : DiskValue M)
     : Type 0 where
   pub run : IsRun state old events answers new
-  pub follows : Follows old.unit.store.medium new.unit.store.medium
+  pub follows : ComesBy state Follows old.unit.store new.unit.store

@@ -10,8 +10,9 @@ use Rattle.spec.specs.UnitConversation.{way_of, Intends, write_of_packet, on_lin
 use Rattle.spec.specs.declared.way.Way.TheVariants as ways
 use Rattle.spec.specs.declared.intent.Intent.TheVariants as intent
 use Rattle.medium.specs.Medium.{State}
-use Rattle.scsi_unit.specs.{Calls.IsBounded, Serving.{has_refused, IsSparing}, UnitValue.UnitValue}
-use Rattle.scsi_unit.specs.UnitValue.{unit_limit, state_of, FitsUnit, IsOfSize, intention_of}
+use Rattle.scsi_unit.specs.{Calls.{IsBounded, ComesBy}, Serving.{has_refused, IsSparing}}
+use Rattle.scsi_unit.specs.UnitValue.{UnitValue, unit_limit, state_of, FitsUnit, IsOfSize}
+use Rattle.scsi_unit.specs.UnitValue.{intention_of}
 use Rattle.bot_machine.specs.declared.exchange.Exchange.{Exchange}
 use Rattle.bot_machine.specs.declared.bulk_state.Taking.{Taking}
 use Rattle.bot_machine.specs.declared.bulk_state.Phase.TheVariants.{Command, DataOut}
@@ -69,7 +70,7 @@ pub record ServesPacket {M : Type 0} (before after : State) (old new : UnitValue
       (PacketCarriesOut from.packet_size halted left packet (state_of old book))
 
 -- A part of an event passes these on: a phase that the unit allows, its limit and the size of a
--- packet as they were, and the medium, which comes after what it was by few calls, and of which no
+-- packet as they were, and the store, which comes after what it was by few calls, and of which no
 -- home sector is read but such as this holds of.
 pub record HandsOn {M : Type 0} (state : M → State) (Follows : M → M → Type 0) (At : ℕ → Type 0)
     (old new : UnitValue M) (from to : BulkState) : Type 0 where
@@ -79,7 +80,7 @@ pub record HandsOn {M : Type 0} (state : M → State) (Follows : M → M → Typ
   pub few : TakesFew (state old.store.medium) (state new.store.medium) old new
   pub looks : LooksBesides At (state old.store.medium) (state new.store.medium) old
   pub elapses : Elapses (state old.store.medium) (state new.store.medium)
-  pub follows : Follows old.store.medium new.store.medium
+  pub follows : ComesBy state Follows old.store new.store
 
 -- what a part of an event that takes the last data, or data of a wrong size, does and passes on
 pub record EndsData {M : Type 0} (state : M → State) (Follows : M → M → Type 0)

@@ -9,6 +9,7 @@ ghost use Rattle.spec.specs.Book.{Book};
 ghost use Rattle.scsi_unit.specs.Books.{MayFind};
 ghost use Rattle.scsi_unit.specs.Background.{IsSettled, IsWritten, TellsWork, HasLimits, Settle};
 ghost use Rattle.scsi_unit.specs.Background.{is_dead, steps_left};
+ghost use Rattle.scsi_unit.specs.Calls.{ComesBy};
 ghost use Rattle.scsi_unit.specs.Starting.{HasLimit};
 ghost use Rattle.scsi_unit.specs.UnitValue.{unit_limit, TellsLimit};
 ghost use Rattle.spec.specs.Exchange.{in_answer, after_in, after_request};
@@ -159,7 +160,7 @@ impl<M: Medium> Disk<M> {
         ensures step { IsStep (M.state self.old.unit.store.medium)
             (M.state self.new.unit.store.medium) self.old
             (event.Out (record { items = packet.now })) (answer_to_out result) self.new }
-        ensures follows { M.follows self.old.unit.store.medium self.new.unit.store.medium }
+        ensures follows { ComesBy M.state M.follows self.old.unit.store self.new.unit.store }
     {
         if self.bulk.out_halted {
             return OutAnswer::Stall;

@@ -1,5 +1,6 @@
 //! Events played on a disk.
 ghost use Rattle.std.specs.Prelude.{◌≡◌, ◌≢◌, ◌≤◌, ◌+◌, ◌++◌, List, length};
+ghost use Rattle.scsi_unit.specs.Calls.{ComesBy};
 ghost use Rattle.bot_machine.specs.Disk.{IsStep, PlaysEvents};
 ghost use Rattle.bot_machine.specs.Fitting.{IsWithin, AreWithin};
 ghost use Rattle.spec.specs.declared.event.Answer.{Answer};
@@ -18,7 +19,7 @@ pub fn answer_to<M: Medium>(disk: &mut Disk<M>, event: &Event) -> Answer
     requires { IsWithin disk.old.line.packet_size event.now }
     ensures step { IsStep (M.state disk.old.unit.store.medium)
         (M.state disk.new.unit.store.medium) disk.old event.now result disk.new }
-    ensures follows { M.follows disk.old.unit.store.medium disk.new.unit.store.medium }
+    ensures follows { ComesBy M.state M.follows disk.old.unit.store disk.new.unit.store }
     ensures on { result ≢ answer.Off }
 {
     match event {

@@ -1,5 +1,6 @@
 use Rattle.std.proofs.Common.{rules, ◌≡◌}
 use Rattle.spec.specs.{declared.event.Answer.TheVariants.Data, Exchange.in_answer}
+use Rattle.scsi_unit.proofs.UnitRuns.{comes_itself}
 use Rattle.bot_machine.proofs.OutPackets.{token, asked}
 use Rattle.bot_machine.proofs.run.answer_to.Goals as goal
 
@@ -24,3 +25,15 @@ returns-in-Setup-clause-step g c =
     let disk = c.args.disk.now in
     rw (c.setup.ensures.others, c.in-Setup.is, c.from-in-Setup.ensures)
     (asked _ disk c.in-Setup.packet _ _ (g.met.M.Medium.sound disk.unit.store.medium) c.setup.ensures.request)
+
+pub returns-in-Data-clause-follows : goal.returns-in-Data-clause-follows
+returns-in-Data-clause-follows g c = rw c.bulk_in.follows.holds-at-none (comes_itself g.met.M.Medium.follows_itself)
+
+pub returns-in-Nak-clause-follows : goal.returns-in-Nak-clause-follows
+returns-in-Nak-clause-follows g c = rw c.bulk_in.follows.holds-at-none (comes_itself g.met.M.Medium.follows_itself)
+
+pub returns-in-Stall-clause-follows : goal.returns-in-Stall-clause-follows
+returns-in-Stall-clause-follows g c = rw c.bulk_in.follows.holds-at-none (comes_itself g.met.M.Medium.follows_itself)
+
+pub returns-in-Setup-clause-follows : goal.returns-in-Setup-clause-follows
+returns-in-Setup-clause-follows g c = rw c.setup.ensures.others (comes_itself g.met.M.Medium.follows_itself)

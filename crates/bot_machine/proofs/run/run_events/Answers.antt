@@ -1,5 +1,6 @@
 use Rattle.std.proofs.Common.{◌++◌, ◌∷◌, [], take, refl, sym, ap, ◌∙◌, arith, append_assoc, length-append}
 use Rattle.std.proofs.lemmas.List.{take_all, take_more, append-nil}
+use Rattle.scsi_unit.proofs.UnitRuns.{comes_itself, comes_through}
 use Rattle.bot_machine.proofs.Runs.{IsRun-more, no_run}
 use Rattle.bot_machine.proofs.run.run_events.Goals as goal
 
@@ -7,7 +8,7 @@ pub loop-event-init : goal.loop-event-init
 loop-event-init g c =
     record {
       run = ([], rw append-nil refl, no_run g.M.Medium.state c.args.disk.now (g.met.M.Medium.sound c.args.disk.now.unit.store.medium));
-      follows = g.met.M.Medium.follows_itself c.args.disk.now.unit.store.medium;
+      follows = comes_itself g.met.M.Medium.follows_itself;
       count = omega arith;
       room = refl;
     }
@@ -33,8 +34,7 @@ loop-event-preserved g c =
         rw e (IsRun-more g.M.Medium.state old mid new (take i events) so_far.0 c.event-item.result answer so_far.2
             c.answer_to.ensures.step),
       );
-      follows = g.met.M.Medium.follows_through old.unit.store.medium mid.unit.store.medium new.unit.store.medium
-          c.loop-event.invariant.follows c.answer_to.ensures.follows;
+      follows = comes_through g.met.M.Medium.follows_through c.loop-event.invariant.follows c.answer_to.ensures.follows;
       count = rw c.push.ensures (omega (arith, length-append c.loop-event.answers.list (answer ∷ []), c.loop-event.invariant.count));
       room = rw (c.push.ensures, c.loop-event.invariant.room) refl;
     }

@@ -1,5 +1,6 @@
 use Rattle.std.proofs.Common.{◌≡◌, ◌++◌, ◌+◌, List, take, length}
 use Rattle.spec.specs.declared.event.Answer.{Answer}
+use Rattle.scsi_unit.specs.Calls.{ComesBy}
 use Rattle.bot_machine.specs.Disk.{IsRun}
 use Rattle.bot_machine.proofs.run.run_events.Given as goal
 
@@ -14,7 +15,7 @@ invariant-loop-event g l =
       })
           × IsRun medium.state old
           (take l.event-index l.events) told l.disk;
-      follows : medium.follows old.unit.store.medium l.disk.unit.store.medium;
+      follows : ComesBy medium.state medium.follows old.unit.store l.disk.unit.store;
       count : length l.answers.list ≡ length l.fn.answers.list + l.event-index;
       room : l.answers.room ≡ l.fn.answers.room;
     }

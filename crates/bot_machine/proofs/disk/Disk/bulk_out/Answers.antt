@@ -1,6 +1,7 @@
 use Rattle.std.proofs.{Common.{rules, refl, sym, ap}, lemmas.List.{with_items_is, places}}
 use Rattle.spec.specs.Packets.{bytes_of}
 use Rattle.bot_machine.specs.Refinement.{left_of}
+use Rattle.scsi_unit.proofs.UnitRuns.{comes_itself}
 use Rattle.bot_machine.proofs.OutPackets.{stalled, not_ready, served, sends}
 use Rattle.bot_machine.proofs.disk.Disk.bulk_out.Goals as goal
 
@@ -32,3 +33,9 @@ returns-in_default-clause-step g c =
     (bytes_of d.bulk.size) d.transfer.items d.bulk.status in
     rw (← c.self.view_is)
     (not_ready _ _ c.args.packet.now sent.0 sent.1 d.bulk.status (g.met.M.Medium.sound d.unit.store.medium) (sym c.if-self.false) sent.2)
+
+pub returns-then-self-clause-follows : goal.returns-then-self-clause-follows
+returns-then-self-clause-follows g c = comes_itself g.met.M.Medium.follows_itself
+
+pub returns-in_default-clause-follows : goal.returns-in_default-clause-follows
+returns-in_default-clause-follows g c = comes_itself g.met.M.Medium.follows_itself
