@@ -29,12 +29,12 @@ static uint64_t home_of(uint32_t format, uint64_t slots)
     return 2 + (format == 1 ? 50 : 249) * slots;
 }
 
-/* Memory stands for the device. */
+/* An image in memory stands for the device. */
 static void make_device(uint32_t format, uint64_t slots)
 {
     options.sectors = home_of(format, slots) + BLOCKS;
-    medium = calloc(options.sectors, 512);
-    if (!medium)
+    medium = malloc(512 * options.sectors);
+    if (!medium || format_memory(medium, 512 * options.sectors, format, BLOCKS, slots))
         exit(EXIT_FAILURE);
 }
 
@@ -134,7 +134,7 @@ static bool takes(begin work, const struct usbdisk_plan *plan, const char *what,
     return good && heap_blocks == 0;
 }
 
-/* What a format, a laying and a migration take: for each sector before home, and for each slot. */
+/* What a format, a laying and a migration take. */
 static bool is_work_told(uint32_t format, uint64_t slots, uint64_t between)
 {
     uint64_t home = home_of(format, slots) + between, sectors = home + BLOCKS;
