@@ -27,6 +27,7 @@ returns-clause-is c =
         turn = subst (λ (b : Bool). IsWriteTurn (write_of c.args.address c.args.bytes.now) b (state_of old.medium) (state_of new.medium)
             old.cached new.cached) ok says.passes.turn;
         medium = quiet.0;
+        runs = says.passes.runs;
         policy = says.passes.policy;
       };
       live = live_ok c.write-taken.result _ _ ok says.answers.answer;
