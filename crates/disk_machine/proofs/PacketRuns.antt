@@ -6,6 +6,7 @@ use Rattle.std.proofs.Math.Nat.{zero-div, div-zero, div-mul-le_self, mul-le-mul_
 use Rattle.spec.specs.{Exchange.{Line, Script, finished, taking, sending, after_in}, Book.Book, declared.{case.Case.Case, wrapper.Cbw.Cbw}}
 use Rattle.spec.specs.declared.{way.Way.Way, event.Answer.TheVariants.{Ack, Data}}
 use Rattle.window.specs.{Window.state_of, WindowLaws.{is_sound, comes_after_itself}}
+use Rattle.scsi_unit.proofs.UnitRuns.{comes_itself}
 use Rattle.bot_machine.specs.{Acts.EventCarriesOut, Disk.over, PacketRuns.{packets_amid, packet_of, after_tokens, after_first, after_more}}
 use Rattle.bot_machine.{specs.PacketRuns.{GivesRun, TakesRun}, proofs.PacketRuns.{within, amid, more_taken, none_carried, left_behind}}
 use Rattle.disk_machine.specs.{Plays.{Disk, medium_of, Foresees}, Machine.Machine, Moves.ServesAtRest, Packets.{HoldsBack, PlaysOut}}
@@ -130,7 +131,7 @@ module _ (s : Machine) (packet : List ℕ) (case : Case) (command : Cbw) (intend
     answer = Ack;
     plays = played s.disk (event.Out (record { items = packet })) Ack after_one.disk sees
         (more_taken (state_of (medium_of s.disk)) s.disk packet case command intended came due halted left more
-        (is_sound (medium_of s.disk)) size) (comes_after_itself (medium_of s.disk));
+        (is_sound (medium_of s.disk)) size) (comes_itself comes_after_itself);
     code_is = refl;
     promises = false;
     none = λ no book fits block taken carried. absurd (no_command book block taken carried);

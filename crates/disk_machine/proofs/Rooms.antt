@@ -8,6 +8,7 @@ use Rattle.journal.specs.Places.{Shape}
 use Rattle.window.specs.{Story.given, declared.call.DeviceCall.DeviceCall, Window.{Window, state_of, is_in_sight, ComesAfter, IsServed}}
 use Rattle.window.specs.{WindowLaws.{is_sound, comes_after_itself}, Looks.{near_in_sight, none_refused, none_missed, none_kept_out}}
 use Rattle.scsi_unit.specs.{Background.Work, Calls.SendsOneBatch, Reading.ReadsBack, Starting.blocks_of, StartFaults.StartFault}
+use Rattle.scsi_unit.{specs.Calls.ComesBy, proofs.UnitRuns.comes_itself}
 use Rattle.bot_machine.{proofs.OutPackets.token, specs.{Device.Device, Disk.IsStepBy, Opening.{IsOpened, IsNotOpened, StartLeaves}}}
 use Rattle.bot_machine.specs.{Opening.LeavesMedium, Reading.ReadsAt}
 use Rattle.disk_machine.specs.{Plays.{Disk, medium_of, layout_on, Foresees, Plays, PlaysBy, EndsIn}, Refusals.{HasRoomFor, HasRoomOnce}}
@@ -80,14 +81,16 @@ asks_nothing old new follows same =
 pub played : {work : Work} → (old : Disk) (event : Event) (answer : Answer) (new : Disk)
     → Foresees (medium_of old)
     → IsStepBy work (state_of (medium_of old)) (state_of (medium_of new)) old event answer new
-    → ComesAfter (medium_of old) (medium_of new) → PlaysBy work old event answer new
-played old event answer new sees step follows =
+    → ComesBy state_of ComesAfter old.unit.store new.unit.store → PlaysBy work old event answer new
+played old event answer new sees step comes =
+    let follows = comes.medium in
     let served = sees.served (medium_of new) follows in
     let fits = fits_event old event answer new step sees.held in
     let in_sight = λ (seen : HoldsLog old × SeesHome old event). named_in_sight old event seen.0 seen.1 in
     let named = λ (s : ℕ). ReadsBack old.unit s ⊎ ReadsAt old event s in record {
       step = step;
       follows = follows;
+      comes = comes;
       covers = sees.covers (medium_of new) follows;
       parts = sees.parts (medium_of new) follows;
       served = served;
@@ -109,7 +112,7 @@ pub taken : (old new : Disk) (answer : Answer) → Foresees (medium_of old) → 
 taken old new answer sees after answered =
     subst (λ (d : Disk). Plays old event.In answer d) (sym after)
     (subst (λ (a : Answer). Plays old event.In a (record old { line = after_in old.line })) (sym answered)
-    (played _ _ _ _ sees (token (state_of (medium_of old)) old (is_sound (medium_of old))) (comes_after_itself (medium_of old))))
+    (played _ _ _ _ sees (token (state_of (medium_of old)) old (is_sound (medium_of old))) (comes_itself comes_after_itself)))
 
 -- ---- a start, good or refused, on a medium that was asked nothing yet
 

@@ -6,7 +6,7 @@ use Rattle.spec.specs.{Book.Book, declared.event.{Event.Event, Answer.Answer}}
 use Rattle.window.specs.Window.{Window, state_of, ComesAfter, CoversDevice, IsServed, AreOnDevice}
 use Rattle.window.specs.Window.{IsShown, is_in_sight}
 use Rattle.scsi_unit.specs.Background.{Work, Settle, IsSettled, is_dead, steps_left}
-use Rattle.scsi_unit.specs.StartFaults.{StartFault}
+use Rattle.scsi_unit.specs.{Calls.ComesBy, StartFaults.StartFault}
 use Rattle.bot_machine.specs.{Device.Device, Disk.{FitsDisk, IsStepBy, IsRearmed}, Opening.IsOpened}
 use Rattle.bot_machine.specs.Opening.{IsNotOpened, StartLeaves}
 use Rattle.disk_machine.specs.{Codes.{code_of, bytes_of}, Parts.CoversParts}
@@ -31,6 +31,8 @@ pub record PlaysBy (work : Work) (old : Disk) (event : Event) (answer : Answer) 
   pub step : IsStepBy work (state_of (medium_of old)) (state_of (medium_of new)) old event answer
       new
   pub follows : ComesAfter (medium_of old) (medium_of new)
+  -- each call that it made is one that the log may make, or a read,
+  pub comes : ComesBy state_of ComesAfter old.unit.store new.unit.store
   -- wherever in the outbox the device is, a cut of it leaves what a cut at some moment could,
   pub covers : CoversDevice (medium_of old) (medium_of new)
   -- whichever of the writes behind its last flush it has carried out

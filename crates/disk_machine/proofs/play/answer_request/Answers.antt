@@ -1,7 +1,7 @@
 use Rattle.std.proofs.Common.{◌≡◌, ◌∷◌, [], ◌++◌, List, ℕ, ◌<◌, length, drop, refl, sym, ap, ◌∙◌, arith, slice_set}
 use Rattle.std.proofs.lemmas.List.{append-nil, drop_all}
 use Rattle.spec.specs.declared.event.{Answer.{TheVariants.{Ack, Byte, Two, Stall}, Answer}, Event.Event}
-use Rattle.scsi_unit.specs.Background.{Work}
+use Rattle.scsi_unit.{specs.Background.Work, proofs.UnitRuns.comes_itself}
 use Rattle.bot_machine.specs.Disk.{IsStepBy}
 use Rattle.window.specs.{Window.state_of, WindowLaws.comes_after_itself}
 use Rattle.disk_machine.{specs.Plays.{Disk, medium_of, Foresees, PlaysBy}, proofs.Rooms.played}
@@ -18,7 +18,7 @@ whole bytes to long = sym (ap (λ (l : List ℕ). bytes ++ l) (drop_all (length 
 plays : {work : Work} → (old new : Disk) (event : Event) (answer : Answer) → Foresees (medium_of old)
     → IsStepBy work (state_of (medium_of old)) (state_of (medium_of new)) old event answer new → new ≡ record old { line = new.line }
     → PlaysBy work old event answer new
-plays old new event answer sees step others = played old event answer new sees step (rw others (comes_after_itself (medium_of old)))
+plays old new event answer sees step others = played old event answer new sees step (rw others (comes_itself comes_after_itself))
 
 pub returns-in-Ack : goal.returns-in-Ack
 returns-in-Ack c =
