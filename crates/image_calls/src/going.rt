@@ -4,7 +4,9 @@ ghost use Rattle.image_calls.specs.Formats.{MakesParts};
 use crate::part::next_part;
 use crate::work::Work;
 
-/// Makes what comes next, where nothing waits.
+/// Makes what comes next, where nothing waits. A sector lies on the stack here alone, and not
+/// below each call that is handed on.
+#[inline(never)]
 pub(crate) fn go_on(work: &mut Work)
     ensures { MakesParts work.old work.new }
 {
