@@ -19,5 +19,7 @@ pub mod Requests
 pub mod Exchange
 pub mod Conversation
 pub mod UnitConversation
+pub mod Lagging
 pub mod Lives
+pub mod Disks
 pub mod Promise

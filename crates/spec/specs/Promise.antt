@@ -1,16 +1,17 @@
 -- The promise. What an image of a medium stands for is handed in, and so is what a loss of power
--- may leave of a medium: the promise reads without the bytes of a format.
+-- may leave of a medium: the promise reads without the bytes of a format. The rules of the disk are
+-- handed in too: it is the same promise for a disk whose device is behind.
 use Rattle.std.specs.Prelude.{◌≡◌, ◌⊎◌, ℕ, ◌+◌, ◌≤◌, Bool, true, false, List, [], ◌∷◌, ◌++◌, length}
 use Rattle.std.specs.Prelude.{Option, Some, None}
 use Rattle.spec.specs.declared.event.Answer.{Answer}
 use Rattle.spec.specs.Blocks.{Array, Write}
 use Rattle.spec.specs.Book.{Book, after_first, with_write, opened}
 use Rattle.spec.specs.Conversation.{refused_events}
-use Rattle.spec.specs.Lives.{Presentation, Action, Place, before_first, between, runs, off}
-use Rattle.spec.specs.Lives.{Standing, Opens, LivesRun}
+use Rattle.spec.specs.Lives.{Presentation, DiskRules, Action, Place, before_first, between, runs}
+use Rattle.spec.specs.Lives.{off, Standing, Opens, LivesRun}
 
 -- before the first life, which opens with this book and has this limit
-abbrev pub first_standing : ℕ → Book → Standing
+abbrev pub first_standing : {rules : DiskRules} → ℕ → Book → Standing rules
 first_standing limit book = record { place = before_first book; armed = false; limit = limit }
 
 -- What an image is found to hold: this many logical blocks, with these bytes, and this next stamp.
@@ -37,10 +38,11 @@ module _ {Image : Type 0} (Holds : ℕ → Image → Array → ℕ → Type 0) w
   FoundWith book (Some write) image = Found book write image
 
   -- an image that a loss of power may leave of lives that stand here
-  abbrev pub FoundAt : Place → Image → Type 0
+  abbrev pub FoundAt : {rules : DiskRules} → Place rules → Image → Type 0
   FoundAt (before_first book) image = Holds book.blocks image book.opening book.stamp
   FoundAt (between remains) image = FoundWith remains.book remains.in_progress image
-  FoundAt (runs conversation) image = MayFind conversation.unit.book image
+  FoundAt {rules} (runs conversation) image =
+      FoundWith (rules.book conversation) (rules.write_now conversation) image
   FoundAt (off remains) image = FoundWith remains.book remains.in_progress image
 
 -- An image stands for blocks and a next stamp. It is ours where, besides, nothing that lies on it
@@ -55,13 +57,13 @@ module _ {Image : Type 0} (StandsFor IsOurs : ℕ → Image → Array → ℕ �
         → (blocks : ℕ) × (array : Array) × (next : ℕ) × IsOurs blocks image array next
 
 -- A limit is the most blocks of one READ or WRITE: an image tells it.
-module _ {Image : Type 0} (StandsFor IsOurs : ℕ → Image → Array → ℕ → Type 0)
+module _ (rules : DiskRules) {Image : Type 0} (StandsFor IsOurs : ℕ → Image → Array → ℕ → Type 0)
     (HasLimit : ℕ → Image → Type 0) where
   -- Lives by the rules, of which the first opens with this book and has this limit, and what a
   -- loss of power may leave after them.
   pub record AreKept (disk : Presentation) (limit : ℕ) (book : Book) (actions : List Action)
       (answers : List Answer) (refusals : List Bool) (Leaves : Image → Type 0) : Type 0 where
-    pub last : Standing
+    pub last : Standing rules
     pub run : LivesRun disk (first_standing limit book) actions answers refusals last
     pub limited : book.ours ≡ true → (image : Image) → Leaves image → HasLimit limit image
     pub found : book.ours ≡ true → (image : Image) → Leaves image → FoundAt IsOurs last.place image
@@ -85,7 +87,7 @@ module _ {Image : Type 0} (StandsFor IsOurs : ℕ → Image → Array → ℕ �
   -- and what a start after it may find.
   pub record AreKeptUpTo (disk : Presentation) (limit : ℕ) (book : Book) (actions : List Action)
       (answers : List Answer) (refusals : List Bool) (Leaves : Image → Type 0) : Type 0 where
-    pub last : Standing
+    pub last : Standing rules
     pub run : LivesRun disk (first_standing limit book) actions answers refusals last
     pub next : Book
     pub opens : Opens last.place next

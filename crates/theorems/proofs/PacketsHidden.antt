@@ -6,7 +6,7 @@ use Rattle.spec.specs.{Conversation.{Conversation, refused_events}, UnitConversa
 use Rattle.spec.specs.declared.event.Event.TheVariants as event
 use Rattle.spec.specs.declared.event.Answer.TheVariants as answer
 use Rattle.theorems.specs.Transfers.{packets_in}
-use Rattle.theorems.specs.Lagging.{Lagging, settled}
+use Rattle.spec.specs.Lagging.{Lagging, settled}
 use Rattle.theorems.specs.HiddenLag.{LagsAreHidden, UndroppedRun, Transaction, with_transaction, outs, ins, setups}
 
 -- with what is still pending in front

@@ -16,7 +16,8 @@ use Rattle.redo_log.specs.{Value.{LogValue, HasRoom}, Held.bytes_of, Steps.Begin
 use Rattle.recovery.{specs.{Calls.IsFormatted, Recovered.IsFresh}, proofs.JoinedCalls.zeros_fresh}
 use Rattle.theorems.specs.{Ordering.{Written, Opens}, Logging.{Logs, begun_of, waiting_of}, Striking.IsUntroubled}
 use Rattle.theorems.specs.Transfers.{Transfer, packet_out, events_of, heard_in}
-use Rattle.theorems.specs.{Lagging.settled, HiddenLag.UndroppedRun}
+use Rattle.spec.specs.Lagging.{settled}
+use Rattle.theorems.specs.HiddenLag.{UndroppedRun}
 use Rattle.theorems.specs.Witnesses.{opening_of, OpeningWitness, LogWitness, ConversationWitness}
 use Rattle.theorems.proofs.{LoggedSteps.many, Making.{step_on, turned}, Packets.packets_of-none}
 

@@ -9,27 +9,9 @@ use Rattle.spec.specs.Blocks.{Write}
 use Rattle.spec.specs.Conversation.{Conversation, refused_events}
 use Rattle.spec.specs.UnitConversation.{Intends, UnitRun, write_of_packet}
 use Rattle.theorems.specs.Transfers.{packets_in}
-use Rattle.theorems.specs.Lagging.{Lagging, settled, LagRun}
+use Rattle.spec.specs.Lagging.{Lagging, settled, LagRun}
 
--- the write of the command whose last bytes a packet has
-abbrev pub write_of_pending : Conversation UnitState → List ℕ → Option Write
-write_of_pending s packet =
-    write_of_packet s.line.packet_size s.line.out_halted s.line.left packet s.unit
-
--- What a class reset leaves of the unit: its write is the last one accepted, whole, or is not
--- accepted. It is not promised, and nothing else changes.
-abbrev pub Drops : Conversation UnitState → List ℕ → UnitState → Type 0
-Drops old packet new =
-    (new ≡ old.unit)
-    ⊎ (new ≡ record old.unit { book = with_progress old.unit.book (write_of_pending old packet) })
-
--- events by the rules of the unit, where its device is behind
-abbrev pub UnitLagRun : Lagging UnitState → List Event → List Answer → List Bool
-    → Lagging UnitState → Type 0
-UnitLagRun old events answers refusals new =
-    LagRun Intends CarriesOut Ticks Drops old events answers refusals new
-
--- the same, where no class reset comes while a packet is pending
+-- events by the rules of the unit, in which no class reset comes while a packet is pending
 abbrev pub DropsNone : Conversation UnitState → List ℕ → UnitState → Type 0
 DropsNone old packet new = ⊥
 

@@ -9,6 +9,5 @@ pub mod Room
 pub mod Steady
 pub mod Striking
 pub mod Transfers
-pub mod Lagging
 pub mod HiddenLag
 pub mod Witnesses

@@ -18,7 +18,8 @@ use Rattle.theorems.specs.Logging.{Logs, TakesRecord, GoesOn, begun_of}
 use Rattle.theorems.specs.{Making.{Steps, MakesCalls}, Room.{HasSlots, MayWrite}}
 use Rattle.theorems.specs.Striking.{IsUntroubled}
 use Rattle.theorems.specs.Transfers.{Transfer, Heard, IsTransferred, packet_out}
-use Rattle.theorems.specs.{Lagging.{settled, AcknowledgesAny}, HiddenLag.{UndroppedRun, UnitLagRun}}
+use Rattle.spec.specs.Lagging.{settled, AcknowledgesAny, UnitLagRun}
+use Rattle.theorems.specs.HiddenLag.{UndroppedRun}
 
 -- a log of which nothing is written yet, over this array
 abbrev pub opening_of : Shape → Array → ℕ → Written

@@ -10,6 +10,9 @@ use Rattle.spec.specs.declared.event.Answer.TheVariants.{Ack, Nak, Ticked}
 use Rattle.spec.specs.Requests.{setup_packet, mass_storage_reset}
 use Rattle.spec.specs.Exchange.{Script, finished, taking, sending, after_request}
 use Rattle.spec.specs.Conversation.{Conversation, Step, OutStep}
+use Rattle.spec.specs.Blocks.{Write}
+use Rattle.spec.specs.Rules.{UnitState, CarriesOut, Ticks, with_progress}
+use Rattle.spec.specs.UnitConversation.{Intends, write_of_packet}
 use Rattle.spec.specs.declared.event.Event.TheVariants as event
 
 -- a conversation, and the packet to Bulk-Out that was acknowledged and has still to be acted on
@@ -92,3 +95,26 @@ module _ {S F : Type 0} (Intends : S → List ℕ → Way → Type 0)
       (mid : Lagging S) × LagStep Intends CarriesOut Ticks Drops refused old happens answer mid
       × LagRun mid events answers refusals new
   LagRun _ _ _ _ _ = ⊥
+
+-- the write of the command whose last bytes a packet has
+abbrev pub write_of_pending : Conversation UnitState → List ℕ → Option Write
+write_of_pending s packet =
+    write_of_packet s.line.packet_size s.line.out_halted s.line.left packet s.unit
+
+-- What a class reset leaves of the unit: its write is the last one accepted, whole, or is not
+-- accepted. It is not promised, and nothing else changes.
+abbrev pub Drops : Conversation UnitState → List ℕ → UnitState → Type 0
+Drops old packet new =
+    (new ≡ old.unit)
+    ⊎ (new ≡ record old.unit { book = with_progress old.unit.book (write_of_pending old packet) })
+
+-- one event by the rules of the unit, where its device is behind
+abbrev pub UnitLagStep : Bool → Lagging UnitState → Event → Answer → Lagging UnitState → Type 0
+UnitLagStep refused old happens answer new =
+    LagStep Intends CarriesOut Ticks Drops refused old happens answer new
+
+-- events by the rules of the unit, where its device is behind
+abbrev pub UnitLagRun : Lagging UnitState → List Event → List Answer → List Bool
+    → Lagging UnitState → Type 0
+UnitLagRun old events answers refusals new =
+    LagRun Intends CarriesOut Ticks Drops old events answers refusals new
