@@ -12,11 +12,12 @@ use Rattle.scsi_unit.specs.{Starting.StandsForOpening, Books.{MayFind, FoundWith
 use Rattle.spec.specs.{Book.Book, declared.event.Event.Event, declared.event.Answer.Answer, declared.event.Answer.TheVariants.Off}
 use Rattle.spec.specs.{Conversation.Conversation, UnitConversation.{write_of_event, UnitStep}, Rules.UnitState, Lives.{Action, plays, cuts}}
 use Rattle.spec.specs.{Lives.{arms, fails, Remains, Place, before_first, runs, off, Standing, after_cut, LivesStep, LivesRun}, Blocks.Array}
+use Rattle.spec.specs.Disks.{prompt_disk}
 use Rattle.bot_machine.proofs.{UnitLaws.limit_between_calls, Runs.one_counted}
 use Rattle.bot_machine.proofs.Moved.{one_move, none_refused, some_refused, caused_once, one_fuse_more}
 
 -- one action is a run
-pub one_run : (device : Device) (refused : Bool) (old new : Standing) (action : Action) (answers : List Answer)
+pub one_run : (device : Device) (refused : Bool) (old new : Standing prompt_disk) (action : Action) (answers : List Answer)
     → LivesStep (presented device) refused old action answers new → LivesRun (presented device) old (action ∷ []) answers (refused ∷ []) new
 one_run device refused old new action answers step = (new, answers, [], sym (append-nil answers), step, (refl, refl))
 
@@ -29,7 +30,7 @@ pub on_before : (before after : Sim) → ComesAfter before after → after.power
 on_before before after follows on = let gone = (keeps_power before after follows).off_stays in grind (arith, gone)
 
 -- power goes only where a fuse was armed
-pub armed_then : (here : Standing) (before after : Sim) → ComesAfter before after → (here.armed ≡ false → before.power.fuse ≡ None)
+pub armed_then : (here : Standing prompt_disk) (before after : Sim) → ComesAfter before after → (here.armed ≡ false → before.power.fuse ≡ None)
     → before.power.off ≡ false → after.power.off ≡ true → here.armed ≡ true
 armed_then here before after follows unfused on is_off =
     let fused = ((keeps_power before after follows).goes_off on is_off).0 in grind (arith, fused, unfused)
@@ -40,12 +41,12 @@ module _ (device : Device) where
   lives_at state = record { device = device; state = state }
 
   -- one action in which the medium refused no call: lives stand there afterwards
-  pub goes_quietly : (action : Action) (answers : List Answer) (old new : DiskState) (there : Standing → Standing)
+  pub goes_quietly : (action : Action) (answers : List Answer) (old new : DiskState) (there : Standing prompt_disk → Standing prompt_disk)
       → Does device old action answers new → (state_in new).failures ≡ (state_in old).failures
       → AreCaused (medium_in old) (action ∷ []) (false ∷ []) (medium_in new) → (state_in new).size ≡ (state_in old).size
-      → ((here : Standing) → FitsLives (lives_at old) here → LivesStep (presented device) false here action answers (there here)
+      → ((here : Standing prompt_disk) → FitsLives (lives_at old) here → LivesStep (presented device) false here action answers (there here)
       × FitsLives (lives_at new) (there here))
-      → ((here : Standing) → ((book_at (there here).place).ours ≡ (book_at here.place).ours) × ((there here).limit ≡ here.limit))
+      → ((here : Standing prompt_disk) → ((book_at (there here).place).ours ≡ (book_at here.place).ours) × ((there here).limit ≡ here.limit))
       → LivesGoOn (lives_at old) (action ∷ []) answers (lives_at new)
   goes_quietly action answers old new there does same caused size goes stays = record {
     refusals = false ∷ [];
@@ -65,7 +66,7 @@ module _ (device : Device) where
 
   -- nothing happens to a disk, or to a medium without one
   pub stays : (state : DiskState) (action : Action) (answers : List Answer) → Does device state action answers state
-      → ((here : Standing) → FitsLives (lives_at state) here → LivesStep (presented device) false here action answers here)
+      → ((here : Standing prompt_disk) → FitsLives (lives_at state) here → LivesStep (presented device) false here action answers here)
       → LivesGoOn (lives_at state) (action ∷ []) answers (lives_at state)
   stays state action answers does step =
       goes_quietly action answers state state (λ here. here) does refl (omega arith) refl (λ here fits. (step here fits, fits))
@@ -74,7 +75,7 @@ module _ (device : Device) where
   -- one action in which the medium was called, while the power was on before it
   pub called_once : (action : Action) (answers : List Answer) (old new : DiskState) → Does device old action answers new
       → ComesAfter (medium_in old) (medium_in new) → (medium_in old).power.off ≡ false → (state_in new).size ≡ (state_in old).size
-      → ((here : Standing) → FitsLives (lives_at old) here
+      → ((here : Standing prompt_disk) → FitsLives (lives_at old) here
       → LivesGoTo (lives_at new) here (action ∷ []) answers (has_refused (state_in old) (state_in new) ∷ []))
       → LivesGoOn (lives_at old) (action ∷ []) answers (lives_at new)
   called_once action answers old new does follows on size goes = record {
@@ -111,7 +112,7 @@ module _ (device : Device) where
         (state_of new).content allowed in
         rw (size, same) h
 
-    cut_place : (place : Place) → IsAt place state → IsAt (after_cut place) (Stopped new)
+    cut_place : (place : Place prompt_disk) → IsAt place state → IsAt (after_cut place) (Stopped new)
     cut_place (before_first book) is =
         let first = first_at state book is in (
           record { on = ap (λ (p : Power). p.off) cut.power_on; flushed = cut.none },
@@ -124,17 +125,17 @@ module _ (device : Device) where
         )
     cut_place place is = record { on = ap (λ (p : Power). p.off) cut.power_on; flushed = cut.none }
 
-    cut_found : (place : Place) → ((book_at place).ours ≡ true → EachCut (FoundAt (state_in state).size place) (state_in state))
+    cut_found : (place : Place prompt_disk) → ((book_at place).ours ≡ true → EachCut (FoundAt (state_in state).size place) (state_in state))
         → (book_at (after_cut place)).ours ≡ true → EachCut (FoundAt (state_of new).size (after_cut place)) (state_of new)
     cut_found (runs conversation) h ours = left_before (λ n. MayFind n conversation.unit.book) (h ours)
     cut_found place h ours = left_before (λ n. FoundAt n place) (h ours)
 
-    cut_limit_at : (place : Place) (limit : ℕ) → IsAt place state → LimitAt place limit state
+    cut_limit_at : (place : Place prompt_disk) (limit : ℕ) → IsAt place state → LimitAt place limit state
         → LimitAt (after_cut place) limit (Stopped new)
     cut_limit_at (before_first book) limit is h = content_has (λ n. HasLimit n limit) (first_at state book is).0 h
     cut_limit_at place limit is h = tt
 
-    book_after_cut : (place : Place) → (book_at (after_cut place)).ours ≡ (book_at place).ours
+    book_after_cut : (place : Place prompt_disk) → (book_at (after_cut place)).ours ≡ (book_at place).ours
     book_after_cut place = grind arith
 
     pub is_cut : LivesGoOn (lives_at state) (cuts keep ∷ []) [] (lives_at (Stopped new))
@@ -191,13 +192,13 @@ module _ (device : Device) where
         subst (λ (n : ℕ). EachCut (HasLimit after.size n) after) (sym is) (limit_between_calls after new.unit later fits ours)
 
     module _ (still : new.unit.store.medium.power.off ≡ false) where
-      ends_at : (place : Place) (armed : Bool) (limit : ℕ)
+      ends_at : (place : Place prompt_disk) (armed : Bool) (limit : ℕ)
           → FitsLives (lives_at (Running old)) (record { place = place; armed = armed; limit = limit })
           → LivesGoTo (lives_at (Running new)) (record { place = place; armed = armed; limit = limit }) (plays event ∷ []) (answer ∷ [])
           (grew ∷ [])
       ends_at (runs conversation) armed limit fits =
           let p = step.proceeds conversation.unit.book fits.is_at.fits in
-          let there : Standing = record { place = runs (over new p.later); armed = armed; limit = limit } in
+          let there : Standing prompt_disk = record { place = runs (over new p.later); armed = armed; limit = limit } in
           let same : limit ≡ unit_limit new.unit = same_limit conversation limit fits.is_at.says fits.limit_at in
           let moves : UnitStep grew conversation event answer (over new p.later) =
           subst (λ (x : Conversation UnitState). UnitStep grew x event answer (over new p.later)) (sym fits.is_at.says) p.moves in
@@ -225,7 +226,7 @@ module _ (device : Device) where
           (λ here fits. ends_at here.place here.armed here.limit fits)
 
     module _ (is_off : new.unit.store.medium.power.off ≡ true) where
-      cut_at : (place : Place) (armed : Bool) (limit : ℕ)
+      cut_at : (place : Place prompt_disk) (armed : Bool) (limit : ℕ)
           → FitsLives (lives_at (Running old)) (record { place = place; armed = armed; limit = limit })
           → LivesGoTo (lives_at (Running new)) (record { place = place; armed = armed; limit = limit }) (plays event ∷ []) (Off ∷ [])
           (grew ∷ [])
@@ -233,8 +234,8 @@ module _ (device : Device) where
           let book = conversation.unit.book in
           let p = step.proceeds book fits.is_at.fits in
           let remains : Remains = record { book = book; in_progress = write_of_event conversation event } in
-          let here : Standing = record { place = runs conversation; armed = armed; limit = limit } in
-          let there : Standing = record { place = off remains; armed = armed; limit = limit } in
+          let here : Standing prompt_disk = record { place = runs conversation; armed = armed; limit = limit } in
+          let there : Standing prompt_disk = record { place = off remains; armed = armed; limit = limit } in
           record {
             there = there;
             run = one_run device grew here there (plays event) (Off ∷ []) (
@@ -299,13 +300,13 @@ module _ (device : Device) where
   on_medium m disk = record disk { unit = record disk.unit { store = record disk.unit.store { medium = m } } }
 
   -- whatever is armed, lives stand where they stood
-  module _ (state new : DiskState) (same : state_in new ≡ state_in state) (at : (place : Place) → IsAt place state → IsAt place new) where
-    limit_still : (place : Place) (limit : ℕ) → LimitAt place limit state → LimitAt place limit new
+  module _ (state new : DiskState) (same : state_in new ≡ state_in state) (at : (place : Place prompt_disk) → IsAt place state → IsAt place new) where
+    limit_still : (place : Place prompt_disk) (limit : ℕ) → LimitAt place limit state → LimitAt place limit new
     limit_still place limit h = grind (arith, same)
 
     arms_so : (action : Action) (set : Bool → Bool) → AreCaused (medium_in state) (action ∷ []) (false ∷ []) (medium_in new)
         → Does device state action [] new
-        → ((here : Standing) → LivesStep (presented device) false here action [] (record here { armed = set here.armed }))
+        → ((here : Standing prompt_disk) → LivesStep (presented device) false here action [] (record here { armed = set here.armed }))
         → ((is : Bool) → (is ≡ false → (medium_in state).power.fuse ≡ None) → set is ≡ false → (medium_in new).power.fuse ≡ None)
         → LivesGoOn (lives_at state) (action ∷ []) [] (lives_at new)
     arms_so action set caused does step unfused =
@@ -328,10 +329,10 @@ module _ (device : Device) where
     arms_fuse writes caused does =
         arms_so (arms writes) (λ is. true) caused does (λ here. (refl, refl)) (λ is unfused e. absurd (false≢true (sym e)))
 
-  armed_at_rest : (fuse fail : Option ℕ) (m : Sim) (place : Place) → IsAt place (Stopped m) → IsAt place (Stopped (armed fuse fail m))
+  armed_at_rest : (fuse fail : Option ℕ) (m : Sim) (place : Place prompt_disk) → IsAt place (Stopped m) → IsAt place (Stopped (armed fuse fail m))
   armed_at_rest fuse fail m place h = grind arith
 
-  armed_running : (fuse fail : Option ℕ) (disk : DiskValue Sim) (place : Place) → IsAt place (Running disk)
+  armed_running : (fuse fail : Option ℕ) (disk : DiskValue Sim) (place : Place prompt_disk) → IsAt place (Running disk)
       → IsAt place (Running (on_medium (armed fuse fail disk.unit.store.medium) disk))
   armed_running fuse fail disk place h = grind arith
 

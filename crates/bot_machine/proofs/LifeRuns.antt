@@ -9,7 +9,7 @@ use Rattle.bot_machine.specs.LivesValue.{state_in, FitsLives, LivesGoTo, LivesGo
 use Rattle.bot_machine.specs.{LivesValue.{HasLimit, RestsAlone}, declared.lives.life.Life.Life, Opening.IsNotOpened}
 use Rattle.scsi_unit.specs.{StartFaults.StartFault, Books.StandsAs, Starting.StandsForSome}
 use Rattle.spec.specs.{Book.Book, declared.event.Answer.Answer, Conversation.refused_events, Lives.{Action, starts, Standing, LivesRun}}
-use Rattle.spec.specs.Promise.{first_standing, AreKept, AreKeptUpTo}
+use Rattle.spec.specs.{Disks.prompt_disk, Promise.{first_standing, AreKept, AreKeptUpTo}}
 use Rattle.bot_machine.proofs.{Runs.{refused_events-append, counted}, Moved.{MovesBy-append, caused_through, few_causes}}
 use Rattle.bot_machine.proofs.LifeStarts.{first_found, first_limited}
 use Rattle.std.specs.Prelude.{Option, Some, MatchOption}
@@ -17,7 +17,7 @@ use Rattle.medium.specs.{Medium.{State, Image, CutLeaves}, Sim.{Sim, state_of, I
 
 -- one run after another
 pub LivesRun-append : (device : Device) (xs ys : List Action) (told more : List Answer)
-    (refusals others : List Bool) (a b c : Standing) → LivesRun (presented device) a xs told refusals b
+    (refusals others : List Bool) (a b c : Standing prompt_disk) → LivesRun (presented device) a xs told refusals b
     → LivesRun (presented device) b ys more others c → LivesRun (presented device) a (xs ++ ys) (told ++ more) (refusals ++ others) c
 LivesRun-append device [] ys told more [] others a b c r s = rw (r.0, ← r.1) s
 LivesRun-append device (x ∷ xs) ys told more (refused ∷ refusals) others a b c r s = (
@@ -63,7 +63,7 @@ module _ (a b c : LivesValue) (xs ys : List Action) (told more : List Answer) (f
     device_stays = next.device_stays ∙ first.device_stays;
   }
     where
-      goes : (here : Standing) → FitsLives a here → LivesGoTo c here (xs ++ ys) (told ++ more) (first.refusals ++ next.refusals)
+      goes : (here : Standing prompt_disk) → FitsLives a here → LivesGoTo c here (xs ++ ys) (told ++ more) (first.refusals ++ next.refusals)
       goes here fits =
           let mid = first.goes here fits in
           let last = next.goes mid.there mid.fits in
@@ -105,7 +105,7 @@ module _ (a b c : LivesValue) (xs ys : List Action) (told more : List Answer) (f
           ≤ refused_events next.refusals + (state_in b.state).failures
       less = let h = first.refused in omega (arith, refused_events-append first.refusals next.refusals, h)
 
-      goes : (here : Standing) → FitsLives a here → LivesStopAt c here (xs ++ ys) answers (first.refusals ++ next.refusals)
+      goes : (here : Standing prompt_disk) → FitsLives a here → LivesStopAt c here (xs ++ ys) answers (first.refusals ++ next.refusals)
           (refused_events (first.refusals ++ next.refusals) + (state_in a.state).failures) fault
       goes here fits =
           let mid = first.goes here fits in
@@ -239,10 +239,10 @@ module _ (m : Sim) (device : Device) (rest : IsAtRest m) (unfused : m.power.fuse
       Leaves = CutLeaves (state_of (medium_in after.state)).may_leave
 
       kept : (limit : ℕ) (book : Book) → OpensOn (state_of m) book → HasLimit size limit (state_of m).content
-          → AreKept (StandsForSome size) (StandsAs size) (HasLimit size) (presented device) limit book (actions_of_all lives) told
+          → AreKept prompt_disk (StandsForSome size) (StandsAs size) (HasLimit size) (presented device) limit book (actions_of_all lives) told
           on.refusals Leaves
       kept limit book opens has =
-          let here : Standing = first_standing limit book in
+          let here : Standing prompt_disk = first_standing limit book in
           let g = on.goes here (first_fits m device limit book rest unfused opens has) in
           record {
             last = g.there;
@@ -277,7 +277,7 @@ module _ (m : Sim) (device : Device) (rest : IsAtRest m) (unfused : m.power.fuse
   at_stop limit book opens has = stop.goes (first_standing limit book) (first_fits m device limit book rest unfused opens has)
 
   kept_up_to : (limit : ℕ) (book : Book) → OpensOn (state_of m) book → HasLimit (state_of m).size limit (state_of m).content
-      → AreKeptUpTo (StandsForSome (state_of m).size) (StandsAs (state_of m).size) (HasLimit (state_of m).size) (presented device) limit
+      → AreKeptUpTo prompt_disk (StandsForSome (state_of m).size) (StandsAs (state_of m).size) (HasLimit (state_of m).size) (presented device) limit
       book actions told stop.refusals (CutLeaves (state_of (medium_in after.state)).may_leave)
   kept_up_to limit book opens has =
       let g = at_stop limit book opens has in

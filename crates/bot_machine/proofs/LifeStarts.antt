@@ -3,7 +3,7 @@ use Rattle.std.proofs.Common.{◌≡◌, ◌≤◌, ◌⊎◌, ℕ, Bool, true, 
 use Rattle.std.proofs.{Common.{◌∷◌, subst}, lemmas.Bool.{false≢true, cases_Bool}}
 use Rattle.spec.specs.{Blocks.{Write, Array}, Book.{Book, after_first, opened, with_write}, Rules.{with_progress, UnitState}, Lives.Remains}
 use Rattle.spec.specs.Lives.{Place, before_first, between, runs, off, Standing, Presentation, IsLeft, Opens, KeepsLimit, LifeBegins}
-use Rattle.spec.specs.{Lives.{StartsAt, starts, started}, Exchange.{Line, at_rest}, UnitConversation.on_line}
+use Rattle.spec.specs.{Lives.{StartsAt, starts}, Disks.{prompt_disk, started}, Exchange.{Line, at_rest}, UnitConversation.on_line}
 use Rattle.medium.specs.{Medium.{State, Image}, Moments.EachCut, Sim.{Sim, state_of, ComesAfter}, SimLaws.is_sound}
 use Rattle.medium.proofs.{Moments.{only_image, content_has, at_exit}, KeptBlocks.none_flushed, SimCalls.keeps_power}
 use Rattle.scsi_unit.specs.{Books.{StandsAs, MayFind, FoundWith}, Starting.{IsOursForSome, OpensOn, blocks_of, Stands, IsCauseFor}}
@@ -85,13 +85,13 @@ next_limit m limit other leaves has =
     (content_has (HasLimit (state_of m).size limit) (state_of m) (is_sound m) leaves)
 
 -- A book with which a life may open here: the contents stand for it, or not every image was ours, and it is opened with these.
-pub record WouldOpen (m : State) (place : Place) (blocks : ℕ) (array : Array) (stamp : ℕ) : Type 0 where
+pub record WouldOpen (m : State) (place : Place prompt_disk) (blocks : ℕ) (array : Array) (stamp : ℕ) : Type 0 where
   pub book : Book
   pub opens : Opens place book
   pub ours : book.ours ≡ (book_at place).ours
   pub stands : OpensOn m book ⊎ (book ≡ opened blocks array stamp false)
 
-pub stands_ours : {m : State} {place : Place} {blocks stamp : ℕ} {array : Array} (w : WouldOpen m place blocks array stamp)
+pub stands_ours : {m : State} {place : Place prompt_disk} {blocks stamp : ℕ} {array : Array} (w : WouldOpen m place blocks array stamp)
     → w.book.ours ≡ true → OpensOn m w.book
 stands_ours w ours = ⊎_elim (λ on. on) (λ is. absurd (false≢true (sym (ap (λ (b : Book). b.ours) is) ∙ ours))) w.stands
 
@@ -130,17 +130,17 @@ fits_opened before after device disk h book stands =
 -- ---- wherever lives stand while no disk runs and the power is on
 
 module _ (m : Sim) (on : m.power.off ≡ false) where
-  pub flushed_at : (place : Place) → IsAt place (Stopped m) → m.unflushed ≡ []
+  pub flushed_at : (place : Place prompt_disk) → IsAt place (Stopped m) → m.unflushed ≡ []
   flushed_at place is = grind arith
 
-  pub starts_at : (disk : Presentation) (refused : Bool) (place : Place) (old new : Standing) → IsAt place (Stopped m)
+  pub starts_at : (disk : Presentation) (refused : Bool) (place : Place prompt_disk) (old new : Standing prompt_disk) → IsAt place (Stopped m)
       → LifeBegins disk refused old new → StartsAt place disk refused old new
   starts_at disk refused place old new is life = grind arith
 
-  pub keeps_same : (place : Place) (limit : ℕ) → IsAt place (Stopped m) → KeepsLimit place limit limit
+  pub keeps_same : (place : Place prompt_disk) (limit : ℕ) → IsAt place (Stopped m) → KeepsLimit place limit limit
   keeps_same place limit is = grind arith
 
-  pub keeps_limit : (place : Place) (limit other : ℕ) → IsAt place (Stopped m) → LimitAt place limit (Stopped m)
+  pub keeps_limit : (place : Place prompt_disk) (limit other : ℕ) → IsAt place (Stopped m) → LimitAt place limit (Stopped m)
       → ((book_at place).ours ≡ true → LeavesLimit limit (Stopped m)) → HasLimit (state_of m).size other (state_of m).content
       → KeepsLimit place limit other × ((book_at place).ours ≡ true → other ≡ limit)
   keeps_limit (before_first book) limit other is at leaves has =
@@ -149,7 +149,7 @@ module _ (m : Sim) (on : m.power.off ≡ false) where
       let one : remains.book.ours ≡ true → other ≡ limit = λ ours. next_limit m limit other (leaves ours) has in (one, one)
   keeps_limit place limit other is at leaves has = grind arith
 
-  pub would_open : (blocks : ℕ) (array : Array) (stamp : ℕ) (place : Place) → IsAt place (Stopped m)
+  pub would_open : (blocks : ℕ) (array : Array) (stamp : ℕ) (place : Place prompt_disk) → IsAt place (Stopped m)
       → ((book_at place).ours ≡ true → EachCut (FoundAt (state_of m).size place) (state_of m))
       → WouldOpen (state_of m) place blocks array stamp
   would_open blocks array stamp (before_first book) is found = record { book = book; opens = refl; ours = refl; stands = inl is.1 }
@@ -177,8 +177,8 @@ counted before after book fault h = grind arith
 -- ---- where lives stand after a start
 
 -- a life has begun
-record LifeBegun (device : Device) (refused : Bool) (here : Standing) (new : DiskState) : Type 0 where
-  there : Standing
+record LifeBegun (device : Device) (refused : Bool) (here : Standing prompt_disk) (new : DiskState) : Type 0 where
+  there : Standing prompt_disk
   life : LifeBegins (presented device) refused here there
   fits : FitsLives (lives_at device new) there
   ours : (book_at there.place).ours ≡ (book_at here.place).ours
@@ -186,7 +186,7 @@ record LifeBegun (device : Device) (refused : Bool) (here : Standing) (new : Dis
 
 module _ (device : Device) (m : Sim) (on : m.power.off ≡ false) where
   -- where a life has begun, lives go there
-  goes_to : (new : DiskState) (refused : Bool) (here : Standing) → FitsLives (lives_at device (Stopped m)) here
+  goes_to : (new : DiskState) (refused : Bool) (here : Standing prompt_disk) → FitsLives (lives_at device (Stopped m)) here
       → LifeBegun device refused here new → LivesGoTo (lives_at device new) here (starts ∷ []) [] (refused ∷ [])
   goes_to new refused here fits b = record {
     there = b.there;
@@ -198,7 +198,7 @@ module _ (device : Device) (m : Sim) (on : m.power.off ≡ false) where
   }
 
   -- power goes in a start
-  power_went : (new : DiskState) → ComesAfter m (medium_in new) → (medium_in new).power.off ≡ true → (here : Standing)
+  power_went : (new : DiskState) → ComesAfter m (medium_in new) → (medium_in new).power.off ≡ true → (here : Standing prompt_disk)
       → (here.armed ≡ false → m.power.fuse ≡ None) → (book : Book) (limit : ℕ) → Opens here.place book
       → book.ours ≡ (book_at here.place).ours → KeepsLimit here.place here.limit limit
       → (book.ours ≡ true → LeavesLimit here.limit new) → (book.ours ≡ true → EachCut (MayFind (state_in new).size book) (state_in new))
@@ -236,7 +236,7 @@ module _ (device : Device) (m : Sim) (on : m.power.off ≡ false) where
     abbrev new : Sim
     new = disk.unit.store.medium
 
-    begun : (here : Standing) → FitsLives (lives_at device (Stopped m)) here
+    begun : (here : Standing prompt_disk) → FitsLives (lives_at device (Stopped m)) here
         → LifeBegun device (has_refused (state_of m) (state_of new)) here (Running disk)
     begun here fits =
         let w = would_open m on (blocks_of disk.unit.store.cached) is_opened.store.array is_opened.store.next here.place fits.is_at
@@ -277,7 +277,7 @@ module _ (device : Device) (m : Sim) (on : m.power.off ≡ false) where
   -- ---- the start has no disk
 
   module _ (after : Sim) (leaves : StartLeaves (state_of m) (state_of after)) (follows : ComesAfter m after) where
-    would : (here : Standing) → FitsLives (lives_at device (Stopped m)) here
+    would : (here : Standing prompt_disk) → FitsLives (lives_at device (Stopped m)) here
         → WouldOpen (state_of m) here.place (book_at here.place).blocks (book_at here.place).opening (book_at here.place).stamp
     would here fits =
         let book = book_at here.place in would_open m on book.blocks book.opening book.stamp here.place fits.is_at fits.found

@@ -6,7 +6,7 @@ use Rattle.scsi_unit.specs.{StartFaults.StartFault, Books.StandsAs, Serving.has_
 use Rattle.scsi_unit.specs.Starting.{StandsForSome}
 use Rattle.spec.specs.{Book.Book, declared.event.Event.Event, declared.event.Answer.Answer}
 use Rattle.spec.specs.{Conversation.refused_events, Lives.{Action, arms, starts, plays, cuts}}
-use Rattle.spec.specs.Promise.{first_standing, IsKept, IsKeptUpTo}
+use Rattle.spec.specs.{Disks.prompt_disk, Promise.{first_standing, IsKept, IsKeptUpTo}}
 use Rattle.bot_machine.specs.{declared.lives.life.Life.Life, Answers.Room}
 use Rattle.bot_machine.specs.{Device.{presented, Device}, Opening.IsNotOpened}
 use Rattle.bot_machine.specs.declared.lives.disk_state.DiskState.TheVariants.{Stopped}
@@ -62,7 +62,7 @@ causes_in before actions after =
 abbrev pub KeepsPromise : Sim → Device → List Action → List Answer → Sim → Type 0
 KeepsPromise before device actions told after =
     let size : ℕ = (state_of before).size in
-    IsKept (StandsForSome size) (StandsAs size) (HasLimit size) (presented device)
+    IsKept prompt_disk (StandsForSome size) (StandsAs size) (HasLimit size) (presented device)
     (state_of before).content (CutLeaves (state_of before).may_leave) (state_of before).failures
     (state_of after).failures (causes_in before actions after) actions told
     (CutLeaves (state_of after).may_leave)
@@ -71,7 +71,7 @@ KeepsPromise before device actions told after =
 abbrev pub KeepsPromiseUpTo : Sim → Device → List Action → List Answer → Sim → Type 0
 KeepsPromiseUpTo before device actions told after =
     let size : ℕ = (state_of before).size in
-    IsKeptUpTo (StandsForSome size) (StandsAs size) (HasLimit size) (presented device)
+    IsKeptUpTo prompt_disk (StandsForSome size) (StandsAs size) (HasLimit size) (presented device)
     (state_of before).content (CutLeaves (state_of before).may_leave) (state_of before).failures
     (state_of after).failures (causes_in before actions after) actions told
     (CutLeaves (state_of after).may_leave)

@@ -20,7 +20,7 @@ use Rattle.spec.specs.{Book.Book, Rules.UnitState, declared.event.Event.Event}
 use Rattle.spec.specs.{declared.event.Answer.Answer, declared.event.Answer.TheVariants.Off}
 use Rattle.spec.specs.{Conversation.{Conversation, refused_events}, Lives.{Action, Place}}
 use Rattle.spec.specs.Lives.{before_first, between, runs, off, Standing, Opens, arms, fails, starts}
-use Rattle.spec.specs.Lives.{plays, LivesRun}
+use Rattle.spec.specs.{Lives.{plays, LivesRun}, Disks.prompt_disk}
 use Rattle.spec.specs.Promise as promise
 
 -- what is seen of lives: what disk it is, and its medium, with the disk where one runs
@@ -82,7 +82,7 @@ pub record Converses (disk : DiskValue Sim) (conversation : Conversation UnitSta
   pub fits : FitsDisk (state_of disk.unit.store.medium) disk conversation.unit.book
 
 -- a disk, or a medium without one, at a place of lives
-abbrev pub IsAt : Place → DiskState → Type 0
+abbrev pub IsAt : Place prompt_disk → DiskState → Type 0
 IsAt (before_first book) (Stopped medium) = IsAtRest medium × OpensOn (state_of medium) book
 IsAt (before_first book) (Running disk) = ⊥
 IsAt (between remains) (Stopped medium) = IsAtRest medium
@@ -92,19 +92,19 @@ IsAt (runs conversation) (Running disk) = Converses disk conversation
 IsAt (off remains) state = (medium_in state).power.off ≡ true
 
 -- the book of a place
-abbrev pub book_at : Place → Book
+abbrev pub book_at : Place prompt_disk → Book
 book_at (before_first book) = book
 book_at (between remains) = remains.book
 book_at (runs conversation) = conversation.unit.book
 book_at (off remains) = remains.book
 
 -- an image that a cut may leave of lives that stand here
-abbrev pub FoundAt : ℕ → Place → Image → Type 0
+abbrev pub FoundAt : ℕ → Place prompt_disk → Image → Type 0
 FoundAt size place image = promise.FoundAt (StandsAs size) place image
 
 -- the limit of lives that stand here: the contents have it when the first begins, and a disk that
 -- runs
-abbrev pub LimitAt : Place → ℕ → DiskState → Type 0
+abbrev pub LimitAt : Place prompt_disk → ℕ → DiskState → Type 0
 LimitAt (before_first book) limit state =
     HasLimit (state_in state).size limit (state_in state).content
 LimitAt (between remains) limit state = ⊤
@@ -116,7 +116,7 @@ abbrev pub LeavesLimit : ℕ → DiskState → Type 0
 LeavesLimit limit state = EachCut (HasLimit (state_in state).size limit) (state_in state)
 
 -- lives stand here
-pub record FitsLives (lives : LivesValue) (here : Standing) : Type 0 where
+pub record FitsLives (lives : LivesValue) (here : Standing prompt_disk) : Type 0 where
   pub is_at : IsAt here.place lives.state
   pub limit_at : LimitAt here.place here.limit lives.state
   pub limited : (book_at here.place).ours ≡ true → LeavesLimit here.limit lives.state
@@ -125,9 +125,9 @@ pub record FitsLives (lives : LivesValue) (here : Standing) : Type 0 where
   pub unfused : here.armed ≡ false → (medium_in lives.state).power.fuse ≡ None
 
 -- from one standing, by actions and their answers, to one where these lives stand
-pub record LivesGoTo (after : LivesValue) (here : Standing) (actions : List Action)
+pub record LivesGoTo (after : LivesValue) (here : Standing prompt_disk) (actions : List Action)
     (answers : List Answer) (refusals : List Bool) : Type 0 where
-  pub there : Standing
+  pub there : Standing prompt_disk
   pub run : LivesRun (presented after.device) here actions answers refusals there
   pub fits : FitsLives after there
   pub ours : (book_at there.place).ours ≡ (book_at here.place).ours
@@ -161,7 +161,7 @@ pub record LivesGoOn (before : LivesValue) (actions : List Action) (answers : Li
   pub refused : refused_events refusals + (state_in before.state).failures
       ≤ (state_in after.state).failures
   pub caused : AreCaused (medium_in before.state) actions refusals (medium_in after.state)
-  pub goes : (here : Standing) → FitsLives before here
+  pub goes : (here : Standing prompt_disk) → FitsLives before here
       → LivesGoTo after here actions answers refusals
   pub size_stays : (state_in after.state).size ≡ (state_in before.state).size
   pub device_stays : after.device ≡ before.device
@@ -181,10 +181,10 @@ MayRefuse book counted failures StampsUsedUp = 2 ^ 63 ≤ book.stamp
 MayRefuse book counted failures LogTooSmall = ⊥
 
 -- from one standing, by actions and their answers, to one from where the next start was refused
-pub record LivesStopAt (after : LivesValue) (here : Standing) (actions : List Action)
+pub record LivesStopAt (after : LivesValue) (here : Standing prompt_disk) (actions : List Action)
     (answers : List Answer) (refusals : List Bool) (counted : ℕ) (fault : StartFault)
     : Type 0 where
-  pub there : Standing
+  pub there : Standing prompt_disk
   pub run : LivesRun (presented after.device) here actions answers refusals there
   -- the book with which the life would have opened
   pub book : Book
@@ -211,7 +211,7 @@ pub record LivesStop (before : LivesValue) (actions : List Action) (answers : Li
       ≤ (state_in after.state).failures
   pub caused : AreCaused (medium_in before.state) actions (refusals ++ in_start ∷ [])
       (medium_in after.state)
-  pub goes : (here : Standing) → FitsLives before here → LivesStopAt after here actions answers
+  pub goes : (here : Standing prompt_disk) → FitsLives before here → LivesStopAt after here actions answers
       refusals (refused_events refusals + (state_in before.state).failures) fault
   pub rests : after.state ≡ Stopped (medium_in after.state)
   pub on : (medium_in after.state).power.off ≡ false

@@ -21,7 +21,7 @@ use Rattle.bot_machine.specs.declared.lives.life.Life.{Life}
 use Rattle.spec.specs.Lives.{Action, starts, plays, cuts, Place, before_first, between, runs, off, Standing, Opens}
 use Rattle.spec.specs.Lives.{LifeBegins, LivesStep, LivesRun, after_cut}
 use Rattle.bot_machine.specs.LivesValue.{OpensOn, HasLimit, book_at, FoundAt}
-use Rattle.spec.specs.Promise.{first_standing}
+use Rattle.spec.specs.{Disks.prompt_disk, Promise.{first_standing}}
 use Rattle.bot_machine.specs.Lifetimes.{actions_of_all, armed_by}
 use Rattle.bot_machine.proofs.BookLaws.{book_laws}
 use Rattle.bot_machine.proofs.LifeStarts.{next_opens, stands_ours}
@@ -96,16 +96,16 @@ migration_is_ready = λ old made cut answer keep size m c.
 -- ---- where lives stand
 
 -- lives that began with this book stand here: before a first life it is the book still, and whether it is ours stays
-abbrev IsFrom : Book → Place → Type 0
+abbrev IsFrom : Book → Place prompt_disk → Type 0
 IsFrom book (before_first other) = other ≡ book
 IsFrom book place = (book_at place).ours ≡ book.ours
 
 module _ (device : Device) (book : Book) where
-  from_begun : (refused : Bool) (old new : Standing) (begins : LifeBegins (presented device) refused old new) → begins.book.ours ≡ book.ours
+  from_begun : (refused : Bool) (old new : Standing prompt_disk) (begins : LifeBegins (presented device) refused old new) → begins.book.ours ≡ book.ours
       → IsFrom book new.place
   from_begun refused old new begins ours = ⊎_elim (λ is. rw is ours) (λ goes. rw goes.after ours) begins.begins
 
-  from_start : (refused : Bool) (place : Place) (armed : Bool) (limit : ℕ) (new : Standing) (told : List Answer) → IsFrom book place
+  from_start : (refused : Bool) (place : Place prompt_disk) (armed : Bool) (limit : ℕ) (new : Standing prompt_disk) (told : List Answer) → IsFrom book place
       → LivesStep (presented device) refused (record { place = place; armed = armed; limit = limit }) starts told new
       → IsFrom book new.place
   from_start refused (before_first other) armed limit new told from h =
@@ -114,7 +114,7 @@ module _ (device : Device) (book : Book) where
       from_begun refused _ new h.1 (ap (λ (b : Book). b.ours) h.1.opens.opens ∙ from)
   from_start refused _ armed limit new told from h = rw h.1 from
 
-  from_event : (refused : Bool) (place : Place) (armed : Bool) (limit : ℕ) (new : Standing) (happens : Event) (told : List Answer)
+  from_event : (refused : Bool) (place : Place prompt_disk) (armed : Bool) (limit : ℕ) (new : Standing prompt_disk) (happens : Event) (told : List Answer)
       → IsFrom book place
       → LivesStep (presented device) refused (record { place = place; armed = armed; limit = limit }) (plays happens) told new
       → IsFrom book new.place
@@ -124,18 +124,18 @@ module _ (device : Device) (book : Book) where
   from_event refused (off remains) armed limit new happens told from h = rw h.2.1 from
   from_event refused _ armed limit new happens told from h = absurd h.2
 
-  from_cut : (place : Place) → IsFrom book place → IsFrom book (after_cut place)
+  from_cut : (place : Place prompt_disk) → IsFrom book place → IsFrom book (after_cut place)
   from_cut (before_first other) from = from
   from_cut _ from = from
 
-  from_step : (refused : Bool) (old new : Standing) (action : Action) (told : List Answer) → IsFrom book old.place
+  from_step : (refused : Bool) (old new : Standing prompt_disk) (action : Action) (told : List Answer) → IsFrom book old.place
       → LivesStep (presented device) refused old action told new → IsFrom book new.place
   from_step refused old new starts told from h = from_start refused old.place old.armed old.limit new told from h
   from_step refused old new (plays happens) told from h = from_event refused old.place old.armed old.limit new happens told from h
   from_step refused old new (cuts keep) told from h = rw h.1 (from_cut old.place from)
   from_step refused old new _ told from h = rw h.1 from
 
-  from_run : (actions : List Action) (old new : Standing) (told : List Answer) (refusals : List Bool) → IsFrom book old.place
+  from_run : (actions : List Action) (old new : Standing prompt_disk) (told : List Answer) (refusals : List Bool) → IsFrom book old.place
       → LivesRun (presented device) old actions told refusals new → IsFrom book new.place
   from_run [] old new told [] from run = rw run.1 from
   from_run (action ∷ actions) old new told (refused ∷ refusals) from run =
@@ -143,27 +143,27 @@ module _ (device : Device) (book : Book) where
   from_run _ old new told _ from run = absurd run
 
 -- no disk runs here, and the power is on
-abbrev IsBetween : Place → Type 0
+abbrev IsBetween : Place prompt_disk → Type 0
 IsBetween (runs conversation) = ⊥
 IsBetween (off remains) = ⊥
 IsBetween place = Unit {0}
 
-cut_between : (place : Place) → IsBetween (after_cut place)
+cut_between : (place : Place prompt_disk) → IsBetween (after_cut place)
 cut_between (before_first book) = tt
 cut_between _ = tt
 
 module _ (device : Device) where
   -- behind a cut no disk runs
-  behind_cut : (keep : ℕ → Bool) (first rest : List Action) (old new : Standing) (told : List Answer) (refusals : List Bool)
+  behind_cut : (keep : ℕ → Bool) (first rest : List Action) (old new : Standing prompt_disk) (told : List Answer) (refusals : List Bool)
       → LivesRun (presented device) old (first ++ cuts keep ∷ rest) told refusals new
-      → (mid : Standing) × (more : List Answer) × (others : List Bool) × IsBetween mid.place
+      → (mid : Standing prompt_disk) × (more : List Answer) × (others : List Bool) × IsBetween mid.place
       × LivesRun (presented device) mid rest more others new
   behind_cut keep [] rest old new told (refused ∷ refusals) run = (run.0, run.2, refusals, rw run.4.1 (cut_between old.place), run.5)
   behind_cut keep (action ∷ first) rest old new told (refused ∷ refusals) run =
       behind_cut keep first rest run.0 new run.2 refusals run.5
   behind_cut keep _ rest old new told _ run = absurd run
 
-  all_between : (lives : List Life) (old new : Standing) (told : List Answer) (refusals : List Bool) → IsBetween old.place
+  all_between : (lives : List Life) (old new : Standing prompt_disk) (told : List Answer) (refusals : List Bool) → IsBetween old.place
       → LivesRun (presented device) old (actions_of_all lives) told refusals new → IsBetween new.place
   all_between [] old new told [] rests run = rw run.1 rests
   all_between [] old new told (refused ∷ refusals) rests run = absurd run
@@ -175,7 +175,7 @@ module _ (device : Device) where
       all_between lives b.0 new b.1 b.2 b.3 b.4
 
 -- a life opens where no disk runs
-opens_next : (m : Sim) (book : Book) (place : Place) → m.unflushed ≡ [] → book ≡ opened book.blocks book.opening book.stamp book.ours
+opens_next : (m : Sim) (book : Book) (place : Place prompt_disk) → m.unflushed ≡ [] → book ≡ opened book.blocks book.opening book.stamp book.ours
     → book.ours ≡ true → IsFrom book place → IsBetween place → EachCut (FoundAt (state_of m).size place) (state_of m)
     → (next : Book) × OpensOn (state_of m) next × (next.ours ≡ true) × Opens place next
 opens_next m book (before_first other) none is ours from rests found =
@@ -201,7 +201,7 @@ lives_are_ready = λ before after device lives told lived limit book opens has o
     let here : EachCut (FoundAt (state_of after).size ends.last.place) (state_of after) =
     λ image cut. rw size (ends.found ours image cut) in
     let limits : EachCut (HasLimit (state_of after).size limit) (state_of after) = λ image cut. rw size (ends.limited ours image cut) in
-    let first : Standing = first_standing limit book in
+    let first : Standing prompt_disk = first_standing limit book in
     let from = from_run device book (actions_of_all lives) first ends.last told lived.kept.refusals refl ends.run in
     let rests = all_between device lives first ends.last told lived.kept.refusals tt ends.run in
     let next = opens_next after book ends.last.place lived.rests.flushed opens.opens ours from rests here in (

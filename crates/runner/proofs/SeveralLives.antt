@@ -9,7 +9,7 @@ use Rattle.bot_machine.specs.LivesValue.{LivesValue, LivesRefuseStart, HasLimit,
 use Rattle.bot_machine.specs.Moving.{medium_in, has_refused, MovesBy}
 use Rattle.bot_machine.proofs.{LifeRuns.{first_fits, more_refused}, Moved.few_causes, Runs.refused_events-append}
 use Rattle.spec.specs.{Book.Book, declared.event.Answer.Answer, Promise.{first_standing, AreKept, AreKeptUpTo}}
-use Rattle.spec.specs.Lives.{Action, plays, Standing, LivesRun}
+use Rattle.spec.specs.{Disks.prompt_disk, Lives.{Action, plays, Standing, LivesRun}}
 use Rattle.runner.specs.{declared.fault.ScriptFault.ScriptFault, declared.fault.ScriptFault.TheVariants.{Start, Writer}}
 use Rattle.runner.specs.{Lifetimes.{LineActs, AreMoved, AreStopped, AwaitsLife}, declared.line.ScriptKind.TheVariants.Lives}
 use Rattle.runner.specs.{Line.IsScriptLine, Lines.lines_of, Outcome.{IsRead, HasTaken}, OutcomeOfLives.{ArePlayed, AreRefused}}
@@ -25,7 +25,7 @@ not_moved : (disk : Device) (refusals : List Bool) (old new : DiskState) → Mov
 not_moved disk [] old new moves = moves.1
 not_moved disk (refused ∷ refusals) old new moves = absurd moves
 
-stays : (disk : Device) (refusals : List Bool) (old new : Standing) → LivesRun (presented disk) old [] [] refusals new → new ≡ old
+stays : (disk : Device) (refusals : List Bool) (old new : Standing prompt_disk) → LivesRun (presented disk) old [] [] refusals new → new ≡ old
 stays disk [] old new run = run.1
 stays disk (refused ∷ refusals) old new run = absurd run
 
@@ -37,7 +37,7 @@ module _ (most : ℕ) (medium : Sim) (awaits : AwaitsLife medium) where
   module _ (actions : List Action) (answers : List Answer) (new : LivesValue)
       (acted : Acted (first_over most medium) actions answers new) where
     kept_from : (limit : ℕ) (book : Book) → OpensOn (state_of medium) book → HasLimit (state_of medium).size limit (state_of medium).content
-        → AreKept (StandsForSome (state_of medium).size) (StandsAs (state_of medium).size) (HasLimit (state_of medium).size)
+        → AreKept prompt_disk (StandsForSome (state_of medium).size) (StandsAs (state_of medium).size) (HasLimit (state_of medium).size)
         (presented (device most)) limit book actions answers acted.goes_on.refusals
         (CutLeaves (state_of (medium_in new.state)).may_leave)
     kept_from limit book opens has =
@@ -77,7 +77,7 @@ module _ (most : ℕ) (medium : Sim) (awaits : AwaitsLife medium) where
     size_stays = refused.stops.size_stays ∙ acted.goes_on.size_stays
 
     stopped_at : (limit : ℕ) (book : Book) → OpensOn (state_of medium) book → HasLimit size limit (state_of medium).content
-        → AreKeptUpTo (StandsForSome size) (StandsAs size) (HasLimit size) (presented (device most)) limit book actions answers
+        → AreKeptUpTo prompt_disk (StandsForSome size) (StandsAs size) (HasLimit size) (presented (device most)) limit book actions answers
         acted.goes_on.refusals (CutLeaves (state_of (medium_in new.state)).may_leave)
     stopped_at limit book opens has =
         let on = acted.goes_on in

@@ -14,4 +14,5 @@ pub mod LogRuns
 pub mod Steady
 pub mod Headroom
 pub mod PacketsHidden
+pub mod LagsKept
 pub mod Witnesses

@@ -1,15 +1,14 @@
 -- A host cannot tell a disk whose device is behind from one that acts on each packet at once.
-use Rattle.std.specs.Prelude.{◌≡◌, ◌⊎◌, ◌≤◌, ℕ, Bool, List, [], ◌∷◌, Option}
-use Rattle.spec.specs.Rules.{UnitState, CarriesOut, Ticks, with_progress}
+use Rattle.std.specs.Prelude.{◌≡◌, ◌≤◌, ℕ, Bool, List, [], ◌∷◌}
+use Rattle.spec.specs.Rules.{UnitState, CarriesOut, Ticks}
 use Rattle.spec.specs.declared.event.Event.{Event}
 use Rattle.spec.specs.declared.event.Answer.{Answer}
 use Rattle.spec.specs.declared.event.Event.TheVariants as event
 use Rattle.spec.specs.declared.event.Answer.TheVariants as answer
-use Rattle.spec.specs.Blocks.{Write}
 use Rattle.spec.specs.Conversation.{Conversation, refused_events}
-use Rattle.spec.specs.UnitConversation.{Intends, UnitRun, write_of_packet}
-use Rattle.theorems.specs.Transfers.{packets_in}
+use Rattle.spec.specs.UnitConversation.{Intends, UnitRun}
 use Rattle.spec.specs.Lagging.{Lagging, settled, LagRun}
+use Rattle.theorems.specs.Transfers.{packets_in}
 
 -- events by the rules of the unit, in which no class reset comes while a packet is pending
 abbrev pub DropsNone : Conversation UnitState → List ℕ → UnitState → Type 0

@@ -10,4 +10,5 @@ pub mod Steady
 pub mod Striking
 pub mod Transfers
 pub mod HiddenLag
+pub mod KeptLag
 pub mod Witnesses

@@ -1,5 +1,6 @@
 //! What holds of every conversation by the rules alone.
 ghost use Rattle.theorems.specs.HiddenLag.{LagsAreHidden};
+ghost use Rattle.theorems.specs.KeptLag.{LagsAreKept};
 ghost use Rattle.theorems.specs.Striking.{TicksAreStruck};
 ghost use Rattle.theorems.specs.Transfers.{SizesAreAlike};
 
@@ -21,4 +22,12 @@ pub fn packet_laws()
 #[tactic(auto, using(crate::proofs::PacketsHidden::lags_hidden))]
 pub fn lagging_laws()
     ensures { LagsAreHidden }
+{}
+
+/// Does nothing: its contract says that a life of a disk whose device is behind is one of a disk
+/// that acts on each packet at once, and that a loss of power leaves the same. Where a packet is
+/// still pending, power goes in its event.
+#[tactic(auto, using(crate::proofs::LagsKept::lags_kept))]
+pub fn lagging_lives_laws()
+    ensures { LagsAreKept }
 {}

@@ -6,6 +6,6 @@ mod conversations;
 mod orders;
 mod premises;
 
-pub use conversations::{conversation_laws, lagging_laws, packet_laws};
+pub use conversations::{conversation_laws, lagging_laws, lagging_lives_laws, packet_laws};
 pub use orders::{log_laws, order_laws};
 pub use premises::premise_laws;
