@@ -30,8 +30,8 @@ pub on_before : (before after : Sim) → ComesAfter before after → after.power
 on_before before after follows on = let gone = (keeps_power before after follows).off_stays in grind (arith, gone)
 
 -- power goes only where a fuse was armed
-pub armed_then : (here : Standing prompt_disk) (before after : Sim) → ComesAfter before after → (here.armed ≡ false → before.power.fuse ≡ None)
-    → before.power.off ≡ false → after.power.off ≡ true → here.armed ≡ true
+pub armed_then : (here : Standing prompt_disk) (before after : Sim) → ComesAfter before after
+    → (here.armed ≡ false → before.power.fuse ≡ None) → before.power.off ≡ false → after.power.off ≡ true → here.armed ≡ true
 armed_then here before after follows unfused on is_off =
     let fused = ((keeps_power before after follows).goes_off on is_off).0 in grind (arith, fused, unfused)
 
@@ -46,7 +46,8 @@ module _ (device : Device) where
       → AreCaused (medium_in old) (action ∷ []) (false ∷ []) (medium_in new) → (state_in new).size ≡ (state_in old).size
       → ((here : Standing prompt_disk) → FitsLives (lives_at old) here → LivesStep (presented device) false here action answers (there here)
       × FitsLives (lives_at new) (there here))
-      → ((here : Standing prompt_disk) → ((book_at (there here).place).ours ≡ (book_at here.place).ours) × ((there here).limit ≡ here.limit))
+      → ((here : Standing prompt_disk)
+      → ((book_at (there here).place).ours ≡ (book_at here.place).ours) × ((there here).limit ≡ here.limit))
       → LivesGoOn (lives_at old) (action ∷ []) answers (lives_at new)
   goes_quietly action answers old new there does same caused size goes stays = record {
     refusals = false ∷ [];
@@ -300,7 +301,8 @@ module _ (device : Device) where
   on_medium m disk = record disk { unit = record disk.unit { store = record disk.unit.store { medium = m } } }
 
   -- whatever is armed, lives stand where they stood
-  module _ (state new : DiskState) (same : state_in new ≡ state_in state) (at : (place : Place prompt_disk) → IsAt place state → IsAt place new) where
+  module _ (state new : DiskState) (same : state_in new ≡ state_in state)
+      (at : (place : Place prompt_disk) → IsAt place state → IsAt place new) where
     limit_still : (place : Place prompt_disk) (limit : ℕ) → LimitAt place limit state → LimitAt place limit new
     limit_still place limit h = grind (arith, same)
 
@@ -329,7 +331,8 @@ module _ (device : Device) where
     arms_fuse writes caused does =
         arms_so (arms writes) (λ is. true) caused does (λ here. (refl, refl)) (λ is unfused e. absurd (false≢true (sym e)))
 
-  armed_at_rest : (fuse fail : Option ℕ) (m : Sim) (place : Place prompt_disk) → IsAt place (Stopped m) → IsAt place (Stopped (armed fuse fail m))
+  armed_at_rest : (fuse fail : Option ℕ) (m : Sim) (place : Place prompt_disk) → IsAt place (Stopped m)
+      → IsAt place (Stopped (armed fuse fail m))
   armed_at_rest fuse fail m place h = grind arith
 
   armed_running : (fuse fail : Option ℕ) (disk : DiskValue Sim) (place : Place prompt_disk) → IsAt place (Running disk)

@@ -239,8 +239,8 @@ module _ (m : Sim) (device : Device) (rest : IsAtRest m) (unfused : m.power.fuse
       Leaves = CutLeaves (state_of (medium_in after.state)).may_leave
 
       kept : (limit : ℕ) (book : Book) → OpensOn (state_of m) book → HasLimit size limit (state_of m).content
-          → AreKept prompt_disk (StandsForSome size) (StandsAs size) (HasLimit size) (presented device) limit book (actions_of_all lives) told
-          on.refusals Leaves
+          → AreKept prompt_disk (StandsForSome size) (StandsAs size) (HasLimit size) (presented device) limit book (actions_of_all lives)
+          told on.refusals Leaves
       kept limit book opens has =
           let here : Standing prompt_disk = first_standing limit book in
           let g = on.goes here (first_fits m device limit book rest unfused opens has) in
@@ -277,8 +277,8 @@ module _ (m : Sim) (device : Device) (rest : IsAtRest m) (unfused : m.power.fuse
   at_stop limit book opens has = stop.goes (first_standing limit book) (first_fits m device limit book rest unfused opens has)
 
   kept_up_to : (limit : ℕ) (book : Book) → OpensOn (state_of m) book → HasLimit (state_of m).size limit (state_of m).content
-      → AreKeptUpTo prompt_disk (StandsForSome (state_of m).size) (StandsAs (state_of m).size) (HasLimit (state_of m).size) (presented device) limit
-      book actions told stop.refusals (CutLeaves (state_of (medium_in after.state)).may_leave)
+      → AreKeptUpTo prompt_disk (StandsForSome (state_of m).size) (StandsAs (state_of m).size) (HasLimit (state_of m).size)
+      (presented device) limit book actions told stop.refusals (CutLeaves (state_of (medium_in after.state)).may_leave)
   kept_up_to limit book opens has =
       let g = at_stop limit book opens has in
       record {

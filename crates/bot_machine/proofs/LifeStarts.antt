@@ -133,8 +133,8 @@ module _ (m : Sim) (on : m.power.off ≡ false) where
   pub flushed_at : (place : Place prompt_disk) → IsAt place (Stopped m) → m.unflushed ≡ []
   flushed_at place is = grind arith
 
-  pub starts_at : (disk : Presentation) (refused : Bool) (place : Place prompt_disk) (old new : Standing prompt_disk) → IsAt place (Stopped m)
-      → LifeBegins disk refused old new → StartsAt place disk refused old new
+  pub starts_at : (disk : Presentation) (refused : Bool) (place : Place prompt_disk) (old new : Standing prompt_disk)
+      → IsAt place (Stopped m) → LifeBegins disk refused old new → StartsAt place disk refused old new
   starts_at disk refused place old new is life = grind arith
 
   pub keeps_same : (place : Place prompt_disk) (limit : ℕ) → IsAt place (Stopped m) → KeepsLimit place limit limit

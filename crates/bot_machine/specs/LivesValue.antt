@@ -211,8 +211,9 @@ pub record LivesStop (before : LivesValue) (actions : List Action) (answers : Li
       ≤ (state_in after.state).failures
   pub caused : AreCaused (medium_in before.state) actions (refusals ++ in_start ∷ [])
       (medium_in after.state)
-  pub goes : (here : Standing prompt_disk) → FitsLives before here → LivesStopAt after here actions answers
-      refusals (refused_events refusals + (state_in before.state).failures) fault
+  pub goes : (here : Standing prompt_disk) → FitsLives before here
+      → LivesStopAt after here actions answers refusals
+      (refused_events refusals + (state_in before.state).failures) fault
   pub rests : after.state ≡ Stopped (medium_in after.state)
   pub on : (medium_in after.state).power.off ≡ false
   pub size_stays : (state_in after.state).size ≡ (state_in before.state).size

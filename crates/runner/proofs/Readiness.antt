@@ -101,11 +101,12 @@ IsFrom book (before_first other) = other ≡ book
 IsFrom book place = (book_at place).ours ≡ book.ours
 
 module _ (device : Device) (book : Book) where
-  from_begun : (refused : Bool) (old new : Standing prompt_disk) (begins : LifeBegins (presented device) refused old new) → begins.book.ours ≡ book.ours
-      → IsFrom book new.place
+  from_begun : (refused : Bool) (old new : Standing prompt_disk) (begins : LifeBegins (presented device) refused old new)
+      → begins.book.ours ≡ book.ours → IsFrom book new.place
   from_begun refused old new begins ours = ⊎_elim (λ is. rw is ours) (λ goes. rw goes.after ours) begins.begins
 
-  from_start : (refused : Bool) (place : Place prompt_disk) (armed : Bool) (limit : ℕ) (new : Standing prompt_disk) (told : List Answer) → IsFrom book place
+  from_start : (refused : Bool) (place : Place prompt_disk) (armed : Bool) (limit : ℕ) (new : Standing prompt_disk) (told : List Answer)
+      → IsFrom book place
       → LivesStep (presented device) refused (record { place = place; armed = armed; limit = limit }) starts told new
       → IsFrom book new.place
   from_start refused (before_first other) armed limit new told from h =
@@ -114,8 +115,8 @@ module _ (device : Device) (book : Book) where
       from_begun refused _ new h.1 (ap (λ (b : Book). b.ours) h.1.opens.opens ∙ from)
   from_start refused _ armed limit new told from h = rw h.1 from
 
-  from_event : (refused : Bool) (place : Place prompt_disk) (armed : Bool) (limit : ℕ) (new : Standing prompt_disk) (happens : Event) (told : List Answer)
-      → IsFrom book place
+  from_event : (refused : Bool) (place : Place prompt_disk) (armed : Bool) (limit : ℕ) (new : Standing prompt_disk) (happens : Event)
+      (told : List Answer) → IsFrom book place
       → LivesStep (presented device) refused (record { place = place; armed = armed; limit = limit }) (plays happens) told new
       → IsFrom book new.place
   from_event refused (runs conversation) armed limit new happens told from h = ⊎_elim
@@ -175,8 +176,8 @@ module _ (device : Device) where
       all_between lives b.0 new b.1 b.2 b.3 b.4
 
 -- a life opens where no disk runs
-opens_next : (m : Sim) (book : Book) (place : Place prompt_disk) → m.unflushed ≡ [] → book ≡ opened book.blocks book.opening book.stamp book.ours
-    → book.ours ≡ true → IsFrom book place → IsBetween place → EachCut (FoundAt (state_of m).size place) (state_of m)
+opens_next : (m : Sim) (book : Book) (place : Place prompt_disk) → m.unflushed ≡ []
+    → book ≡ opened book.blocks book.opening book.stamp book.ours → book.ours ≡ true → IsFrom book place → IsBetween place → EachCut (FoundAt (state_of m).size place) (state_of m)
     → (next : Book) × OpensOn (state_of m) next × (next.ours ≡ true) × Opens place next
 opens_next m book (before_first other) none is ours from rests found =
     let stands : StandsAs (state_of m).size other.blocks (state_of m).content other.opening other.stamp =

@@ -25,7 +25,8 @@ not_moved : (disk : Device) (refusals : List Bool) (old new : DiskState) → Mov
 not_moved disk [] old new moves = moves.1
 not_moved disk (refused ∷ refusals) old new moves = absurd moves
 
-stays : (disk : Device) (refusals : List Bool) (old new : Standing prompt_disk) → LivesRun (presented disk) old [] [] refusals new → new ≡ old
+stays : (disk : Device) (refusals : List Bool) (old new : Standing prompt_disk) → LivesRun (presented disk) old [] [] refusals new
+    → new ≡ old
 stays disk [] old new run = run.1
 stays disk (refused ∷ refusals) old new run = absurd run
 

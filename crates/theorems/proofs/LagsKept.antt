@@ -6,7 +6,8 @@ use Rattle.spec.specs.declared.event.Answer.TheVariants as answer
 use Rattle.spec.specs.{Conversation.{Conversation, refused_events}, UnitConversation.UnitRun, Lagging.{Lagging, settled}}
 use Rattle.spec.specs.Lives.{Presentation, Action, plays, between, runs, off, Standing, Remains, LivesRun}
 use Rattle.spec.specs.{Lives.{after_cut}, Disks.{prompt_disk, started, pending_write}}
-use Rattle.theorems.specs.{HiddenLag.{UndroppedRun, Transaction, outs}, KeptLag.{undropped_disk, acknowledged, lost_in, lost_answers, lost_refusals, KeptAtOnce, LagsAreKept}}
+use Rattle.theorems.specs.HiddenLag.{UndroppedRun, Transaction, outs}
+use Rattle.theorems.specs.KeptLag.{undropped_disk, acknowledged, lost_in, lost_answers, lost_refusals, KeptAtOnce, LagsAreKept}
 use Rattle.theorems.proofs.PacketsHidden.{due, Left, at, hidden}
 
 -- where power is off it stays off
@@ -29,12 +30,14 @@ lag_run : (disk : Presentation) (events : List Event) (old : Lagging UnitState) 
 lag_run disk [] old armed limit answers [] here now run is =
     let e : runs old ≡ runs now = sym (ap (λ (s : Standing undropped_disk). s.place) run.1) ∙ is in
     subst (λ (l : List Answer). UndroppedRun old [] l [] now) (sym run.0) cc
-lag_run disk (happens ∷ events) old armed limit answers (refused ∷ refusals) here now (mid, one, later, split, (given, is_one, inl ends), rest) is =
+lag_run disk (happens ∷ events) old armed limit answers (refused ∷ refusals) here now
+    (mid, one, later, split, (given, is_one, inl ends), rest) is =
     let next = lag_run disk events ends.later armed limit later refusals here now
     (subst (λ (s : Standing undropped_disk). LivesRun disk s (map plays events) later refusals here) ends.after rest) is in
     subst (λ (l : List Answer). UndroppedRun old (happens ∷ events) l (refused ∷ refusals) now)
     (sym (split ∙ ap (λ (l : List Answer). l ++ later) is_one)) (ends.later, ends.step, next)
-lag_run disk (happens ∷ events) old armed limit answers (refused ∷ refusals) here now (mid, one, later, split, (given, is_one, inr cut), rest) is =
+lag_run disk (happens ∷ events) old armed limit answers (refused ∷ refusals) here now
+    (mid, one, later, split, (given, is_one, inr cut), rest) is =
     absurd (stays_off disk events _ armed limit later refusals here now
     (subst (λ (s : Standing undropped_disk). LivesRun disk s (map plays events) later refusals here) cut.goes.after rest) is)
 lag_run disk events old armed limit answers refusals here now run is = absurd run
@@ -47,7 +50,8 @@ at_once : (disk : Presentation) (plain : List Event) (old new : Conversation Uni
     → LivesRun disk (record { place = runs old; armed = false; limit = limit }) (map plays plain ++ actions) (reported ++ answers)
     (refused ++ refusals) last
 at_once disk [] old new limit [] [] actions answers refusals last run rest =
-    subst (λ (c : Conversation UnitState). LivesRun disk (record { place = runs c; armed = false; limit = limit }) actions answers refusals last)
+    subst (λ (c : Conversation UnitState). LivesRun disk (record { place = runs c; armed = false; limit = limit }) actions answers refusals
+    last)
     run rest
 at_once disk (happens ∷ plain) old new limit (a ∷ reported) (r ∷ refused) actions answers refusals last run rest = (
   record { place = runs run.0; armed = false; limit = limit },

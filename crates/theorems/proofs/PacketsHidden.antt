@@ -61,7 +61,8 @@ module _ (last pending : Option (List ℕ)) (old mid new : Conversation UnitStat
     few = refusals_more refused left.refused refusals left.few;
   }
 
-  by_setup : (setup : List ℕ) (a : Answer) → UnitStep refused old (event.Setup setup) a mid → Left last pending mid new events answers refusals
+  by_setup : (setup : List ℕ) (a : Answer) → UnitStep refused old (event.Setup setup) a mid
+      → Left last pending mid new events answers refusals
       → Left last pending old new (event.Setup setup ∷ events) (a ∷ answers) (refused ∷ refusals)
   by_setup setup a step left = record {
     plain = event.Setup setup ∷ left.plain;

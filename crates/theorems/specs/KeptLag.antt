@@ -47,8 +47,9 @@ pub record KeptAtOnce (disk : Presentation) (limit : ℕ) (book : Book) (events 
   pub reported : List Answer
   pub refused : List Bool
   pub last : Standing prompt_disk
-  pub run : LivesRun disk (first_standing limit book) (starts ∷ map plays plain ++ lost_in now.pending)
-      (reported ++ lost_answers now.pending) (refused ++ lost_refusals now.pending) last
+  pub run : LivesRun disk (first_standing limit book)
+      (starts ∷ map plays plain ++ lost_in now.pending) (reported ++ lost_answers now.pending)
+      (refused ++ lost_refusals now.pending) last
   pub same_outs : outs plain reported ++ acknowledged now.pending ≡ outs events answers
   pub same_ins : ins plain reported ≡ ins events answers
   pub same_setups : setups plain reported ≡ setups events answers
