@@ -118,7 +118,7 @@ def definitions_of_spec():
 def named_by_promise():
     """The lines of the definitions of `spec` to which IsKept and IsKeptUpTo lead, comments and imports aside."""
     told, come = definitions_of_spec()
-    reached, ahead = set(), {("Promise", "IsKept"), ("Promise", "IsKeptUpTo")}
+    reached, ahead = set(), {("Promise", "IsKept"), ("Promise", "IsKeptUpTo"), ("Disks", "prompt_disk")}
     while ahead:
         module, name = ahead.pop()
         reached.add((module, name))

@@ -177,7 +177,8 @@ module _ (device : Device) where
 
 -- a life opens where no disk runs
 opens_next : (m : Sim) (book : Book) (place : Place prompt_disk) → m.unflushed ≡ []
-    → book ≡ opened book.blocks book.opening book.stamp book.ours → book.ours ≡ true → IsFrom book place → IsBetween place → EachCut (FoundAt (state_of m).size place) (state_of m)
+    → book ≡ opened book.blocks book.opening book.stamp book.ours → book.ours ≡ true → IsFrom book place → IsBetween place
+    → EachCut (FoundAt (state_of m).size place) (state_of m)
     → (next : Book) × OpensOn (state_of m) next × (next.ours ≡ true) × Opens place next
 opens_next m book (before_first other) none is ours from rests found =
     let stands : StandsAs (state_of m).size other.blocks (state_of m).content other.opening other.stamp =
