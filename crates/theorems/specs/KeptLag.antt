@@ -8,9 +8,9 @@ use Rattle.spec.specs.declared.event.Event.TheVariants as event
 use Rattle.spec.specs.declared.event.Answer.TheVariants as answer
 use Rattle.spec.specs.{Conversation.refused_events, UnitConversation.Intends}
 use Rattle.spec.specs.Lagging.{Lagging, LagStep}
-use Rattle.spec.specs.Lives.{Presentation, DiskRules, Action, arms, starts, plays, between}
-use Rattle.spec.specs.Lives.{runs, Standing, Remains, LivesRun, after_cut}
-use Rattle.spec.specs.{Disks.{prompt_disk, lagging_disk}, Promise.first_standing}
+use Rattle.spec.specs.Lives.{Presentation, DiskRules, Action, arms, starts, plays, Place}
+use Rattle.spec.specs.Lives.{before_first, between, runs, Standing, Remains, LivesRun, after_cut}
+use Rattle.spec.specs.Disks.{prompt_disk, lagging_disk}
 use Rattle.theorems.specs.HiddenLag.{DropsNone, Transaction, outs, ins, setups}
 
 -- the disk whose device may be behind, where no class reset comes while a packet is pending
@@ -18,6 +18,27 @@ abbrev pub undropped_disk : DiskRules
 undropped_disk = record lagging_disk {
   step = λ refused old happens answer new.
       LagStep Intends CarriesOut Ticks DropsNone refused old happens answer new;
+}
+
+-- where a life begins, whatever the rules of its disk
+pub record Beginning : Type 0 where
+  -- what the life before has left, if there was one
+  pub before : Option Remains
+  -- the book with which the first life opens
+  pub book : Book
+  -- a fuse was armed before the start
+  pub armed : Bool
+  pub limit : ℕ
+
+abbrev pub place_at : {rules : DiskRules} → Option Remains → Book → Place rules
+place_at None book = before_first book
+place_at (Some remains) book = between remains
+
+abbrev pub standing_at : {rules : DiskRules} → Beginning → Standing rules
+standing_at begins = record {
+  place = place_at begins.before begins.book;
+  armed = begins.armed;
+  limit = begins.limit;
 }
 
 -- what was answered for the packet that is pending
@@ -41,13 +62,13 @@ lost_refusals (Some packet) = false ∷ true ∷ []
 -- A life of a disk that acts on each packet at once, in which the same came of all tokens, packets
 -- and requests, and no event more has a refused call. Where a packet is still pending, its event is
 -- the last, and power goes in it. A loss of power leaves the same for the next life.
-pub record KeptAtOnce (disk : Presentation) (limit : ℕ) (book : Book) (events : List Event)
+pub record KeptAtOnce (disk : Presentation) (begins : Beginning) (events : List Event)
     (answers : List Answer) (refusals : List Bool) (now : Lagging UnitState) : Type 0 where
   pub plain : List Event
   pub reported : List Answer
   pub refused : List Bool
   pub last : Standing prompt_disk
-  pub run : LivesRun disk (first_standing limit book)
+  pub run : LivesRun disk (standing_at begins)
       (starts ∷ map plays plain ++ lost_in now.pending) (reported ++ lost_answers now.pending)
       (refused ++ lost_refusals now.pending) last
   pub same_outs : outs plain reported ++ acknowledged now.pending ≡ outs events answers
@@ -57,10 +78,10 @@ pub record KeptAtOnce (disk : Presentation) (limit : ℕ) (book : Book) (events 
   pub left : (remains : Remains) → after_cut {rules = undropped_disk} (runs now) ≡ between remains
       → after_cut last.place ≡ between remains
 
--- each first life of that disk in which no packet is dropped, up to any moment at which it runs
+-- each life of that disk in which no packet is dropped, up to any moment at which it runs
 abbrev pub LagsAreKept : Type 0
-LagsAreKept = (disk : Presentation) (limit : ℕ) (book : Book) (events : List Event)
+LagsAreKept = (disk : Presentation) (begins : Beginning) (events : List Event)
     (answers : List Answer) (refusals : List Bool) (here : Standing undropped_disk)
     (now : Lagging UnitState)
-    → LivesRun disk (first_standing limit book) (starts ∷ map plays events) answers refusals here
-    → here.place ≡ runs now → KeptAtOnce disk limit book events answers refusals now
+    → LivesRun disk (standing_at begins) (starts ∷ map plays events) answers refusals here
+    → here.place ≡ runs now → KeptAtOnce disk begins events answers refusals now
