@@ -15,4 +15,5 @@ pub mod Steady
 pub mod Headroom
 pub mod PacketsHidden
 pub mod LagsKept
+pub mod PromptLives
 pub mod Witnesses

@@ -7,9 +7,9 @@ use Rattle.spec.specs.declared.event.{Event.Event, Answer.Answer}
 use Rattle.spec.specs.declared.event.Event.TheVariants as event
 use Rattle.spec.specs.declared.event.Answer.TheVariants as answer
 use Rattle.spec.specs.{Conversation.refused_events, UnitConversation.Intends}
-use Rattle.spec.specs.Lagging.{Lagging, LagStep}
+use Rattle.spec.specs.Lagging.{Lagging, settled, LagStep}
 use Rattle.spec.specs.Lives.{Presentation, DiskRules, Action, arms, starts, plays, Place}
-use Rattle.spec.specs.Lives.{before_first, between, runs, Standing, Remains, LivesRun, after_cut}
+use Rattle.spec.specs.Lives.{before_first, between, runs, off, Standing, Remains, LivesRun, after_cut}
 use Rattle.spec.specs.Disks.{prompt_disk, lagging_disk}
 use Rattle.theorems.specs.HiddenLag.{DropsNone, Transaction, outs, ins, setups}
 
@@ -85,3 +85,24 @@ LagsAreKept = (disk : Presentation) (begins : Beginning) (events : List Event)
     (now : Lagging UnitState)
     → LivesRun disk (standing_at begins) (starts ∷ map plays events) answers refusals here
     → here.place ≡ runs now → KeptAtOnce disk begins events answers refusals now
+
+-- where a disk that acts on each packet at once stands, as one whose device may be behind:
+-- nothing is pending
+abbrev pub place_behind : Place prompt_disk → Place lagging_disk
+place_behind (before_first book) = before_first book
+place_behind (between remains) = between remains
+place_behind (runs now) = runs (settled now)
+place_behind (off remains) = off remains
+
+abbrev pub standing_behind : Standing prompt_disk → Standing lagging_disk
+standing_behind here = record {
+  place = place_behind here.place;
+  armed = here.armed;
+  limit = here.limit;
+}
+
+-- lives of a disk that acts on each packet at once are lives of one whose device may be behind
+abbrev pub PromptLivesLag : Type 0
+PromptLivesLag = (disk : Presentation) (old new : Standing prompt_disk) (actions : List Action)
+    (answers : List Answer) (refusals : List Bool) → LivesRun disk old actions answers refusals new
+    → LivesRun disk (standing_behind old) actions answers refusals (standing_behind new)

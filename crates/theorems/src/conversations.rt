@@ -1,6 +1,6 @@
 //! What holds of every conversation by the rules alone.
 ghost use Rattle.theorems.specs.HiddenLag.{LagsAreHidden};
-ghost use Rattle.theorems.specs.KeptLag.{LagsAreKept};
+ghost use Rattle.theorems.specs.KeptLag.{LagsAreKept, PromptLivesLag};
 ghost use Rattle.theorems.specs.Striking.{TicksAreStruck};
 ghost use Rattle.theorems.specs.Transfers.{SizesAreAlike};
 
@@ -25,9 +25,11 @@ pub fn lagging_laws()
 {}
 
 /// Does nothing: its contract says that a life of a disk whose device is behind is one of a disk
-/// that acts on each packet at once, and that a loss of power leaves the same. Where a packet is
-/// still pending, power goes in its event.
-#[tactic(auto, using(crate::proofs::LagsKept::lags_kept))]
+/// that acts on each packet at once, and that a loss of power leaves the same: where a packet is
+/// still pending, power goes in its event. The other way round, lives of a disk that acts at once
+/// are lives of one whose device may be behind.
+#[tactic(auto, using(crate::proofs::LagsKept::lags_kept, crate::proofs::PromptLives::lives_lag))]
 pub fn lagging_lives_laws()
-    ensures { LagsAreKept }
+    ensures kept { LagsAreKept }
+    ensures prompt { PromptLivesLag }
 {}
