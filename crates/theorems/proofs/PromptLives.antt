@@ -2,7 +2,8 @@
 use Rattle.std.proofs.Common.{◌≡◌, inl, inr, ℕ, Bool, false, List, [], ◌∷◌, refl, ap, subst}
 use Rattle.spec.specs.{Book.Book, Rules.UnitState, declared.event.Event.Event, declared.event.Answer.Answer}
 use Rattle.spec.specs.declared.event.Event.TheVariants as event
-use Rattle.spec.specs.{Conversation.Conversation, UnitConversation.UnitStep, Lagging.{settled, UnitLagStep}, Disks.{prompt_disk, lagging_disk}}
+use Rattle.spec.specs.{Conversation.Conversation, UnitConversation.UnitStep}
+use Rattle.spec.specs.{Lagging.{settled, UnitLagStep}, Disks.{prompt_disk, lagging_disk}}
 use Rattle.spec.specs.Lives.{Presentation, Action, arms, fails, starts, plays, cuts, Place, before_first, between, runs, off, Standing}
 use Rattle.spec.specs.Lives.{Remains, PowerGoes, LifeBegins, StartsAt, PlaysAt, LivesStep, after_cut}
 use Rattle.theorems.specs.KeptLag.{place_behind, standing_behind, PromptLivesLag}

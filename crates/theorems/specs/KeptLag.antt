@@ -9,7 +9,8 @@ use Rattle.spec.specs.declared.event.Answer.TheVariants as answer
 use Rattle.spec.specs.{Conversation.refused_events, UnitConversation.Intends}
 use Rattle.spec.specs.Lagging.{Lagging, settled, LagStep}
 use Rattle.spec.specs.Lives.{Presentation, DiskRules, Action, arms, starts, plays, Place}
-use Rattle.spec.specs.Lives.{before_first, between, runs, off, Standing, Remains, LivesRun, after_cut}
+use Rattle.spec.specs.Lives.{before_first, between, runs, off, Standing, Remains, LivesRun}
+use Rattle.spec.specs.Lives.{after_cut}
 use Rattle.spec.specs.Disks.{prompt_disk, lagging_disk}
 use Rattle.theorems.specs.HiddenLag.{DropsNone, Transaction, outs, ins, setups}
 
