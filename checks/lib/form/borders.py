@@ -1,4 +1,4 @@
-"""What the house rules say of the borders between crates: who owns the format, what `spec` names, and how much the promise does."""
+"""What the house rules say of the borders between crates: who owns the format, what the specification names, and how much the promise does."""
 
 import os
 import re
@@ -10,6 +10,8 @@ from lib.form.functions import bodies, paths
 # The crate that alone knows where each byte of the log lies, and the judges, which reckon for themselves.
 OWNERS = {"journal"}
 JUDGES = {"abstract_disk", "judging", "hosting", "power_loss", "random_lives", "late_lives", "damage", "worked", "bench"}
+# The crates in which the promise is read, lowest first: each names those before it alone.
+SPECIFICATION = ("logical_blocks", "scsi", "spec")
 # It tells a reader what a sector of either format is, and serves no device.
 SHOWS = {"page"}
 # The sizes of slots, of descriptors and of the rounds that bring a record home.
@@ -25,12 +27,15 @@ PREMISES = re.compile(r"\bformat ≡ (?:(?:LogFormat\.)?(?:One|Two)|[12])\b")
 
 
 def beyond_spec():
-    """The lines of `spec`, in which the promise is read, that name another crate of ours."""
-    ours, found = {*sources.names_in("crates")} - {"spec"}, []
+    """The lines of the specification, in which the promise is read, that name another crate of ours, or one of its own above."""
+    ours, found = {*sources.names_in("crates")}, []
     for path in (*sources.files_of_crates(".rt", "src"), *sources.files_of_crates(".antt", "specs", "proofs")):
-        for number, line in enumerate(sources.lines_of(path), 1) if path.startswith("crates/spec/") else ():
-            if {*re.findall(r"Rattle\.(\w+)", line), *re.findall(r"\buse (\w+)::", line)} & ours:
-                found.append(f"{path}:{number}")
+        crate = sources.crate_of(path)
+        if crate in SPECIFICATION:
+            others = ours - {*SPECIFICATION[: SPECIFICATION.index(crate) + 1]}
+            for number, line in enumerate(sources.lines_of(path), 1):
+                if {*re.findall(r"Rattle\.(\w+)", line), *re.findall(r"\buse (\w+)::", line)} & others:
+                    found.append(f"{path}:{number}")
     return found
 
 
@@ -104,19 +109,19 @@ def paragraphs(path):
 
 
 def definitions_of_spec():
-    """The definitions of each module of `spec`, and the modules that the names come from which it imports."""
+    """The definitions of each module of the specification, and the modules that the names come from which it imports."""
     told, come = {}, {}
     for path in specs():
-        if path.startswith("crates/spec/"):
+        if sources.crate_of(path) in SPECIFICATION:
             module = os.path.basename(path).removesuffix(".antt")
             told[module], come[module] = paragraphs(path), {}
-            for named in re.findall(r"^use Rattle\.spec\.specs\.(\w+)\.\{(.*)\}", sources.text_of(path), re.M):
+            for named in re.findall(rf"^use Rattle\.(?:{'|'.join(SPECIFICATION)})\.specs\.(\w+)\.\{{(.*)\}}", sources.text_of(path), re.M):
                 come[module].update({it.strip(): named[0] for it in named[1].split(",")})
     return told, come
 
 
 def named_by_promise():
-    """The lines of the definitions of `spec` to which IsKept and IsKeptUpTo lead, comments and imports aside."""
+    """The lines of the definitions to which IsKept and IsKeptUpTo lead, comments and imports aside."""
     told, come = definitions_of_spec()
     reached, ahead = set(), {("Promise", "IsKept"), ("Promise", "IsKeptUpTo"), ("Disks", "prompt_disk")}
     while ahead:

@@ -3,7 +3,7 @@ use Rattle.std.proofs.Common.{rules, ◌≡◌, ◌≤◌, ◌<◌, ℕ, ◌+◌
 use Rattle.std.proofs.{Common.{length-append, zero, suc, get_or}, lemmas.{List.{take-append-le, drop-drop}, Bool.Decides.nat_tests}}
 use Rattle.std.{proofs.Math.Seq.take-length, specs.Prelude.{if◌then◌else◌, nat_le, get_or}}
 use Rattle.medium.specs.Medium.{State, Image}
-use Rattle.spec.specs.{Book.{Book, after_first, with_write, promised}, Blocks.{Array, Write, apply, after, chunks}}
+use Rattle.logical_blocks.specs.{Book.{Book, after_first, with_write, promised}, Blocks.{Array, Write, apply, after, chunks}}
 use Rattle.journal.specs.{Record.with_blocks, Standing.IsOurs, Places.Shape}
 use Rattle.redo_log.specs.{Value.{LogValue, IsBatch, entries_from, entries_of}, Held.{View, HoldsView, MayLeave, with_record}}
 use Rattle.redo_log.proofs.{StoreFacts.may_leave_ours, HeldLog.many}

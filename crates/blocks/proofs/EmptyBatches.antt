@@ -2,7 +2,7 @@
 use Rattle.std.proofs.Common.{rules, ◌≡◌, ◌+◌, ◌<◌, ◌≤◌, ℕ, ◌∙◌, sym, ap, arith, true, false, List, [], length, ◌⊎◌, Bool, refl, inl, inr}
 use Rattle.std.{proofs.lemmas.{Bool.{Decides.nat_tests, cases_lt, cases_Bool}, List.nil_from_length}, specs.Prelude.false}
 use Rattle.medium.specs.{Medium.{State, IsSound}, Moments.EachCut, Sent.SendsUpTo}
-use Rattle.spec.specs.Book.{Book, array_of}
+use Rattle.logical_blocks.specs.Book.{Book, array_of}
 use Rattle.redo_log.{specs.Value.{LogValue, Owes, CanPass, IsAway}, proofs.{StoreFacts.{home_is, blocks_guarded}, HeldLog.many}}
 use Rattle.theorems.specs.{Room.RestsAhead, Ahead.is_covered}
 use Rattle.cache.{specs.{Entries.{map_of, Entries}, Blocks.over}, proofs.Arrays.unlisted_empty}

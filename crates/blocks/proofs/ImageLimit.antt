@@ -1,7 +1,7 @@
 -- The limit that the image of a medium tells: it has one, and a start and a store leave it.
 use Rattle.std.proofs.Common.{arith, ◌≡◌, ℕ, true, refl, sym, ◌∙◌, ap}
 use Rattle.medium.{specs.{Medium.{State, Image}, Moments.{EachCut, LeavesOnly}}, proofs.Moments.weaker}
-use Rattle.spec.specs.Book.{Book}
+use Rattle.logical_blocks.specs.Book.{Book}
 use Rattle.journal.{specs.Standing.Stands, proofs.StandingLaws.StandsFor-one}
 use Rattle.redo_log.proofs.StoreFacts.{may_leave_ours}
 use Rattle.recovery.specs.Recovered.{IsOursForSome, StandsForOneOf}

@@ -2,7 +2,7 @@
 use Rattle.std.proofs.Common.{◌≡◌, ◌≤◌, ◌<◌, ◌^◌, ℕ, ⊎_elim, arith, ◌∙◌, sym, ap, subst, refl, Bool, true, Option, List, [], ◌∷◌, rules}
 use Rattle.std.{proofs.lemmas.Bool.{Decides.nat_tests, false≢true}, specs.Prelude.{Bool, true}}
 use Rattle.medium.{specs.{Moments.{EachCut, IsFlushed, LeavesOnly}, Medium.{State, Image, IsSound}}, proofs.Moments.{at_exit, only_image}}
-use Rattle.spec.specs.{Blocks.{Array, Write, apply, after}, Book.{Book, opened}}
+use Rattle.logical_blocks.specs.{Blocks.{Array, Write, apply, after}, Book.{Book, opened}}
 use Rattle.journal.{proofs.StandingLaws.{StandsFor-one, HasFault-stands}, specs.{Standing.{StandsFor, Stands, IsOurs}, Formats.shape_of}}
 use Rattle.journal.specs.Places.{Shape, limit_of}
 use Rattle.redo_log.{specs.Held.{resting_view, HoldsView}, proofs.StoreFacts.empty_holds}

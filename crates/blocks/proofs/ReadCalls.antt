@@ -6,7 +6,7 @@ use Rattle.std.specs.Prelude.{Ok, Err, OnOk, IsOk, Contains, true, get_or}
 use Rattle.medium.specs.{Medium.{State, Passes, IsSound, LooksOnly, Stays, Within, Image}, declared.fault.MediumFault.TheVariants.Read}
 use Rattle.medium.{specs.{declared.fault.MediumFault.MediumFault, Range.{held_from, ReadsAtOnce}}, proofs.CallsSent.{read_sends, none_sent}}
 use Rattle.medium.proofs.{Moments.{quiet_joined, quiet_call, quiet_start}, SectorsRead.{one_look, looks_wider}}
-use Rattle.spec.specs.{Blocks.Array, Book.{Book, array_of, blocks_at}}
+use Rattle.logical_blocks.specs.{Blocks.Array, Book.{Book, array_of, blocks_at}}
 use Rattle.journal.specs.Places.{first_home}
 use Rattle.theorems.{specs.LogRuns.IsLogRun, proofs.LogRuns.run_one}
 use Rattle.redo_log.{proofs.StoreFacts.home_is, specs.{Steps.{KeepsLog, ReadsCopy}, Value.{LogValue, IsNewestCopy, HasNoCopy}}}

@@ -5,7 +5,7 @@ use Rattle.std.{proofs.lemmas.List.nil_from_length, specs.Prelude.{Result, Ok, E
 use Rattle.medium.proofs.{Moments.{joined_same, weaker, quiet_leaves, quiet_start, unchanged_quiet, started}, SparedSectors.spared_joined}
 use Rattle.medium.{proofs.SparedSectors.{spared_quiet, spared_start}, specs.{Medium.{State, IsSound}, Sent.{sent, SendsUpTo}}}
 use Rattle.medium.specs.Moments.{EachCut, LeavesOnly, IsQuiet, IsUnchanged}
-use Rattle.spec.specs.{Blocks.{Write, chunks}, Book.Book}
+use Rattle.logical_blocks.specs.{Blocks.{Write, chunks}, Book.Book}
 use Rattle.journal.specs.{declared.super_sector.Super.Super, Places.sectors_of}
 use Rattle.redo_log.specs.Value.{LogValue, CanPass, IsAway, IsSentHome, HasRoom, begun, died, IsRetireStepped, IsBatch, entries_of}
 use Rattle.redo_log.specs.{Value.pass_calls, Steps.{MakesStep, LeavesLog, MakesHeadAhead, MakesHomeAhead}}

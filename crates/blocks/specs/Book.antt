@@ -1,6 +1,6 @@
 -- The book of a life: the writes that were accepted, and how many of them are promised.
 use Rattle.std.specs.Prelude.{◌≡◌, ℕ, ◌+◌, ◌*◌, ◌/◌, ◌%◌, ◌≤◌, ◌<◌}
-use Rattle.spec.specs.Blocks.{Array}
+use Rattle.logical_blocks.specs.Blocks.{Array}
 
 -- both arrays have the same blocks
 abbrev pub Same : ℕ → Array → Array → Type 0

@@ -2,7 +2,7 @@
 use Rattle.std.specs.Prelude.{◌≡◌, ℕ, ◌+◌, ◌*◌, ◌/◌, zero, suc, Bool, true, false, List, [], ◌∷◌}
 use Rattle.std.specs.Prelude.{◌≤◌, if◌then◌else◌, Result, OnOk, is_ok, IsOk}
 use Rattle.medium.specs.{Medium.State, Sent.SendsUpTo, declared.fault.MediumFault.TheVariants.Flush}
-use Rattle.spec.specs.Blocks.{Write}
+use Rattle.logical_blocks.specs.Blocks.{Write}
 use Rattle.theorems.specs.Retiring.{finished, finish_calls, finish_flushes, wants}
 use Rattle.theorems.specs.{Steady.IsSteady, Headroom.HasHeadroom}
 use Rattle.cache.specs.Blocks.{is_listed}

@@ -1,9 +1,9 @@
 -- What a start after a loss of power may find.
 use Rattle.std.specs.Prelude.{◌≡◌, ℕ, Option}
 use Rattle.medium.specs.Medium.{Image}
-use Rattle.spec.specs.{Blocks.{Array, Write}, Book.Book}
+use Rattle.logical_blocks.specs.{Blocks.{Array, Write}, Book.Book}
 use Rattle.journal.specs.{Places.Shape, Standing.IsOurs}
-use Rattle.spec.specs.Promise as promise
+use Rattle.logical_blocks.specs.CrashStates as crash
 
 -- the image of a medium of `size` sectors is ours, with `blocks` logical blocks in some shape, and
 -- stands for this array with this next stamp
@@ -13,10 +13,10 @@ StandsAs size blocks image array next =
 
 -- what a start after a loss of power may find on a medium of `size` sectors, by the promise
 abbrev pub MayFind : ℕ → Book → Image → Type 0
-MayFind size book image = promise.MayFind (StandsAs size) book image
+MayFind size book image = crash.MayFind (StandsAs size) book image
 
 abbrev pub Found : ℕ → Book → Write → Image → Type 0
-Found size book write image = promise.Found (StandsAs size) book write image
+Found size book write image = crash.Found (StandsAs size) book write image
 
 abbrev pub FoundWith : ℕ → Book → Option Write → Image → Type 0
-FoundWith size book write image = promise.FoundWith (StandsAs size) book write image
+FoundWith size book write image = crash.FoundWith (StandsAs size) book write image

@@ -1,7 +1,7 @@
 -- The most blocks of a transfer, as the image of a medium tells it.
 use Rattle.std.specs.Prelude.{◌≡◌, ℕ}
 use Rattle.medium.specs.Medium.{Image}
-use Rattle.spec.specs.Blocks.{Array}
+use Rattle.logical_blocks.specs.Blocks.{Array}
 use Rattle.journal.specs.Standing.{StandsFor}
 pub use Rattle.journal.specs.Places.{Shape, limit_of}
 

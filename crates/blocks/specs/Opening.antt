@@ -2,7 +2,7 @@
 -- alone, and opens none of them: what it needs of the layers below the store is handed on here.
 use Rattle.std.specs.Prelude.{◌≡◌, ◌^◌, ◌≤◌, ⊤, ℕ}
 use Rattle.medium.specs.Medium.{State, Image, CutLeaves}
-use Rattle.spec.specs.{Blocks.Array, Book.Book}
+use Rattle.logical_blocks.specs.{Blocks.Array, Book.Book}
 use Rattle.blocks.specs.Finding.{StandsAs}
 use Rattle.medium.specs.declared.fault.MediumFault.TheVariants as medium
 pub use Rattle.journal.specs.Places.{Shape}
@@ -13,7 +13,7 @@ pub use Rattle.recovery.specs.declared.start_fault.StartFault.{StartFault}
 use Rattle.recovery.specs.declared.start_fault.StartFault.TheVariants as fault
 pub use fault.{NoMemory, Read, Write, Flush, BadSuper, BadVersion, BadSize, BadHead, StampsUsedUp}
 pub use fault.{LogTooSmall}
-use Rattle.spec.specs.Promise as promise
+use Rattle.logical_blocks.specs.CrashStates as crash
 
 -- the image of a medium of `size` sectors has `blocks` logical blocks in some shape, and stands for
 -- this array with this next stamp
@@ -28,7 +28,7 @@ StandsForOpening size book image =
 
 -- A first life over a medium opens with this book, by the promise.
 abbrev pub OpensOn : State → Book → Type 0
-OpensOn m book = promise.OpensOn (StandsForSome m.size) (StandsAs m.size) m.content
+OpensOn m book = crash.OpensOn (StandsForSome m.size) (StandsAs m.size) m.content
     (CutLeaves m.may_leave) book
 
 -- Why a start is refused over contents with which a life opens with this book: for want of memory,

@@ -2,7 +2,7 @@
 use Rattle.std.specs.Prelude.{◌≡◌, ◌⊎◌, ◌≤◌, ◌+◌, ◌*◌, ◌^◌, ℕ, false, List, [], Some, None, Result}
 use Rattle.std.specs.Prelude.{Ok, Err, OnOk, IfErr}
 use Rattle.medium.specs.{Medium.State, declared.fault.MediumFault.MediumFault}
-use Rattle.spec.specs.Book.{Book, array_of, blocks_at}
+use Rattle.logical_blocks.specs.Book.{Book, array_of, blocks_at}
 use Rattle.redo_log.specs.Value.{HasNoCopy}
 use Rattle.cache.specs.{Blocks.unlisted, Entries.map_of, Places.HasPlace}
 use Rattle.blocks.specs.{Calls.{reads_of, CostsReads}, Passing.KeepsStore, StoreValue.Cached}

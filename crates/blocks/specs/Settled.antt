@@ -1,7 +1,7 @@
 -- What is true of a store that is at rest.
 use Rattle.std.specs.Prelude.{◌≡◌, ℕ, ◌+◌, ◌<◌, true, []}
 use Rattle.medium.specs.{Medium.{State, Image}, Moments.EachCut}
-use Rattle.spec.specs.Book.{Book, array_of, promised}
+use Rattle.logical_blocks.specs.Book.{Book, array_of, promised}
 use Rattle.journal.specs.Places.{Shape, first_home}
 use Rattle.blocks.specs.StoreValue.{Cached, layout_of, FitsBook}
 

@@ -2,7 +2,7 @@
 use Rattle.std.specs.Prelude.{◌≡◌, ◌⊎◌, ℕ, ◌+◌, ◌*◌, ◌^◌, ◌<◌, ◌≤◌, Bool, true, false, [], min, max}
 use Rattle.std.specs.Prelude.{◌&&◌}
 use Rattle.medium.specs.{Medium.{State, Image}, Moments.{EachCut, LeavesOnly, IsFlushed}}
-use Rattle.spec.specs.{Blocks.Array, Book.{Book, opened}}
+use Rattle.logical_blocks.specs.{Blocks.Array, Book.{Book, opened}}
 use Rattle.journal.specs.{Places.Shape, declared.super_sector.Super.Super, Standing.StandsFor}
 use Rattle.journal.specs.Standing.{IsOurs, HasShape}
 use Rattle.redo_log.specs.Value.{LogValue, empty_from}

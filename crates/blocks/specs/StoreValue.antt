@@ -2,7 +2,7 @@
 use Rattle.std.specs.Prelude.{◌≡◌, ◌⊎◌, ◌↔◌, ℕ, ◌+◌, ◌*◌, ◌^◌, ◌≤◌, ◌<◌, Bool, List, []}
 use Rattle.std.specs.Prelude.{◌∷◌, length}
 use Rattle.medium.specs.Medium.{State}
-use Rattle.spec.specs.{Blocks.Array, Book.{Book, after_first, array_of}}
+use Rattle.logical_blocks.specs.{Blocks.Array, Book.{Book, after_first, array_of}}
 use Rattle.journal.specs.Places.{Shape, limit_of}
 use Rattle.redo_log.specs.{Value.{LogValue, most_steps, most_retire_steps, entries_of}, Held.View}
 use Rattle.redo_log.specs.Held.{HoldsView}

@@ -2,7 +2,7 @@
 use Rattle.std.specs.Prelude.{◌≡◌, ◌⊎◌, ◌+◌, ◌*◌, ◌≤◌, ◌<◌, Bool, true, false, if◌then◌else◌}
 use Rattle.medium.specs.{Medium.State, Moments.{LeavesOnly, SparesFrom}}
 use Rattle.medium.specs.declared.fault.MediumFault.TheVariants.{Read}
-use Rattle.spec.specs.{Blocks.Write, Book.{Book, with_write, StampsOut}}
+use Rattle.logical_blocks.specs.{Blocks.Write, Book.{Book, with_write, StampsOut}}
 use Rattle.journal.specs.Places.{sectors_of}
 use Rattle.blocks.specs.declared.fault.StoreFault.{TheVariants.{ReadFault, Dead}, StoreFault}
 use Rattle.blocks.specs.{Finding.{MayFind, Found}, StoreValue.{Cached, layout_of, blocks_of}}

@@ -1,7 +1,7 @@
 //! How blocks are read.
 ghost use Rattle.std.specs.Prelude.{◌≡◌, ◌+◌, ◌*◌, ◌/◌, ◌^◌, ◌<◌, ◌≤◌, length, IsTrue, OnOk};
 ghost use Rattle.std.specs.Prelude.{IfSome, IsNone};
-ghost use Rattle.spec.specs.Book.{Book, array_of, blocks_at};
+ghost use Rattle.logical_blocks.specs.Book.{Book, array_of, blocks_at};
 ghost use Rattle.blocks.specs.Book.{IsTransfer};
 ghost use Rattle.blocks.specs.StoreValue.{blocks_of, transfer_limit, FitsBook};
 ghost use Rattle.blocks.specs.Passing.{IsReadBeside, RefusesRead};

@@ -1,7 +1,7 @@
 //! How a store starts.
 ghost use Rattle.std.specs.Prelude.{◌≡◌, ◌⊎◌, ◌<◌, ◌≤◌, ◌^◌, ◌&&◌, ℕ, [], false, IfOk, IfErr};
 ghost use Rattle.std.specs.Prelude.{MatchResult};
-ghost use Rattle.spec.specs.Blocks.{Array};
+ghost use Rattle.logical_blocks.specs.Blocks.{Array};
 ghost use Rattle.journal.specs.Places.{Shape, limit_of};
 ghost use Rattle.journal.specs.Standing.{StandsFor};
 ghost use Rattle.journal.specs.Formats.{shape_of};

@@ -1,6 +1,6 @@
 //! A store is given up from outside.
 ghost use Rattle.std.specs.Prelude.{◌≡◌};
-ghost use Rattle.spec.specs.Book.{Book};
+ghost use Rattle.logical_blocks.specs.Book.{Book};
 ghost use Rattle.blocks.specs.StoreValue.{FitsBook};
 ghost use Rattle.blocks.specs.Passing.{RunsLog};
 ghost use Rattle.blocks.specs.Stopping.{stopped_store};

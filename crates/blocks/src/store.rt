@@ -4,7 +4,7 @@ ghost use Rattle.std.specs.Prelude.{length, IsTrue, None};
 ghost use Rattle.medium.specs.Inlet.{AreHeld};
 ghost use Rattle.medium.specs.Moments.{EachCut};
 ghost use Rattle.journal.specs.Places.{first_home, sectors_of};
-ghost use Rattle.spec.specs.Book.{Book};
+ghost use Rattle.logical_blocks.specs.Book.{Book};
 ghost use Rattle.blocks.specs.Finding.{MayFind};
 ghost use Rattle.blocks.specs.StoreValue.{blocks_of, layout_of, transfer_limit, is_dead};
 ghost use Rattle.blocks.specs.StoreValue.{steps_left, HasLimits, FitsBook};

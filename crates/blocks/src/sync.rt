@@ -1,7 +1,7 @@
 //! How accepted writes are made durable.
 ghost use Rattle.std.specs.Prelude.{◌≡◌, ◌<◌, ◌+◌, ◌*◌, false, OnOk};
 ghost use Rattle.medium.specs.declared.fault.MediumFault.TheVariants.{Flush};
-ghost use Rattle.spec.specs.Book.{Book, promised};
+ghost use Rattle.logical_blocks.specs.Book.{Book, promised};
 ghost use Rattle.blocks.specs.StoreValue.{FitsBook};
 ghost use Rattle.blocks.specs.Background.{IsUnderWay};
 ghost use Rattle.blocks.specs.OneBatch.{SendsOneBatch};

@@ -1,7 +1,7 @@
 //! How writes are accepted.
 ghost use Rattle.std.specs.Prelude.{◌*◌, ◌/◌, true, length, is_ok};
 ghost use Rattle.blocks.specs.Book.{IsTransfer};
-ghost use Rattle.spec.specs.Book.{write_of};
+ghost use Rattle.logical_blocks.specs.Book.{write_of};
 ghost use Rattle.blocks.specs.StoreValue.{blocks_of, transfer_limit, steps_left};
 ghost use Rattle.blocks.specs.Turns.{IsWriteTurn};
 ghost use Rattle.blocks.specs.Sent.{batch_sends};

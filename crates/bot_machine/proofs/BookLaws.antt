@@ -2,15 +2,20 @@
 use Rattle.std.proofs.Common.{◌≡◌, ℕ, Bool, true, false, List, [], Option, None, refl, ap, ◌∙◌, arith, ◌⊎◌, inl, inr, ⊎_elim, length}
 use Rattle.std.proofs.{Common.{Result, Ok, Err, sym, subst}, lemmas.Bool.Decides.nat_tests}
 use Rattle.std.specs.Prelude.{Result, if◌then◌else◌}
-use Rattle.spec.specs.{Blocks.Write, Sense.Sense, declared.wrapper.Cbw.Cbw, declared.way.Way.Way, declared.case.Case.Case}
+use Rattle.logical_blocks.specs.Blocks.{Write}
+use Rattle.scsi.specs.Sense.{Sense}
+use Rattle.spec.specs.declared.{wrapper.Cbw.Cbw, way.Way.Way, case.Case.Case}
 use Rattle.spec.specs.{declared.event.Event.Event, declared.event.Answer.Answer}
-use Rattle.spec.specs.{Rules.{UnitState, CarriesOut, Ticks, write_in_progress, checked}, Exchange.{Script, finished, taking}}
+use Rattle.scsi.specs.Rules.{UnitState, CarriesOut, Ticks, write_in_progress, checked}
+use Rattle.spec.specs.Exchange.{Script, finished, taking}
 use Rattle.spec.specs.Conversation.{Conversation, OpensExchange, Takes, OutStep}
-use Rattle.spec.specs.{UnitConversation.{Intends, UnitStep, write_of_packet, write_of_event}, Book.Book, declared.command.Command.Command}
+use Rattle.logical_blocks.specs.Book.{Book}
+use Rattle.scsi.specs.declared.command.Command.{Command}
+use Rattle.spec.specs.UnitConversation.{Intends, UnitStep, write_of_packet, write_of_event}
 use Rattle.spec.specs.declared.event.Event.TheVariants as event
 use Rattle.bot_machine.specs.Acts.{CarriesOutAtOnce, CarriesOutLast, PacketCarriesOut, EventCarriesOut}
 use Rattle.bot_machine.specs.{BookLaws.{GrowsBy, MarkMoves, FaultStays, AreBookLaws}, Promising.promises_by}
-use Rattle.theorems.proofs.Wrappers.{at_once-writes_none}
+use Rattle.transport_laws.proofs.Wrappers.{at_once-writes_none}
 use Rattle.bot_machine.proofs.{Wrappers.carries_at_once, UnitLaws.{keeps_writes, stays_faulted, ticks_only}}
 use Rattle.scsi_unit.specs.{Laws.{IsSameLife, is_promising}, Promising.promises_for}
 

@@ -9,9 +9,11 @@ use Rattle.bot_machine.specs.{declared.lives.disk_state.DiskState.TheVariants.{S
 use Rattle.bot_machine.specs.{Moving.{Does, EventMovesIn, EventMoves}, LivesValue.{LivesValue, medium_in, state_in, OpensOn, HasLimit}}
 use Rattle.bot_machine.specs.LivesValue.{IsAt, LimitAt, book_at, FoundAt, FitsLives, LivesGoTo, LivesGoOn, AreCaused}
 use Rattle.scsi_unit.specs.{Starting.StandsForOpening, Books.{MayFind, FoundWith, StandsAs}, UnitValue.unit_limit, Serving.has_refused}
-use Rattle.spec.specs.{Book.Book, declared.event.Event.Event, declared.event.Answer.Answer, declared.event.Answer.TheVariants.Off}
-use Rattle.spec.specs.{Conversation.Conversation, UnitConversation.{write_of_event, UnitStep}, Rules.UnitState, Lives.{Action, plays, cuts}}
-use Rattle.spec.specs.{Lives.{arms, fails, Remains, Place, before_first, runs, off, Standing, after_cut, LivesStep, LivesRun}, Blocks.Array}
+use Rattle.logical_blocks.specs.{Book.Book, Blocks.Array}
+use Rattle.scsi.specs.Rules.{UnitState}
+use Rattle.spec.specs.{declared.event.{Event.Event, Answer.{Answer, TheVariants.Off}}, Conversation.Conversation}
+use Rattle.spec.specs.{UnitConversation.{write_of_event, UnitStep}, Lives.{Action, plays, cuts, arms, fails, Remains, Place, before_first}}
+use Rattle.spec.specs.Lives.{runs, off, Standing, after_cut, LivesStep, LivesRun}
 use Rattle.spec.specs.Disks.{prompt_disk}
 use Rattle.bot_machine.proofs.{UnitLaws.limit_between_calls, Runs.one_counted}
 use Rattle.bot_machine.proofs.Moved.{one_move, none_refused, some_refused, caused_once, one_fuse_more}

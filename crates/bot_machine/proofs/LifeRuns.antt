@@ -8,7 +8,8 @@ use Rattle.bot_machine.specs.{Lifetimes.{AreLived, AreLivedUpTo, KeepsPromiseUpT
 use Rattle.bot_machine.specs.LivesValue.{state_in, FitsLives, LivesGoTo, LivesGoOn, MayRefuse, LivesStopAt, LivesStop, IsAtRest, OpensOn}
 use Rattle.bot_machine.specs.{LivesValue.{HasLimit, RestsAlone}, declared.lives.life.Life.Life, Opening.IsNotOpened}
 use Rattle.scsi_unit.specs.{StartFaults.StartFault, Books.StandsAs, Starting.StandsForSome}
-use Rattle.spec.specs.{Book.Book, declared.event.Answer.Answer, Conversation.refused_events, Lives.{Action, starts, Standing, LivesRun}}
+use Rattle.logical_blocks.specs.Book.{Book}
+use Rattle.spec.specs.{declared.event.Answer.Answer, Conversation.refused_events, Lives.{Action, starts, Standing, LivesRun}}
 use Rattle.spec.specs.{Disks.prompt_disk, Promise.{first_standing, AreKept, AreKeptUpTo}}
 use Rattle.bot_machine.proofs.{Runs.{refused_events-append, counted}, Moved.{MovesBy-append, caused_through, few_causes}}
 use Rattle.bot_machine.proofs.LifeStarts.{first_found, first_limited}

@@ -1,7 +1,9 @@
 -- How a life begins, with what the medium was left with, and what comes of its start: a disk runs, power goes, or it is refused.
 use Rattle.std.proofs.Common.{◌≡◌, ◌≤◌, ◌⊎◌, ℕ, Bool, true, false, [], Some, None, Option, refl, sym, ◌∙◌, ap, inl, inr, ⊎_elim, arith, ◌+◌}
 use Rattle.std.proofs.{Common.{◌∷◌, subst}, lemmas.Bool.{false≢true, cases_Bool}}
-use Rattle.spec.specs.{Blocks.{Write, Array}, Book.{Book, after_first, opened, with_write}, Rules.{with_progress, UnitState}, Lives.Remains}
+use Rattle.logical_blocks.specs.{Blocks.{Write, Array}, Book.{Book, after_first, opened, with_write, with_progress}}
+use Rattle.scsi.specs.Rules.{UnitState}
+use Rattle.spec.specs.Lives.{Remains}
 use Rattle.spec.specs.Lives.{Place, before_first, between, runs, off, Standing, Presentation, IsLeft, Opens, KeepsLimit, LifeBegins}
 use Rattle.spec.specs.{Lives.{StartsAt, starts}, Disks.{prompt_disk, started}, Exchange.{Line, at_rest}, UnitConversation.on_line}
 use Rattle.medium.specs.{Medium.{State, Image}, Moments.EachCut, Sim.{Sim, state_of, ComesAfter}, SimLaws.is_sound}

@@ -8,9 +8,10 @@ use Rattle.bot_machine.specs.{Acts.{CarriesOutNone, PacketCarriesOut, EventCarri
 use Rattle.bot_machine.specs.{Refinement.{left_of, halt_of, IsInPhase}, Reading.{LooksBesides, LooksIn, ReadsAt}}
 use Rattle.bot_machine.specs.{Serving.{ServesPacket, HandsOn}, declared.bulk_state.BulkState.BulkState}
 use Rattle.std.specs.Prelude.{Option, Some, None, Result}
-use Rattle.spec.specs.{declared.case.Endpoint.Endpoint, StatusWrapper.status_wrapper, Sense.Sense}
-use Rattle.spec.specs.{Exchange.{Line, Script, sending, laid_out, in_answer, after_in}, Book.Book}
-use Rattle.spec.specs.{Rules.{UnitState, CarriesOut, Ticks, Intention}, declared.event.Event.Event, declared.event.Answer.Answer}
+use Rattle.logical_blocks.specs.Book.{Book}
+use Rattle.scsi.specs.{Sense.Sense, Rules.{UnitState, CarriesOut, Ticks, Intention}}
+use Rattle.spec.specs.{declared.case.Endpoint.Endpoint, StatusWrapper.status_wrapper, Exchange.{Line, Script, sending, laid_out, in_answer}}
+use Rattle.spec.specs.{Exchange.after_in, declared.event.{Event.Event, Answer.Answer}}
 use Rattle.spec.specs.{Conversation.{OutStep, SetupStep}, UnitConversation.{Intends, UnitStep, write_of_packet, write_of_event, on_line}}
 use Rattle.spec.specs.Packets.{packets_of}
 use Rattle.spec.specs.declared.case.Endpoint.TheVariants as endpoint
@@ -21,7 +22,7 @@ use Rattle.scsi_unit.specs.Serving.{has_refused, IsSparing, TicksOver}
 use Rattle.scsi_unit.specs.UnitValue.{UnitValue, unit_limit, state_of, FitsUnit, IsOfSize, intention_of}
 use Rattle.spec.specs.declared.event.Event.TheVariants as event
 use Rattle.spec.specs.declared.event.Answer.TheVariants as answer
-use Rattle.spec.specs.declared.intent.Intent.TheVariants as intent
+use Rattle.scsi.specs.declared.intent.Intent.TheVariants as intent
 use Rattle.bot_machine.proofs.UnitLaws.{few_ticks, none_made, step_made, staying_so, proceeding, fits_size, promises_by_book, quiet_by_book}
 use Rattle.bot_machine.proofs.Wrappers.{besides, waits_to_send_none}
 

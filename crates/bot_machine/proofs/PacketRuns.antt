@@ -7,10 +7,10 @@ use Rattle.spec.specs.{Packets.{packets_of, cut_into, bytes_of}, Cases.size_of_w
 use Rattle.spec.specs.Exchange.{Line, Script, taking, sending, in_answer, after_in}
 use Rattle.spec.specs.{declared.case.Case.Case, declared.wrapper.Cbw.Cbw, declared.way.Way.Way}
 use Rattle.spec.specs.declared.event.Answer.TheVariants.{Data}
-use Rattle.spec.specs.Book.{Book}
+use Rattle.logical_blocks.specs.Book.{Book}
 use Rattle.spec.specs.declared.event.Event.TheVariants as event
 use Rattle.spec.specs.declared.event.Answer.TheVariants as answer
-use Rattle.theorems.proofs.Packets.{other_packet}
+use Rattle.transport_laws.proofs.Packets.{other_packet}
 use Rattle.medium.specs.Medium.{State, IsSound}
 use Rattle.scsi_unit.specs.UnitValue.{UnitValue}
 use Rattle.bot_machine.specs.{Acts.EventCarriesOut, Disk.{DiskValue, over, IsStep}}

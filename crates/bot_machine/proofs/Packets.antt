@@ -7,7 +7,7 @@ use Rattle.spec.specs.{Packets.{bytes_of, packets_of}, declared.case.Case.Case, 
 use Rattle.spec.specs.declared.event.Answer.TheVariants.{Data}
 use Rattle.spec.specs.Exchange.{Line, Script, sending, in_answer, after_in, laid_out, sent_in, moment_of, after_data}
 use Rattle.std.specs.Prelude.{None, Option}
-use Rattle.theorems.proofs.Packets.{packets_of-more, packets_of-none}
+use Rattle.transport_laws.proofs.Packets.{packets_of-more, packets_of-none}
 use Rattle.bot_machine.specs.{Refinement.{halt_of, sent_size}, Serving.LiesIn}
 
 pub some_bytes : (size : PacketSize) → 0 < bytes_of size

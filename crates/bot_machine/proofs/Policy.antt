@@ -1,9 +1,10 @@
 -- Over lives a disk retires as was asked at their start, and a host sees nothing of it.
 use Rattle.std.proofs.Common.{◌≡◌, ℕ, Bool, List, sym, ap, ◌∙◌, arith, subst}
-use Rattle.spec.specs.{Book.Book, Rules.{UnitState, opened_unit}, declared.event.Event.Event, declared.event.Answer.Answer}
+use Rattle.logical_blocks.specs.Book.{Book}
+use Rattle.scsi.specs.Rules.{UnitState, opened_unit}
+use Rattle.spec.specs.declared.event.{Event.Event, Answer.Answer}
 use Rattle.spec.specs.{Exchange.{Line, at_rest}, Conversation.Conversation, UnitConversation.{UnitRun, on_line}, Lives.Action}
-use Rattle.theorems.specs.Striking.{without_ticks, answers_without_ticks, IsUntroubled}
-use Rattle.theorems.proofs.StruckTicks.{ticks_struck}
+use Rattle.transport_laws.{specs.Striking.{without_ticks, answers_without_ticks, IsUntroubled}, proofs.StruckTicks.ticks_struck}
 use Rattle.medium.specs.Medium.{State}
 use Rattle.scsi_unit.specs.UnitValue.{unit_limit, state_of as unit_state}
 use Rattle.bot_machine.specs.{declared.lives.disk_state.DiskState.DiskState, Device.Device, Disk.{DiskValue, over}, Opening.IsOpened}

@@ -6,7 +6,9 @@ use Rattle.spec.specs.{declared.status.Status.Status, declared.status.Status.The
 use Rattle.spec.specs.{declared.event.Answer.Answer, CommandWrapper.field_at, Requests.Request, Exchange.{Script, finished, taking}}
 use Rattle.spec.specs.Exchange.{sending, Line, laid_out, Moment, moment_of, told, told_at_once, after_packet, after_request, sent_in}
 use Rattle.spec.specs.{Exchange.case_if_failed, Conversation.{Conversation, Begins, OutStep, SetupStep, Step, Run, refused_events}}
-use Rattle.spec.specs.{Book.Book, Rules.{UnitState, CarriesOut, Ticks}, UnitConversation.{Intends, write_of_event, UnitStep, UnitRun}}
+use Rattle.logical_blocks.specs.Book.{Book}
+use Rattle.scsi.specs.Rules.{UnitState, CarriesOut, Ticks}
+use Rattle.spec.specs.UnitConversation.{Intends, write_of_event, UnitStep, UnitRun}
 use Rattle.spec.specs.declared.event.Event.TheVariants as event
 use Rattle.bot_machine.specs.Turns.{Mark, marks_of_out, marks_of_in, marks_of_setup, marks_of, IsStatusOf, ByTurns, marks_in}
 use Rattle.bot_machine.specs.Disk.{DiskValue, over, FoundIn, RunsOn, IsStep, StepsThrough, IsRun}

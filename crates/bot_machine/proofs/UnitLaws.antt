@@ -1,7 +1,9 @@
 -- What the laws of the unit say of the commands and steps that a disk has it do, and how it proceeds by these.
 use Rattle.std.proofs.Common.{◌≡◌, ℕ, List, None, true, ap, ◌∙◌, refl, subst}
 use Rattle.std.specs.Prelude.{Result, Option, None}
-use Rattle.spec.specs.{Book.Book, Sense.Sense, Rules.UnitState, StatusWrapper.status_wrapper, Blocks.Write}
+use Rattle.logical_blocks.specs.{Book.Book, Blocks.Write}
+use Rattle.scsi.specs.{Sense.Sense, Rules.UnitState}
+use Rattle.spec.specs.StatusWrapper.{status_wrapper}
 pub use Rattle.scsi_unit.proofs.UnitLaws.{keeps_writes, ticks_only, stays_faulted, between_calls}
 pub use Rattle.scsi_unit.proofs.UnitLaws.{limit_between_calls, start_keeps_limit, fits_size, knows_images, few_ticks, intends_by_book}
 pub use Rattle.scsi_unit.proofs.UnitLaws.{promises_by_book, quiet_by_book, none_made, step_made, steps_to_write, written_live, ahead_fewer}

@@ -4,17 +4,18 @@ use Rattle.std.proofs.Common.{subst, Bool, [], refl}
 use Rattle.spec.specs.{declared.wrapper.Cbw.Cbw, declared.way.Way.Way, declared.way.Way.TheVariants.In, declared.case.Case.Case}
 use Rattle.spec.specs.{declared.case.Outcome.Outcome, CommandWrapper.{SpellsCommand, SpellsNone}, Cases.IsCase}
 use Rattle.spec.specs.Exchange.{at_once, after_data, moment_of, finished, Line}
-use Rattle.spec.specs.Rules.{Intention, UnitState, CarriesOut, Ticks, intention, write_in_progress}
-use Rattle.spec.specs.{UnitConversation.{way_of, Intends, on_line}, Book.Book, Conversation.{Conversation, Begins, OpensExchange}}
-pub use Rattle.theorems.proofs.Wrappers.{one_wrapper}
-use Rattle.theorems.proofs.Wrappers.{at_once-writes_none}
+use Rattle.scsi.specs.Rules.{Intention, UnitState, CarriesOut, Ticks, intention, write_in_progress}
+use Rattle.logical_blocks.specs.Book.{Book}
+use Rattle.spec.specs.{UnitConversation.{way_of, Intends, on_line}, Conversation.{Conversation, Begins, OpensExchange}}
+pub use Rattle.transport_laws.proofs.Wrappers.{one_wrapper}
+use Rattle.transport_laws.proofs.Wrappers.{at_once-writes_none}
 use Rattle.bot_machine.specs.{Cases.IsFit, declared.exchange.Exchange.Exchange, Disk.DiskValue, Reading.{sectors_in, sectors_for}}
 use Rattle.bot_machine.specs.Reading.{WrapperReads, WrapperReadsNone, ReadsHome, ReadsNoHome, LooksBesides, WrapperReadsAt}
 use Rattle.bot_machine.specs.{Serving.IsBegun, Acts.CarriesOutAtOnce}
 use Rattle.medium.specs.Medium.{State}
 use Rattle.medium.proofs.SectorsRead.{looks_wider}
 use Rattle.scsi_unit.proofs.SectorsRead.{sends_none-reads_none}
-use Rattle.spec.specs.declared.intent.Intent.TheVariants as intent
+use Rattle.scsi.specs.declared.intent.Intent.TheVariants as intent
 use Rattle.scsi_unit.specs.{Reading.{ReadsBack, first_home_of, home_sectors_of, IsOneOf}, UnitValue.{UnitValue, intention_of, state_of}}
 use Rattle.scsi_unit.specs.UnitValue.{IsOfSize}
 use Rattle.scsi_unit.specs.declared.reading.HomeSectors.{HomeSectors}

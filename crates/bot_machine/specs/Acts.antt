@@ -2,8 +2,10 @@
 use Rattle.spec.specs.declared.event.Event.TheVariants as event
 use Rattle.std.specs.Prelude.{◌≡◌, ⊤, ◌≤◌, ℕ, Bool, true, false, List, [], ◌++◌, length, take}
 use Rattle.spec.specs.{declared.wrapper.Cbw.Cbw, declared.way.Way.Way, declared.case.Case.Case}
-use Rattle.spec.specs.{CommandWrapper.SpellsCommand, Cases.{IsCase, size_of_way}, Book.Book}
-use Rattle.spec.specs.{Rules.UnitState, declared.event.Event.Event}
+use Rattle.logical_blocks.specs.Book.{Book}
+use Rattle.spec.specs.{CommandWrapper.SpellsCommand, Cases.{IsCase, size_of_way}}
+use Rattle.scsi.specs.Rules.{UnitState}
+use Rattle.spec.specs.declared.event.Event.{Event}
 use Rattle.spec.specs.Exchange.{Script, finished, taking, sending, at_once, moment_of}
 use Rattle.spec.specs.{Conversation.Conversation, UnitConversation.Intends}
 use Rattle.scsi_unit.specs.UnitValue.{UnitValue, IsOfSize}

@@ -1,7 +1,8 @@
 -- What an event does to the book of a life, by the rules alone.
 use Rattle.std.specs.Prelude.{◌≡◌, ◌⊎◌, true, [], ◌∷◌, ◌++◌, length, Bool, Option, Some, None}
-use Rattle.spec.specs.{Blocks.Write, declared.event.Event.Event, declared.event.Answer.Answer}
-use Rattle.spec.specs.{Rules.UnitState, Conversation.Conversation}
+use Rattle.logical_blocks.specs.Blocks.{Write}
+use Rattle.scsi.specs.Rules.{UnitState}
+use Rattle.spec.specs.{declared.event.{Event.Event, Answer.Answer}, Conversation.Conversation}
 use Rattle.spec.specs.UnitConversation.{UnitStep, write_of_event}
 use Rattle.scsi_unit.specs.Laws.{IsSameLife}
 use Rattle.bot_machine.specs.Promising.{PromisesIn}

@@ -1,6 +1,7 @@
 -- What is known of a disk before it starts.
 use Rattle.std.specs.Prelude.{ℕ}
-use Rattle.spec.specs.{Lives.Presentation, Identification.Identification}
+use Rattle.scsi.specs.Identification.{Identification}
+use Rattle.spec.specs.Lives.{Presentation}
 use Rattle.spec.specs.{declared.packet_size.PacketSize.PacketSize, Packets.bytes_of}
 use Rattle.bot_machine.specs.declared.lives.lifetimes.DiskSetup.{DiskSetup}
 pub use Rattle.scsi_unit.specs.declared.retiring.Retiring.{Retiring}

@@ -4,8 +4,9 @@ use Rattle.std.specs.Prelude.{⊤, ◌≡◌, ◌≤◌, ◌⊎◌, ℕ, ◌+◌
 use Rattle.std.specs.Prelude.{Result, Ok, Err}
 use Rattle.spec.specs.{declared.case.Endpoint.Endpoint, declared.status.Status.Status}
 use Rattle.spec.specs.declared.status.Status.TheVariants.{Passed, Failed}
-use Rattle.spec.specs.{StatusWrapper.status_wrapper, Blocks.Write, Sense.Sense, Book.Book}
-use Rattle.spec.specs.{Rules.{UnitState, CarriesOut, Ticks}, declared.event.Event.Event}
+use Rattle.logical_blocks.specs.{Blocks.Write, Book.Book}
+use Rattle.scsi.specs.{Sense.Sense, Rules.{UnitState, CarriesOut, Ticks}}
+use Rattle.spec.specs.{StatusWrapper.status_wrapper, declared.event.Event.Event}
 use Rattle.spec.specs.{declared.event.Answer.Answer, declared.event.Answer.TheVariants.Ticked}
 use Rattle.spec.specs.Exchange.{Line, finished, sending}
 use Rattle.spec.specs.Conversation.{Conversation, refused_events, SetupStep}

@@ -3,7 +3,8 @@
 use Rattle.std.specs.Prelude.{◌≡◌, ℕ, ◌==◌, Bool, false, List, if◌then◌else◌, slice_index}
 use Rattle.std.specs.Prelude.{slice_set}
 use Rattle.spec.specs.declared.status.Status.TheVariants.{Passed, Failed, PhaseError}
-use Rattle.spec.specs.{StatusWrapper.status_wrapper, Rules.UnitState, Conversation.Conversation}
+use Rattle.scsi.specs.Rules.{UnitState}
+use Rattle.spec.specs.{StatusWrapper.status_wrapper, Conversation.Conversation}
 use Rattle.spec.specs.Exchange.{Script, Line, finished, taking, sending}
 use Rattle.scsi_unit.specs.Faulting.{faulted_state, faulted_unit}
 use Rattle.bot_machine.specs.DiskValue.{DiskValue}

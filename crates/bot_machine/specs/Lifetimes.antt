@@ -4,7 +4,8 @@ use Rattle.std.specs.Prelude.{length, sum_by, Option, None, Some}
 use Rattle.medium.specs.{Sim.{Sim, state_of}, Power.faults_in, Writes.keeps, Medium.CutLeaves}
 use Rattle.scsi_unit.specs.{StartFaults.StartFault, Books.StandsAs, Serving.has_refused}
 use Rattle.scsi_unit.specs.Starting.{StandsForSome}
-use Rattle.spec.specs.{Book.Book, declared.event.Event.Event, declared.event.Answer.Answer}
+use Rattle.logical_blocks.specs.Book.{Book}
+use Rattle.spec.specs.declared.event.{Event.Event, Answer.Answer}
 use Rattle.spec.specs.{Conversation.refused_events, Lives.{Action, arms, starts, plays, cuts}}
 use Rattle.spec.specs.{Disks.prompt_disk, Promise.{first_standing, IsKept, IsKeptUpTo}}
 use Rattle.bot_machine.specs.{declared.lives.life.Life.Life, Answers.Room}

@@ -16,7 +16,9 @@ use Rattle.bot_machine.specs.{Device.{presented, Device}, Fitting.IsWithin}
 use Rattle.bot_machine.specs.{Disk.{DiskValue, over, FitsDisk}, Opening.IsNotOpened}
 -- a first life over a medium opens with a book as its unit does
 pub use Rattle.scsi_unit.specs.Starting.{OpensOn}
-use Rattle.spec.specs.{Book.Book, Rules.UnitState, declared.event.Event.Event}
+use Rattle.logical_blocks.specs.Book.{Book}
+use Rattle.scsi.specs.Rules.{UnitState}
+use Rattle.spec.specs.declared.event.Event.{Event}
 use Rattle.spec.specs.{declared.event.Answer.Answer, declared.event.Answer.TheVariants.Off}
 use Rattle.spec.specs.{Conversation.{Conversation, refused_events}, Lives.{Action, Place}}
 use Rattle.spec.specs.Lives.{before_first, between, runs, off, Standing, Opens, arms, fails, starts}

@@ -1,13 +1,13 @@
 -- How a disk starts.
 use Rattle.std.specs.Prelude.{◌≡◌, ◌⊎◌, true}
 use Rattle.medium.specs.Medium.{State}
-use Rattle.spec.specs.Book.{Book}
+use Rattle.logical_blocks.specs.Book.{Book}
 use Rattle.scsi_unit.specs.Costs.{HasHeadroom}
 use Rattle.scsi_unit.specs.Retiring.{RetiresBy, keeping_of}
 use Rattle.scsi_unit.specs.StartFaults.{StartFault, NoMemory}
 use Rattle.scsi_unit.specs.Starting.{IsStartedBy, IsStartCause, HasStore, HasLimit, OpensOn}
 use Rattle.scsi_unit.specs.Starting.{IsCauseFor}
-use Rattle.spec.specs.Rules.{opened_unit}
+use Rattle.scsi.specs.Rules.{opened_unit}
 use Rattle.scsi_unit.specs.UnitValue.{unit_limit, state_of}
 use Rattle.bot_machine.specs.Device.{Device}
 use Rattle.spec.specs.Exchange.{at_rest}

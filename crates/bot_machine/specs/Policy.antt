@@ -2,7 +2,7 @@
 use Rattle.std.specs.Prelude.{◌≡◌, ⊤, Bool, List}
 use Rattle.medium.specs.Medium.{State}
 use Rattle.scsi_unit.specs.Retiring.{RetiresBy}
-use Rattle.spec.specs.Book.{Book}
+use Rattle.logical_blocks.specs.Book.{Book}
 use Rattle.spec.specs.declared.event.Event.{Event}
 use Rattle.spec.specs.declared.event.Answer.{Answer}
 use Rattle.bot_machine.specs.declared.lives.disk_state.DiskState.{DiskState}
@@ -11,7 +11,7 @@ use Rattle.bot_machine.specs.Device.{Device, Retiring}
 use Rattle.bot_machine.specs.Disk.{DiskValue, over, FitsDisk, RunsOn, IsRun}
 use Rattle.bot_machine.specs.Moving.{MovesBy}
 use Rattle.bot_machine.specs.Opening.{IsOpened}
-use Rattle.theorems.specs.Striking.{without_ticks, answers_without_ticks, IsUntroubled}
+use Rattle.transport_laws.specs.Striking.{without_ticks, answers_without_ticks, IsUntroubled}
 use Rattle.spec.specs.Lives.{Action}
 
 -- a disk that runs retires so

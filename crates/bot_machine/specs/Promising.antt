@@ -3,7 +3,7 @@
 use Rattle.std.specs.Prelude.{◌≡◌, Bool, true, false, List, ℕ}
 use Rattle.medium.specs.{Medium.State, Sent.SendsUpTo}
 use Rattle.spec.specs.{declared.event.Event.Event, Conversation.Conversation}
-use Rattle.spec.specs.Rules.{UnitState, checked}
+use Rattle.scsi.specs.Rules.{UnitState, checked}
 use Rattle.spec.specs.declared.event.Event.TheVariants as event
 use Rattle.scsi_unit.specs.{Calls.{Cached, SendsOneBatch}, Promising.{promises_for, IsQuietFor}}
 use Rattle.scsi_unit.specs.UnitValue.{UnitValue}

@@ -3,12 +3,13 @@ use Rattle.std.specs.Prelude.{◌≡◌, ◌≢◌, ⊤, ◌≤◌, ◌<◌, ℕ
 use Rattle.std.specs.Prelude.{take, length, slice_range, Option, Some, None, ◌+◌}
 use Rattle.spec.specs.{declared.case.Case.Case, declared.case.Case.TheVariants.{C5, C6}}
 use Rattle.spec.specs.{declared.case.Endpoint.Endpoint, Cases.{IsCase, size_of_way}}
-use Rattle.spec.specs.{Rules.Intention, Packets.{bytes_of, packets_of}}
+use Rattle.scsi.specs.Rules.{Intention}
+use Rattle.spec.specs.Packets.{bytes_of, packets_of}
 use Rattle.spec.specs.Requests.{Request, mass_storage_reset, get_max_lun, clear_halt, get_status}
 use Rattle.spec.specs.Exchange.{Script, Line, finished, taking, sending, Moment, at_once}
 use Rattle.spec.specs.Exchange.{after_data, never, moment_of, laid_out}
 use Rattle.spec.specs.declared.case.Endpoint.TheVariants as endpoint
-use Rattle.spec.specs.declared.intent.Intent.TheVariants as intent
+use Rattle.scsi.specs.declared.intent.Intent.TheVariants as intent
 use Rattle.bot_machine.specs.declared.exchange.When.{When}
 use Rattle.bot_machine.specs.declared.exchange.When.TheVariants.{AtOnce, AfterData, Never}
 use Rattle.bot_machine.specs.declared.request.ControlRequest.{ControlRequest}

@@ -1,14 +1,15 @@
 -- What the parts of an event do to the unit and to the line.
 use Rattle.std.specs.Prelude.{◌≡◌, ◌<◌, ◌≤◌, ◌*◌, ℕ, Bool, false, List, length, Result}
 use Rattle.spec.specs.{declared.wrapper.Cbw.Cbw, declared.case.Case.Case}
-use Rattle.spec.specs.{CommandWrapper.SpellsCommand, Cases.{IsCase, size_of_way}, Sense.Sense}
-use Rattle.spec.specs.{Book.Book, Rules.{CarriesOut, Ticks, write_in_progress}, Packets.bytes_of}
+use Rattle.logical_blocks.specs.Book.{Book}
+use Rattle.scsi.specs.{Sense.Sense, Rules.{CarriesOut, Ticks, write_in_progress}}
+use Rattle.spec.specs.{CommandWrapper.SpellsCommand, Cases.{IsCase, size_of_way}, Packets.bytes_of}
 use Rattle.spec.specs.declared.event.Answer.TheVariants.{Ack}
 use Rattle.spec.specs.Exchange.{Line, Script, moment_of, at_once}
 use Rattle.spec.specs.Conversation.{IsCarriedOut, OutStep}
 use Rattle.spec.specs.UnitConversation.{way_of, Intends, write_of_packet, on_line}
 use Rattle.spec.specs.declared.way.Way.TheVariants as ways
-use Rattle.spec.specs.declared.intent.Intent.TheVariants as intent
+use Rattle.scsi.specs.declared.intent.Intent.TheVariants as intent
 use Rattle.medium.specs.Medium.{State}
 use Rattle.scsi_unit.specs.{Calls.{IsBounded, ComesBy}, Serving.{has_refused, IsSparing}}
 use Rattle.scsi_unit.specs.UnitValue.{UnitValue, unit_limit, state_of, FitsUnit, IsOfSize}

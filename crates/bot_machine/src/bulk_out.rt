@@ -3,7 +3,7 @@ ghost use Rattle.std.specs.Prelude.{◌≡◌, ◌≤◌, ◌+◌, ◌-◌, ◌*
 ghost use Rattle.std.specs.Prelude.{MatchOption, None, false, length, min, take};
 ghost use Rattle.spec.specs.Cases.{size_of_way};
 ghost use Rattle.spec.specs.CommandWrapper.{SpellsNone};
-ghost use Rattle.spec.specs.Sense.{Sense};
+ghost use Rattle.scsi.specs.Sense.{Sense};
 ghost use Rattle.spec.specs.StatusWrapper.{status_wrapper};
 ghost use Rattle.spec.specs.declared.status.Status.TheVariants.{PhaseError};
 ghost use Rattle.scsi_unit.specs.Calls.{IsBounded};

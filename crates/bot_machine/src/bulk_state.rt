@@ -1,7 +1,7 @@
 //! The line to the host: halts, the lock, and what is left of the exchange.
 ghost use Rattle.std.specs.Prelude.{◌≡◌, ◌≢◌, ◌<◌, ℕ, List, Some, true};
 ghost use Rattle.bot_machine.specs.Cases.{IsPossible};
-ghost use Rattle.spec.specs.Rules.{Intention};
+ghost use Rattle.scsi.specs.Rules.{Intention};
 ghost use Rattle.spec.specs.Exchange.{after_request, at_rest, set_halt, halted};
 ghost use Rattle.spec.specs.Exchange.{outcome_for, status_for};
 ghost use Rattle.spec.specs.Packets.{bytes_of};

@@ -5,7 +5,7 @@ ghost use Rattle.medium.specs.Inlet.{AreHeld};
 ghost use Rattle.std.specs.Borrow.{sem, follows_so};
 ghost use mathlib.Core.Option.{none};
 ghost use Rattle.medium.specs.Moments.{EachCut, IsUnchanged};
-ghost use Rattle.spec.specs.Book.{Book};
+ghost use Rattle.logical_blocks.specs.Book.{Book};
 ghost use Rattle.scsi_unit.specs.Books.{MayFind};
 ghost use Rattle.scsi_unit.specs.Background.{IsSettled, IsWritten, TellsWork, HasLimits, Settle};
 ghost use Rattle.scsi_unit.specs.Background.{is_dead, steps_left};

@@ -1,6 +1,6 @@
 //! A disk is told that the device behind its medium refused a call.
 ghost use Rattle.std.specs.Prelude.{◌≡◌, ℕ, List};
-ghost use Rattle.spec.specs.Book.{Book};
+ghost use Rattle.logical_blocks.specs.Book.{Book};
 ghost use Rattle.bot_machine.specs.Disk.{FitsDisk, over};
 ghost use Rattle.bot_machine.specs.Faulting.{is_good, taken_back, owes_good, faulted_line};
 ghost use Rattle.bot_machine.specs.Faulting.{faulted_over, faulted_disk, TurnsGoodAlone};

@@ -2,7 +2,7 @@
 //! and no flush.
 ghost use Rattle.std.specs.Prelude.{◌≡◌, ◌↔◌, ℕ, List, true, false, IsTrue};
 ghost use Rattle.std.specs.Prelude.{MatchOption};
-ghost use Rattle.spec.specs.Book.{Book};
+ghost use Rattle.logical_blocks.specs.Book.{Book};
 ghost use Rattle.spec.specs.declared.event.Event.TheVariants as event;
 ghost use Rattle.scsi_unit.specs.UnitValue.{state_of, IsOfSize};
 ghost use Rattle.bot_machine.specs.Acts.{CarriesOutAtOnce, CarriesOutLast, EventCarriesOut};

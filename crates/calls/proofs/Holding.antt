@@ -4,7 +4,7 @@ use Rattle.std.proofs.Common.{Result, Ok, Err, IfOk, IfErr, MatchResult}
 use Rattle.journal.specs.Places.{Shape, sectors_of, told_of}
 use Rattle.journal.specs.declared.log_format.LogFormat.{LogFormat}
 use Rattle.journal.specs.declared.log_format.LogFormat.TheVariants.{One, Two}
-use Rattle.spec.specs.Blocks.{Array}
+use Rattle.logical_blocks.specs.Blocks.{Array}
 use Rattle.recovery.specs.Calls.{IsFresh}
 use Rattle.window.specs.Window.{Window, state_of}
 use Rattle.disk_machine.specs.Machine.{Machine}

@@ -4,7 +4,7 @@ use Rattle.journal.specs.Places.{Shape, sectors_of}
 use Rattle.journal.specs.Standing.{HasShape}
 use Rattle.journal.specs.declared.log_format.LogFormat.{LogFormat}
 use Rattle.recovery.specs.Calls.{IsFresh}
-use Rattle.spec.specs.Blocks.{Array}
+use Rattle.logical_blocks.specs.Blocks.{Array}
 use Rattle.window.specs.Window.{Window, state_of}
 use Rattle.store_calls.specs.Rooms.{HoldsImageLog, SeesFresh}
 use Rattle.store_calls.specs.Sights.{shown_on, IsNoSight, IsNoMedium}

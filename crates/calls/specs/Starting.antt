@@ -5,7 +5,7 @@ use Rattle.recovery.specs.declared.start_fault.StartFault.{StartFault}
 use Rattle.recovery.specs.declared.start_fault.StartFault.TheVariants as start
 use Rattle.store_calls.specs.Sights.{shown_on, IsNoMedium}
 use Rattle.store_calls.specs.declared.sight.Sight.{Sight}
-use Rattle.spec.specs.Identification.{IsLegible}
+use Rattle.scsi.specs.Identification.{IsLegible}
 use Rattle.spec.specs.declared.packet_size.PacketSize.{PacketSize}
 use Rattle.spec.specs.Packets.{bytes_of}
 use Rattle.bot_machine.specs.Device.{Device, device_by, Kept}

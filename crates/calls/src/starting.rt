@@ -2,7 +2,7 @@
 ghost use Rattle.std.specs.Prelude.{◌≡◌, ◌≢◌, ◌⊎◌, MatchOption, Some};
 ghost use Rattle.std.specs.Option.{SomeIff};
 ghost use Rattle.spec.specs.Packets.{bytes_of};
-ghost use Rattle.spec.specs.Identification.{IsLegible};
+ghost use Rattle.scsi.specs.Identification.{IsLegible};
 ghost use Rattle.disk_machine.specs.Starting.{identity_of};
 ghost use Rattle.calls.specs.Starting.{StartsDisk, StartsStore, Opens, Stops, started, first_stage};
 ghost use Rattle.calls.specs.Starting.{Recovers};

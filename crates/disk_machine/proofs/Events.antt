@@ -3,7 +3,9 @@ use Rattle.std.proofs.Common.{◌≡◌, ◌⊎◌, ◌≤◌, ◌++◌, ◌∷�
 use Rattle.std.proofs.{Common.{arith, append_assoc, length-append, Some, None, Option}, lemmas.Bool.{cases_lt, false≢true}}
 use Rattle.std.proofs.lemmas.List.{take-append-le, append-nil}
 use Rattle.medium.specs.Medium.{Image, CutLeaves}
-use Rattle.spec.specs.{Blocks.Write, Book.Book, Conversation.Conversation, Rules.UnitState, UnitConversation.{UnitStep, write_of_event}}
+use Rattle.logical_blocks.specs.{Blocks.Write, Book.Book}
+use Rattle.scsi.specs.Rules.{UnitState}
+use Rattle.spec.specs.{Conversation.Conversation, UnitConversation.{UnitStep, write_of_event}}
 use Rattle.spec.specs.declared.event.{Event.Event, Answer.Answer}
 use Rattle.window.specs.{Device.{durable, after}, OutboxMedium.sent, Parts.AreCarriedOut, Story.given, declared.call.DeviceCall.DeviceCall}
 use Rattle.window.specs.{declared.asked.Asked.Asked, Window.{state_of, mirror_of}}

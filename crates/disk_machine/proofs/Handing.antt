@@ -1,6 +1,7 @@
 -- A machine whose disk is as it was but for its medium: calls leave the outbox, and are under way.
 use Rattle.std.proofs.Common.{◌≡◌, ◌⊎◌, ℕ, sym, ◌∙◌, ap, subst, inl, inr, arith, ◌≤◌, length, List, refl}
-use Rattle.spec.specs.{Book.Book, Rules.UnitState}
+use Rattle.logical_blocks.specs.Book.{Book}
+use Rattle.scsi.specs.Rules.{UnitState}
 use Rattle.window.specs.{Window.{state_of, Window}, declared.{call.DeviceCall.{TheVariants.Flush, DeviceCall}, ask.DeviceRead.DeviceRead}}
 use Rattle.window.specs.declared.{ask.DeviceAsk.DeviceAsk, asked.Asked.Asked}
 use Rattle.scsi_unit.specs.Background.{is_dead}

@@ -2,7 +2,7 @@
 use Rattle.std.proofs.Common.{◌≡◌, ◌≢◌, ◌⊎◌, ◌≤◌, ◌/◌, inl, inr, [], List, ℕ, Bool, true, false, length, refl, sym, ◌∙◌, ap, subst, arith}
 use Rattle.std.{proofs.lemmas.Bool.false≢true, specs.Prelude.Result}
 use Rattle.medium.specs.Inlet.{AreHeld}
-use Rattle.spec.specs.Book.{Book}
+use Rattle.logical_blocks.specs.Book.{Book}
 use Rattle.window.specs.declared.{call.DeviceCall.DeviceCall, ask.DeviceRead.DeviceRead, asked.Asked.Asked, done_fault.DoneFault.DoneFault}
 use Rattle.window.specs.Window.{Window, state_of, moved, device_so_far}
 use Rattle.store_calls.{specs.Outbox.without, proofs.{Handing.{some_go, taken_by}, Standing.IsSentStill}}

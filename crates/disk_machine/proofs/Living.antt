@@ -1,7 +1,9 @@
 -- A life is served on through all calls, and what is said in them is by the rules.
 use Rattle.std.proofs.Common.{◌≡◌, ◌++◌, inl, inr, [], ◌∷◌, List, ℕ, zero, suc, Bool, true, false, refl, ap, subst, ◌⊎◌, ◌*◌, ◌≤◌, sym, ◌∙◌}
 use Rattle.std.{proofs.{Common.{arith, append_assoc, drop}, lemmas.{Bool.cases_Bool, List.append-nil}}, specs.Prelude.{Result, length}}
-use Rattle.spec.specs.{Book.Book, Conversation.Conversation, Rules.UnitState, Blocks.Write, UnitConversation.write_of_event}
+use Rattle.logical_blocks.specs.{Book.Book, Blocks.Write}
+use Rattle.scsi.specs.Rules.{UnitState}
+use Rattle.spec.specs.{Conversation.Conversation, UnitConversation.write_of_event}
 use Rattle.spec.specs.declared.event.{Event.Event, Answer.Answer}
 use Rattle.window.specs.declared.{ask.DeviceAsk.DeviceAsk, done_fault.DoneFault.DoneFault, asked.Asked.Asked}
 use Rattle.bot_machine.specs.{Disk.over, Faulting.faulted_over, PacketRuns.packet_of}

@@ -2,7 +2,9 @@
 use Rattle.std.{specs.Prelude.Some, proofs.Common.{◌≡◌, ◌⊎◌, ◌<◌, ◌≤◌, ◌+◌, ◌∙◌, ℕ, zero, suc, Bool, true, false, List, [], inl, inr, ap}}
 use Rattle.std.proofs.{Common.{sym, subst, arith, ◌-◌, ◌*◌, ◌/◌, ◌++◌, length, take, drop, min, add-one, length-drop}, lemmas.List.take_min}
 use Rattle.std.proofs.{lemmas.List.{take_all, drop_all, append-nil, length-take}, Math.Nat.{mul-le-mul_right, div-mul-le_self}}
-use Rattle.spec.specs.{Book.Book, Rules.checked, declared.event.Answer.Answer}
+use Rattle.logical_blocks.specs.Book.{Book}
+use Rattle.scsi.specs.Rules.{checked}
+use Rattle.spec.specs.declared.event.Answer.{Answer}
 use Rattle.scsi_unit.specs.{Background.{Work, Settle, Ahead, WriteBack, TellsWork, is_dead, steps_left}, UnitValue.IsOfSize}
 use Rattle.bot_machine.{specs.{Disk.over, PacketRuns.packet_of, Promising.PromisesNone}, proofs.UnitLaws.{ahead_fewer, both_empty}}
 use Rattle.bot_machine.proofs.UnitLaws.{plain_quiet}

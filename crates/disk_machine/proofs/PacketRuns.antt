@@ -3,7 +3,8 @@ use Rattle.std.proofs.Common.{◌≡◌, ◌<◌, ◌≤◌, ◌+◌, ◌-◌, �
 use Rattle.std.proofs.{Common.{arith, false, Bool, true, length-append, length-drop, append_assoc}, lemmas.List.{length-take, take_at}}
 use Rattle.std.proofs.{lemmas.{List.{drop-drop, take-append-drop}, Bool.{false≢true, cases_lt}}, Math.Seq.{take-add, drop-append_seam}}
 use Rattle.std.proofs.Math.Nat.{zero-div, div-zero, div-mul-le_self, mul-le-mul_right}
-use Rattle.spec.specs.{Exchange.{Line, Script, finished, taking, sending, after_in}, Book.Book, declared.{case.Case.Case, wrapper.Cbw.Cbw}}
+use Rattle.logical_blocks.specs.Book.{Book}
+use Rattle.spec.specs.{Exchange.{Line, Script, finished, taking, sending, after_in}, declared.{case.Case.Case, wrapper.Cbw.Cbw}}
 use Rattle.spec.specs.declared.{way.Way.Way, event.Answer.TheVariants.{Ack, Data}}
 use Rattle.window.specs.{Window.state_of, WindowLaws.{is_sound, comes_after_itself}}
 use Rattle.scsi_unit.proofs.UnitRuns.{comes_itself}

@@ -1,7 +1,9 @@
 -- Packets, tokens, requests and steps, wherever the device is, and what they keep.
 use Rattle.std.proofs.Common.{◌≡◌, ◌≢◌, ◌⊎◌, inl, inr, ◌++◌, ◌&&◌, List, ℕ, Bool, true, length, ◌∙◌, ap, arith, [], zero, suc, false, refl}
 use Rattle.std.proofs.Common.{sym, rules}
-use Rattle.spec.specs.{declared.event.{Event.Event, Answer.Answer}, Book.Book, Conversation.Conversation, Rules.{UnitState, Ticks}}
+use Rattle.logical_blocks.specs.Book.{Book}
+use Rattle.scsi.specs.Rules.{UnitState, Ticks}
+use Rattle.spec.specs.{declared.event.{Event.Event, Answer.Answer}, Conversation.Conversation}
 use Rattle.spec.specs.UnitConversation.{UnitStep}
 use Rattle.journal.specs.Places.{Shape}
 use Rattle.window.specs.{Story.given, declared.{call.DeviceCall.DeviceCall, asked.Asked.Asked}, Window.{Window, state_of}}

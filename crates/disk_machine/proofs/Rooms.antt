@@ -3,7 +3,8 @@ use Rattle.std.proofs.Common.{◌≡◌, ◌⊎◌, ◌<◌, ◌≤◌, ◌+◌,
 use Rattle.std.proofs.{Common.length-append, lemmas.{Bool.{cases_Bool, false≢true}, List.{append-nil, nil_from_length}}}
 use Rattle.std.specs.{Prelude.Option, List.list_all}
 use Rattle.medium.specs.Sent.{sent}
-use Rattle.spec.specs.{Book.{Book, opened}, Exchange.{in_answer, after_in}, declared.event.{Event.Event, Answer.Answer}}
+use Rattle.logical_blocks.specs.Book.{Book, opened}
+use Rattle.spec.specs.{Exchange.{in_answer, after_in}, declared.event.{Event.Event, Answer.Answer}}
 use Rattle.journal.specs.Places.{Shape}
 use Rattle.window.specs.{Story.given, declared.call.DeviceCall.DeviceCall, Window.{Window, state_of, is_in_sight, ComesAfter, IsServed}}
 use Rattle.window.specs.{WindowLaws.{is_sound, comes_after_itself}, Looks.{near_in_sight, none_refused, none_missed, none_kept_out}}

@@ -1,6 +1,6 @@
 -- Calls of a machine, one after the other: what they keep of a life, and what is said in them.
 use Rattle.std.specs.Prelude.{◌≡◌, ℕ, ◌≤◌, Bool, List, [], ◌∷◌, ◌++◌, length, Result}
-use Rattle.spec.specs.{Blocks.Write, Book.Book}
+use Rattle.logical_blocks.specs.{Blocks.Write, Book.Book}
 use Rattle.window.specs.declared.{ask.DeviceAsk.DeviceAsk, done_fault.DoneFault.DoneFault}
 use Rattle.scsi_unit.specs.Laws.{IsSameLife}
 use Rattle.bot_machine.specs.Disk.{over}

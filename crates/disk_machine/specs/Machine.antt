@@ -2,7 +2,8 @@
 -- handed while packets come.
 use Rattle.std.specs.Prelude.{◌≡◌, ◌⊎◌, ℕ, ◌+◌, ◌-◌, ◌≤◌, Bool, true, false, List, [], length, take}
 use Rattle.medium.specs.Medium.{Image, CutLeaves}
-use Rattle.spec.specs.{Blocks.Write, Book.{Book, with_write}, Rules.UnitState}
+use Rattle.logical_blocks.specs.{Blocks.Write, Book.{Book, with_write}}
+use Rattle.scsi.specs.Rules.{UnitState}
 use Rattle.window.specs.{Device.{durable, after}, OutboxMedium.sent, Parts.AreCarriedOut}
 use Rattle.window.specs.{declared.{call.DeviceCall.DeviceCall, asked.Asked.Asked}, Window.state_of}
 use Rattle.window.specs.Window.{mirror_of}

@@ -2,7 +2,8 @@
 use Rattle.std.specs.Prelude.{◌≡◌, ◌≢◌, ◌≤◌, ◌+◌, ℕ, Bool, true, false, List, [], ◌∷◌}
 use Rattle.std.specs.Prelude.{if◌then◌else◌}
 use Rattle.medium.specs.Medium.{Image}
-use Rattle.spec.specs.{Book.Book, UnitConversation.UnitStep, declared.event.Event.Event}
+use Rattle.logical_blocks.specs.Book.{Book}
+use Rattle.spec.specs.{UnitConversation.UnitStep, declared.event.Event.Event}
 use Rattle.spec.specs.declared.event.Answer.{Answer}
 use Rattle.window.specs.declared.{call.DeviceCall.DeviceCall, asked.Asked.Asked}
 use Rattle.window.specs.{declared.state.MachineState.MachineState, OutboxMedium.sent, Window.Window}

@@ -1,6 +1,7 @@
 -- What packets do to a machine.
 use Rattle.std.specs.Prelude.{◌≡◌, ◌≢◌, ◌⊎◌, ℕ, ◌<◌, ◌≤◌, Bool, true, false, ◌&&◌, List, length}
-use Rattle.spec.specs.{Book.Book, declared.event.Answer.Answer}
+use Rattle.logical_blocks.specs.Book.{Book}
+use Rattle.spec.specs.declared.event.Answer.{Answer}
 use Rattle.window.specs.{Window.state_of, declared.{ask.DeviceRead.DeviceRead, asked.Asked.Asked}}
 use Rattle.bot_machine.specs.{Disk.{FitsDisk, over}, Promising.{PromisesIn, PromisesNone}}
 use Rattle.scsi_unit.specs.{Calls.SendsOneBatch, UnitValue.IsOfSize}

@@ -2,7 +2,8 @@
 use Rattle.std.specs.Prelude.{◌≡◌, ◌≢◌, ◌⊎◌, ◌↔◌, ℕ, ◌+◌, ◌<◌, ◌≤◌, ◌++◌, Bool, true, false, List}
 use Rattle.std.specs.{Prelude.{length, drop, zero, suc}, List.list_all}
 use Rattle.medium.specs.{Sent.sent, Moments.IsUnchanged}
-use Rattle.spec.specs.{Book.Book, declared.event.{Event.Event, Answer.Answer}}
+use Rattle.logical_blocks.specs.Book.{Book}
+use Rattle.spec.specs.declared.event.{Event.Event, Answer.Answer}
 use Rattle.window.specs.Window.{Window, state_of, ComesAfter, CoversDevice, IsServed, AreOnDevice}
 use Rattle.window.specs.Window.{IsShown, is_in_sight}
 use Rattle.scsi_unit.specs.Background.{Work, Settle, IsSettled, is_dead, steps_left}

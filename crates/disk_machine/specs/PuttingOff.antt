@@ -1,7 +1,7 @@
 -- What a machine does with a packet that asks the medium for writes, before it is played.
 use Rattle.std.specs.Prelude.{◌≡◌, ◌≢◌, ◌⊎◌, ℕ, ◌+◌, ◌<◌, ◌≤◌, Bool, true, false, List, [], length}
 use Rattle.std.specs.Prelude.{Option, Some, None}
-use Rattle.spec.specs.Book.{Book}
+use Rattle.logical_blocks.specs.Book.{Book}
 use Rattle.scsi_unit.specs.Background.{Work, WriteBack, TellsWork, is_dead, steps_left}
 use Rattle.scsi_unit.specs.UnitValue.{IsOfSize}
 use Rattle.bot_machine.specs.{Disk.over, Promising.{PromisesIn, PromisesNone}}

@@ -1,7 +1,8 @@
 -- Nothing that a disk asks of its medium is refused: no write and no flush for want of room, and no
 -- read of a sector that is not in sight.
 use Rattle.std.specs.Prelude.{⊤, ◌≡◌, ◌⊎◌, ℕ, ◌+◌, ◌≤◌, List, length, true}
-use Rattle.spec.specs.{Book.Book, declared.event.Event.Event}
+use Rattle.logical_blocks.specs.Book.{Book}
+use Rattle.spec.specs.declared.event.Event.{Event}
 use Rattle.journal.specs.Places.{first_home}
 use Rattle.scsi_unit.specs.{Background.{IsWritten, IsPrepared}, Calls.most_sends_of}
 use Rattle.scsi_unit.specs.UnitValue.{IsOfSize}

@@ -1,7 +1,7 @@
 -- What calls that leave the outbox keep of a disk; and the device refused the call that was handed
 -- out last, of which the disk is told.
 use Rattle.std.specs.Prelude.{◌≡◌}
-use Rattle.spec.specs.Book.{Book}
+use Rattle.logical_blocks.specs.Book.{Book}
 use Rattle.window.specs.Window.{state_of}
 use Rattle.store_calls.specs.Outbox.{IsEmptied}
 use Rattle.bot_machine.specs.{Disk.{FitsDisk, IsRearmed, over}, Faulting.faulted_disk}

@@ -1,5 +1,5 @@
 -- The texts of a disk.
-use Rattle.spec.specs.Identification.{Identification}
+use Rattle.scsi.specs.Identification.{Identification}
 use Rattle.disk_machine.specs.declared.identity.UsbDiskIdentity.{UsbDiskIdentity}
 
 -- the texts that C gave

@@ -1,7 +1,8 @@
 -- What a host and a disk have said to each other in a call of a machine.
 use Rattle.std.specs.Prelude.{◌≡◌, ◌⊎◌, ◌++◌, ℕ, zero, suc, ◌*◌, Bool, false, List, [], ◌∷◌, drop}
 use Rattle.std.proofs.Common.{inl, inr}
-use Rattle.spec.specs.{Rules.UnitState, Conversation.Conversation, UnitConversation.UnitStep}
+use Rattle.scsi.specs.Rules.{UnitState}
+use Rattle.spec.specs.{Conversation.Conversation, UnitConversation.UnitStep}
 use Rattle.spec.specs.{UnitConversation.UnitRun, declared.event.{Event.Event, Answer.Answer}}
 use Rattle.bot_machine.specs.{Faulting.faulted_over, PacketRuns.packet_of}
 use Rattle.disk_machine.specs.{Idling.{HasGoneAhead, HasStepped, WorksAtRest, made_ahead}}

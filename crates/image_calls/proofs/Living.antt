@@ -3,7 +3,7 @@ use Rattle.std.proofs.Common.{◌≡◌, [], ◌∷◌, ℕ, List, inl, inr, ref
 use Rattle.std.specs.Prelude.{Bool, true, false, Option, Some, None}
 use Rattle.medium.specs.{Medium.{Image, State}, Moments.IsFlushed}
 use Rattle.window.specs.{OutboxMedium.sent, declared.call.DeviceCall.DeviceCall, Window.Window}
-use Rattle.spec.specs.{Blocks.Array}
+use Rattle.logical_blocks.specs.Blocks.{Array}
 use Rattle.journal.specs.{Places.{Shape, first_home, sectors_of}, Record.home_of, Standing.IsOurs}
 use Rattle.recovery.specs.{Calls.ImageLeaves, Recovered.IsMigrationBy, declared.recovered.Recovered.Recovered}
 use Rattle.image_calls.specs.{Formats.{BeginsMaking, BeginsFormat, BeginsLog, IsMaking, MakesParts}, Images.{IsMigratedOn, IsFinished}}

@@ -2,7 +2,7 @@
 use Rattle.std.proofs.Common.{◌≡◌, ◌⊎◌, inl, inr, ◌<◌, ◌≤◌, ℕ, List, Option, Some, None, length, sym, ◌∙◌, ap, subst, arith}
 use Rattle.medium.specs.{Medium.{State, Image, IsSound}, Moments.{IsUnchanged, IsFlushed}}
 use Rattle.medium.proofs.{Moments.then_unchanged, SparedSectors.{spared_joined, spared_unchanged}}
-use Rattle.spec.specs.{Blocks.Array}
+use Rattle.logical_blocks.specs.Blocks.{Array}
 use Rattle.window.specs.{Window.{Window, state_of, ComesAfter, CoversDevice}, WindowLaws.{is_sound, comes_after_through}}
 use Rattle.journal.specs.{Places.{Shape, sectors_of, first_home}, Sectors.{IsSuper, IsHead}, Standing.IsOurs, Record.home_of}
 use Rattle.recovery.specs.Calls.{ImageLeaves, IsMidway}

@@ -3,7 +3,7 @@ use Rattle.std.proofs.Common.{◌≡◌, ◌≢◌, inl, inr, ⊎_elim, ℕ, ◌
 use Rattle.std.proofs.{lemmas.Bool.cases_lt}
 use Rattle.std.specs.{Prelude.replicate}
 use Rattle.medium.specs.{Medium.{State, Image, CutLeaves, Holds, IsSound}, Moments.{IsFlushed, LeavesOnly, StaysWithin, SparesFrom}}
-use Rattle.spec.specs.{Blocks.Array}
+use Rattle.logical_blocks.specs.Blocks.{Array}
 use Rattle.medium.proofs.{Moments.{weaker, joined_same}, SparedSectors.{HasSpared, spared_joined}}
 use Rattle.journal.specs.{Places.{Shape, first_home, sectors_of}, Record.home_of, Standing.IsOurs, Sectors.{IsSuper, IsHead}}
 use Rattle.journal.specs.{Formats.shape_of, declared.super_sector.Super.Super}

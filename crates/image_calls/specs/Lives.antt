@@ -2,7 +2,7 @@
 use Rattle.std.specs.Prelude.{◌≡◌, ◌⊎◌, ◌≤◌, ℕ, Bool, List, [], ◌∷◌, length, replicate, None}
 use Rattle.std.specs.Prelude.{Result}
 use Rattle.medium.specs.{Medium.Image, Moments.EachCut}
-use Rattle.spec.specs.{Blocks.Array}
+use Rattle.logical_blocks.specs.Blocks.{Array}
 use Rattle.journal.specs.{Places.Shape, Record.home_of, Standing.IsOurs}
 use Rattle.recovery.specs.{Calls.IsMidway, Recovered.{IsOursForSome, IsOursInEither, StandsForSome}}
 use Rattle.window.specs.{Window.{Window, mirror_of}, OutboxMedium.sent, Device.{durable, after}}

@@ -2,7 +2,7 @@
 use Rattle.std.specs.Prelude.{◌≡◌, ℕ, suc, ◌+◌, ◌-◌, ◌<◌, ◌≤◌, List, replicate, Option}
 use Rattle.std.specs.Prelude.{Some, None}
 use Rattle.medium.specs.{Medium.{State, Image}, Sent.SendsUpTo}
-use Rattle.spec.specs.{Blocks.Array}
+use Rattle.logical_blocks.specs.Blocks.{Array}
 use Rattle.journal.specs.{Places.{Shape, first_home, sectors_of}, Formats.shape_of}
 use Rattle.journal.specs.{Record.home_of}
 use Rattle.recovery.specs.Calls.{IsFormatted, FormatLeaves, AreSizes, MakesNoRead, ImageLeaves}

@@ -2,7 +2,7 @@
 use Rattle.std.proofs.Common.{◌+◌, ◌≡◌, ◌⊎◌, ℕ, ◌<◌, ◌≤◌, zero, suc, List, [], inl, inr, ⊎_elim, refl, sym, ◌∙◌, subst, arith, length}
 use Rattle.std.specs.Prelude.{replicate, take, All}
 use Rattle.medium.specs.Medium.{Image, CutLeaves}
-use Rattle.spec.specs.Blocks.{Array}
+use Rattle.logical_blocks.specs.Blocks.{Array}
 use Rattle.window.{specs.{Device.{Device, put, after}, declared.call.DeviceCall.DeviceCall}, proofs.OutboxCalls.after-append}
 use Rattle.journal.specs.{Places.{Shape, first_home, sectors_of}, Sectors.{IsSuper, IsHead}, Standing.IsOurs}
 use Rattle.recovery.{specs.Calls.IsNoneOrNew, proofs.JoinedCalls.zeros_ours}

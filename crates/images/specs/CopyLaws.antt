@@ -1,7 +1,7 @@
 -- What a device holds that held zeros, and then carried out what a copy asks of it.
 use Rattle.std.specs.Prelude.{◌≡◌, ◌≤◌, ◌<◌, ℕ, List, ◌++◌, length, take, get_or, replicate, All}
 use Rattle.medium.specs.Medium.{Image, CutLeaves, Only}
-use Rattle.spec.specs.Blocks.{Array}
+use Rattle.logical_blocks.specs.Blocks.{Array}
 use Rattle.window.specs.{Device.{Device, after}, declared.call.DeviceCall.DeviceCall}
 use Rattle.window.specs.Window.{Window, state_of}
 use Rattle.journal.specs.{declared.super_sector.Super.Super, Places.{Shape, first_home, sectors_of}}

@@ -3,7 +3,7 @@ use Rattle.std.proofs.Common.{All, List, [], arith, ext_get_or, get_or, inl, inr
 use Rattle.std.proofs.{Common.{◌^◌, ◌∙◌, ◌∷◌, ◌≡◌, ◌≤◌, ◌⊎◌}, lemmas.{Bool.{cases_eq, cases_lt}, List.Elements.All-from_get_or}}
 use Rattle.std.{proofs.lemmas.List.{FromFn.{get_or-map-range_with_len, length-map-range_with_len}, ext_get_or}, specs.List.range_with_len}
 use Rattle.medium.specs.Medium.{Image}
-use Rattle.spec.specs.Blocks.{Array}
+use Rattle.logical_blocks.specs.Blocks.{Array}
 use Rattle.journal.specs.{Places.{Shape, sectors_of}, Sectors.{IsSuper, IsHead, spelling, number_in, super_mark, head_mark, version_of}}
 use Rattle.journal.specs.{Sectors.{IsRising, HasMagic, HasVersion, HasZeroRest}, Record.{Entry, with_records, home_of, numbers_of}}
 use Rattle.journal.specs.{Layout.{slot_at, IsWholeIn, Layout, AreEntries, HasWholeIn, part_at, Laws}, Formats.{layout_of, HasWhole}}

@@ -2,7 +2,7 @@
 use Rattle.std.proofs.Common.{◌≢◌, ℕ, ◌+◌, ◌*◌, ◌<◌, arith, ◌%◌, ◌⊎◌, zero, suc, ◌≡◌, List, [], ◌∷◌, ◌++◌, length, get_or, refl, ap, rules}
 use Rattle.std.proofs.{Common.{if◌then◌else◌, ◌==◌, ◌-◌, ◌≤◌, sym, ◌∙◌, subst}, lemmas.Nat.{rows, mod_below}, Math.Nat.div-add-mod}
 use Rattle.std.proofs.{lemmas.Bool.cases_eq, lemmas.Bool.Decides.nat_tests}
-use Rattle.spec.specs.Blocks.{Array}
+use Rattle.logical_blocks.specs.Blocks.{Array}
 use Rattle.journal.specs.{Record.{Entry, with_blocks, with_records, Hides, home_of, Agree}, declared.log_format.LogFormat.LogFormat}
 use Rattle.journal.specs.{Places.Shape, Layout.{Layout, IsWholeIn, CarriesBelowIn, KeepsIn, slot_at, Laws, IsRecordOf, by_part}}
 use Rattle.journal.specs.Formats.{layout_of, IsWhole}

@@ -2,7 +2,7 @@
 use Rattle.std.specs.Prelude.{◌≡◌, ◌<◌, ◌≤◌, ℕ, ◌+◌, ◌*◌, ◌-◌, ◌%◌, ◌^◌, List, [], length, get_or}
 use Rattle.std.specs.Prelude.{All, if◌then◌else◌, nat_lt, ◌⊎◌, replicate}
 use Rattle.medium.specs.Medium.{Image}
-use Rattle.spec.specs.Blocks.{Array}
+use Rattle.logical_blocks.specs.Blocks.{Array}
 use Rattle.journal.specs.{Places.Shape, Sectors.{IsSuper, IsHead, IsRising}}
 use Rattle.journal.specs.Record.{Entry, numbers_of, with_records, home_of}
 

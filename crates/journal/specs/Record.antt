@@ -4,7 +4,7 @@ use Rattle.std.specs.Prelude.{if◌then◌else◌, ◌==◌, ◌++◌, take, dro
 use Rattle.std.specs.Prelude.{◌-◌, ◌^◌, length, All}
 use Rattle.medium.specs.{Medium.{Image, State, Passes, LooksOnly}, Moments.IsQuiet}
 use Rattle.medium.specs.declared.fault.MediumFault.{MediumFault, TheVariants.Read}
-use Rattle.spec.specs.Blocks.{Array}
+use Rattle.logical_blocks.specs.Blocks.{Array}
 use Rattle.journal.specs.{Places.Shape, declared.log_format.LogFormat.{LogFormat, TheVariants.One}}
 use Rattle.journal.specs.{declared.log_format.LogFormat.TheVariants.Two, Sectors.IsRising}
 

@@ -5,7 +5,7 @@ use Rattle.journal.specs.{Sectors.{IsCommit, IsSuperFault}, Format2.{IsDescripto
 use Rattle.journal.specs.{Record.Entry, Layout.KeepsIn, Formats.{layout_of, HasWhole, CarriesBelow}}
 use Rattle.journal.specs.declared.super_fault.SuperFault.TheVariants.{Magic, Version, Rest, Sizes}
 use Rattle.medium.specs.Medium.{Image}
-use Rattle.spec.specs.Blocks.{Array}
+use Rattle.logical_blocks.specs.Blocks.{Array}
 
 -- a sector is a super, a head, or a descriptor or a commit of either format of one value only
 pub record SpellsOneValue : Type 0 where

@@ -2,7 +2,8 @@
 use Rattle.std.specs.Prelude.{◌≡◌, ◌⊎◌, ℕ, ◌*◌, ◌/◌, Bool, true, false, List, [], ◌∷◌, length, None}
 use Rattle.medium.specs.Inlet.{AreHeld}
 use Rattle.window.specs.{Window.CoversDevice, declared.call.DeviceCall.DeviceCall}
-use Rattle.spec.specs.{Book.Book, declared.event.Event.Event, declared.event.Answer.Answer}
+use Rattle.logical_blocks.specs.Book.{Book}
+use Rattle.spec.specs.declared.event.{Event.Event, Answer.Answer}
 use Rattle.bot_machine.specs.Disk.{FitsDisk, IsStep, IsRearmed}
 use Rattle.device_file.specs.{Asked.Told, Reads.AreRead}
 use Rattle.live.specs.FileWindows.{state_of, is_well, GoesOn, Shows, Carries}

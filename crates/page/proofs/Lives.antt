@@ -8,8 +8,7 @@ use Rattle.medium.specs.Moments.{IsFlushed}
 use Rattle.medium.specs.Sim.{Sim, state_of}
 use Rattle.medium.specs.SimLaws.{is_sound}
 use Rattle.medium.proofs.Moments.{only_image}
-use Rattle.spec.specs.Blocks.{Write}
-use Rattle.spec.specs.Book.{Book, StampsOut, after_first, opened, with_write}
+use Rattle.logical_blocks.specs.{Blocks.Write, Book.{Book, StampsOut, after_first, opened, with_write}}
 use Rattle.blocks.specs.Finding.{MayFind}
 use Rattle.blocks.specs.Opening.{OpensOn}
 use Rattle.blocks.specs.Started.{LeavesMedium}

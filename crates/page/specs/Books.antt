@@ -3,7 +3,7 @@ use Rattle.std.specs.Prelude.{◌≡◌, ◌⊎◌, ℕ, ◌≤◌, true, length
 use Rattle.medium.specs.Sim.{Sim, ComesAfter, IsCut, IsFused}
 use Rattle.medium.specs.Writes.{keeps}
 use Rattle.medium.specs.declared.kept.Kept.TheVariants.{Mask}
-use Rattle.spec.specs.Book.{Book, after_first, opened, with_write, promised}
+use Rattle.logical_blocks.specs.Book.{Book, after_first, opened, with_write, promised}
 use Rattle.blocks.specs.StoreValue.{StoreValue}
 use Rattle.page.specs.Causes.{Outcome, Answers, HasDied, EndsStart}
 use Rattle.page.specs.Extents.{filled}

@@ -2,7 +2,7 @@
 use Rattle.std.specs.Prelude.{◌≡◌, ◌⊎◌, ℕ, ◌<◌, true, Bool, ◌&&◌, if◌then◌else◌, Ok, Err, Result}
 use Rattle.medium.specs.Sim.{Sim, state_of, ComesAfter}
 use Rattle.medium.specs.declared.fault.MediumFault.TheVariants as call
-use Rattle.spec.specs.Book.{Book, StampsOut}
+use Rattle.logical_blocks.specs.Book.{Book, StampsOut}
 use Rattle.theorems.specs.Ahead.{may_go_by}
 use Rattle.recovery.specs.declared.start_fault.StartFault.{StartFault}
 use Rattle.blocks.specs.StoreValue.{StoreValue, blocks_of, layout_of, is_dead}

@@ -1,7 +1,6 @@
 -- The blocks of a command.
 use Rattle.std.specs.Prelude.{ℕ, ◌≤◌, ◌+◌, ◌*◌, replicate}
-use Rattle.spec.specs.Blocks.{Write}
-use Rattle.spec.specs.Book.{write_of}
+use Rattle.logical_blocks.specs.{Blocks.Write, Book.write_of}
 use Rattle.page.specs.declared.extent.Extent.{Extent}
 
 -- they are 1 to 32 blocks of a disk of so many

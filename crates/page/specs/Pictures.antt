@@ -4,7 +4,7 @@ use Rattle.byteorder.specs.Endian.{little_bytes}
 use Rattle.medium.specs.Sim.{Sim, state_of}
 use Rattle.medium.specs.declared.unflushed.UnflushedWrite.{UnflushedWrite}
 use Rattle.journal.specs.declared.super_sector.Super.{Super}
-use Rattle.spec.specs.Book.{Book, array_of, blocks_at}
+use Rattle.logical_blocks.specs.Book.{Book, array_of, blocks_at}
 use Rattle.page.specs.Standing.{medium_of}
 use Rattle.page.specs.declared.place.Place.{Place}
 use Rattle.page.specs.declared.place.Place.TheVariants.{Runs, Off, Between}

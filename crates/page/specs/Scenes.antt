@@ -2,7 +2,7 @@
 use Rattle.std.specs.Prelude.{◌≡◌, ◌≤◌, ◌-◌, ◌^◌, Bool, true, false, [], min, length}
 use Rattle.medium.specs.Moments.{EachCut, IsFlushed}
 use Rattle.medium.specs.Sim.{Sim, state_of, ComesAfter}
-use Rattle.spec.specs.Book.{Book}
+use Rattle.logical_blocks.specs.Book.{Book}
 use Rattle.recovery.specs.declared.start_fault.StartFault.{StartFault}
 use Rattle.blocks.specs.{Finding.MayFind, Started.IsStartCause}
 use Rattle.blocks.specs.StoreValue.{StoreValue, FitsBook, is_dead}

@@ -3,7 +3,7 @@ use Rattle.std.specs.Prelude.{◌≡◌, ℕ, ◌+◌, ◌*◌, ◌-◌, ◌/◌
 use Rattle.std.specs.Prelude.{[], ◌∷◌, ◌++◌, drop, slice_index, length, ◌≤◌, ◌⊎◌, ◌%◌}
 use Rattle.std.specs.Prelude.{slice_range, replicate, if◌then◌else◌, Ok, Err}
 use Rattle.byteorder.specs.Endian.{little_number}
-use Rattle.spec.specs.Book.{Book, opened}
+use Rattle.logical_blocks.specs.Book.{Book, opened}
 use Rattle.journal.specs.Places.{Shape, new_shape, slot_sectors_of}
 use Rattle.journal.specs.declared.super_sector.Super.{Super}
 use Rattle.journal.specs.Sectors.{version_of}

@@ -1,7 +1,7 @@
 -- Where a disk, its medium and its life stand.
 use Rattle.std.specs.Prelude.{◌≡◌, ◌+◌, ◌-◌, ◌^◌, min, Bool}
 use Rattle.medium.specs.Sim.{Sim}
-use Rattle.spec.specs.Book.{Book}
+use Rattle.logical_blocks.specs.Book.{Book}
 use Rattle.blocks.specs.StoreValue.{StoreValue}
 use Rattle.page.specs.declared.life.Life.{Life}
 use Rattle.page.specs.declared.place.Place.{Place}

@@ -1,5 +1,5 @@
 //! What a store does of a host's commands, and of the work in the background.
-ghost use Rattle.spec.specs.Book.{Book};
+ghost use Rattle.logical_blocks.specs.Book.{Book};
 ghost use Rattle.page.specs.Scenes.{Serves};
 
 use crate::extent::Extent;

@@ -2,7 +2,7 @@
 ghost use Rattle.std.specs.Prelude.{◌≡◌, true, MatchResult};
 ghost use Rattle.medium.specs.Moments.{IsFlushed};
 ghost use Rattle.medium.specs.Sim.{state_of};
-ghost use Rattle.spec.specs.Book.{Book};
+ghost use Rattle.logical_blocks.specs.Book.{Book};
 ghost use Rattle.page.specs.Scenes.{LeavesBook, IsStarted, IsLeft};
 
 use crate::watched::Watched;

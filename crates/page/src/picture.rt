@@ -1,7 +1,7 @@
 //! A scene as numbers and bytes.
 ghost use Rattle.std.specs.Prelude.{◌≡◌, ◌≤◌, ◌*◌, ◌++◌, IsTrue, IfSome, flat_map, length};
 ghost use Rattle.medium.specs.Sim.{state_of};
-ghost use Rattle.spec.specs.Book.{Book, array_of, blocks_at};
+ghost use Rattle.logical_blocks.specs.Book.{Book, array_of, blocks_at};
 ghost use Rattle.blocks.specs.StoreValue.{FitsBook, blocks_of};
 ghost use Rattle.page.specs.Scenes.{Shows, HoldsAt};
 ghost use Rattle.page.specs.Pictures.{numbers_of, served_by, spelled, medium_bytes, picture};

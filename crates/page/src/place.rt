@@ -1,7 +1,7 @@
 //! A disk that runs, or the medium that it leaves.
 ghost use Rattle.std.specs.Prelude.{◌≡◌, true};
 ghost use Rattle.medium.specs.Sim.{state_of};
-ghost use Rattle.spec.specs.Book.{Book};
+ghost use Rattle.logical_blocks.specs.Book.{Book};
 ghost use Rattle.blocks.specs.StoreValue.{FitsBook};
 ghost use Rattle.page.specs.Scenes.{HoldsAt, LeavesBook};
 ghost use Rattle.page.specs.Pictures.{place_code};

@@ -2,7 +2,7 @@
 ghost use Rattle.std.specs.Prelude.{◌≡◌, true, false, if◌then◌else◌};
 ghost use Rattle.medium.specs.Moments.{IsFlushed};
 ghost use Rattle.medium.specs.Sim.{state_of};
-ghost use Rattle.spec.specs.Book.{Book};
+ghost use Rattle.logical_blocks.specs.Book.{Book};
 ghost use Rattle.blocks.specs.StoreValue.{is_dead};
 ghost use Rattle.page.specs.Books.{IsArmed};
 ghost use Rattle.page.specs.Scenes.{LeavesBook, HoldsAt, Has, Plays, Shows, Commanded, Started};

@@ -1,7 +1,7 @@
 //! A script: a head, and steps.
 ghost use Rattle.std.specs.Prelude.{◌≡◌, ◌≤◌, ◌+◌, ◌-◌, ◌*◌, ◌/◌, ◌↔◌, [], length, slice_index};
 ghost use Rattle.std.specs.Prelude.{IfSome, is_some, false};
-ghost use Rattle.spec.specs.Book.{Book};
+ghost use Rattle.logical_blocks.specs.Book.{Book};
 ghost use Rattle.page.specs.Scenes.{Shows};
 ghost use Rattle.page.specs.Standing.{standing};
 ghost use Rattle.page.specs.Scripts.{code_of, step_at, HasReached, GoesOn, IsHead, IsScript};

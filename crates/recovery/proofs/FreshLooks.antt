@@ -4,7 +4,7 @@ use Rattle.std.proofs.lemmas.Nat.{mod_below}
 use Rattle.medium.specs.{Medium.{State, Image, IsSound}, declared.{medium_call.Call.Call, fault.MediumFault.MediumFault}}
 use Rattle.medium.specs.{Performed.{Performed, fault_of, IsWithin, IsReadBy}, Machine.{TellsCall, IsLeft}, Tally.{Tally, one_more}}
 use Rattle.medium.proofs.SectorsRead.{looks_joined, looks_wider}
-use Rattle.spec.specs.Blocks.{Array}
+use Rattle.logical_blocks.specs.Blocks.{Array}
 use Rattle.journal.specs.{Places.Shape, Layout.CarriesBelowIn, Format2.{format2, commit_place, IsCommitTwo}, Formats.CarriesBelow}
 use Rattle.journal.specs.{Formats.{HasWhole, layout_of, shape_of}, declared.{record.Record.Record, naming_stage.NamingStage.NamingStage}}
 use Rattle.journal.specs.{declared.log_format.LogFormat.TheVariants.Two, Naming.{IsReader, IsReading, IsKnown, IsToldAt, naming_place}}

@@ -8,7 +8,7 @@ use Rattle.medium.{specs.{declared.fault.MediumFault.MediumFault, Tally.{Tally, 
 use Rattle.medium.proofs.Moments.{updated, updated_here, updated_elsewhere, quiet_leaves, joined_same, weaker, quiet_call}
 use Rattle.medium.proofs.{SparedSectors.{HasSpared, spared_joined, spared_quiet}, SectorsRead.{looks_joined, looks_below}}
 use Rattle.medium.proofs.Tallies.{none_made, none_refused, refusal_counts, nothing_looked}
-use Rattle.spec.specs.Blocks.{Array}
+use Rattle.logical_blocks.specs.Blocks.{Array}
 use Rattle.journal.specs.{Record.{Entry, numbers_of, with_records, home_of, Hides, Agree}, Places.{Shape, first_home, sectors_of}}
 use Rattle.journal.specs.{Places.IsFirstHome, Formats.{layout_of, HasWhole, CarriesBelow}, Sectors.{IsSuper, IsHead}, Standing.IsOurs}
 use Rattle.journal.{specs.{Standing.{Keeps, HasShape}, Staged.{View, Resting}, Reading.IsRefusedCall}, proofs.Wholeness.IsWhole-one}

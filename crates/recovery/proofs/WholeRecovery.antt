@@ -6,7 +6,7 @@ use Rattle.medium.{specs.{Moments.SparesFrom, Sent.SendsUpTo, declared.fault.Med
 use Rattle.medium.proofs.{Moments.{at_exit, only_image, quiet_call, quiet_joined, quiet_leaves}, SparedSectors.spared_quiet}
 use Rattle.medium.proofs.{SparedSectors.{spared_joined, spared_behind}, CallsSent.{none_sent, flush_sends}, SectorsRead.no_looks}
 use Rattle.medium.proofs.SectorsRead.{looks_joined}
-use Rattle.spec.specs.Blocks.{Array}
+use Rattle.logical_blocks.specs.Blocks.{Array}
 use Rattle.journal.specs.{declared.log_format.LogFormat.{LogFormat, TheVariants.Two}, Places.{Shape, first_home, sectors_of, limit_of}}
 use Rattle.journal.{specs.{Formats.{shape_of, layout_of}, Record.home_of, Standing.{StandsFor, IsOurs, Stands}}, proofs.StandingLaws.Stood}
 use Rattle.journal.proofs.{StandingLaws.{StandsFor-shape, count_stands, heads, counts, StandsFor-one, HasFault-stands}, Formats.laws_of}

@@ -11,7 +11,7 @@ use Rattle.journal.specs.{Record.{Entry, numbers_of, with_records, home_of}, Pla
 use Rattle.journal.specs.{Places.{slot_sectors_of, IsFirstHome}, Standing.{HasShape, IsOurs}}
 use Rattle.journal.specs.{Sectors.{IsHead, IsSuper}, Format2.descriptors_of, Formats.IsWhole}
 use Rattle.journal.specs.{Formats.{shape_of, CarriesBelow}, Reading.IsRefusedCall, Naming.IsToldAt}
-use Rattle.spec.specs.Blocks.{Array}
+use Rattle.logical_blocks.specs.Blocks.{Array}
 use Rattle.recovery.specs.declared.format_fault.FormatFault.{FormatFault, TheVariants.BadSize}
 use Rattle.recovery.specs.declared.{format_fault.FormatFault.TheVariants.Medium, found.Found.Found}
 pub use Rattle.journal.specs.Places.{Shape, first_home, sectors_of}

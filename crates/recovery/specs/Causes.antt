@@ -13,7 +13,7 @@ use Rattle.journal.specs.{Record.Entry, Standing.{IsCount, StandsFor, Stands}}
 use Rattle.recovery.specs.{Calls.{most_reads_of, LooksAtLog}, declared.found.Found.Found}
 use Rattle.recovery.specs.declared.start_fault.StartFault.{StartFault}
 use Rattle.recovery.specs.declared.inspection.Inspection.{Inspection}
-use Rattle.spec.specs.Blocks.{Array}
+use Rattle.logical_blocks.specs.Blocks.{Array}
 pub use Rattle.journal.specs.Reading.{IsRefusedCall, MakesReadsAlone}
 use Rattle.medium.specs.declared.fault.MediumFault.TheVariants as medium
 use Rattle.recovery.specs.declared.start_fault.StartFault.TheVariants as fault

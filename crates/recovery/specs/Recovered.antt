@@ -3,7 +3,7 @@ use Rattle.std.specs.Prelude.{◌≡◌, ◌≢◌, ◌⊎◌, ℕ, ◌+◌, ◌
 use Rattle.std.specs.Prelude.{replicate, Bool, true, false}
 use Rattle.medium.specs.{Moments.{EachCut, IsFlushed, LeavesOnly, SparesFrom}, Medium.State}
 use Rattle.medium.specs.{Medium.{Image, CutLeaves}, Sent.SendsUpTo}
-use Rattle.spec.specs.Blocks.{Array}
+use Rattle.logical_blocks.specs.Blocks.{Array}
 use Rattle.journal.specs.{declared.log_format.LogFormat.TheVariants.{Two, One}, Places.Shape}
 use Rattle.journal.specs.Places.{first_home, sectors_of, slot_sectors_of, migrated, limit_of}
 use Rattle.journal.specs.{declared.log_format.LogFormat.LogFormat, Formats.{shape_of, HasWhole}}

@@ -4,7 +4,7 @@ use Rattle.std.specs.Prelude.{◌≡◌, ◌⊎◌, ℕ, ◌+◌, ◌*◌, ◌<�
 use Rattle.std.specs.Prelude.{IfErr, OnOk, false}
 use Rattle.medium.specs.{Tally.{Tally, none}, Medium.State, Moments.EachCut}
 use Rattle.medium.specs.declared.fault.MediumFault.{MediumFault}
-use Rattle.spec.specs.Blocks.{Array}
+use Rattle.logical_blocks.specs.Blocks.{Array}
 use Rattle.journal.specs.declared.log_format.LogFormat.{TheVariants.{One, Two}, LogFormat}
 use Rattle.journal.specs.{declared.super_sector.Super.Super, Places.{Shape, sectors_of, limit_of}}
 use Rattle.journal.specs.{Formats.shape_of, Naming.IsUnread, Reading.record_reads_of}

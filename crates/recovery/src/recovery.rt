@@ -2,7 +2,7 @@
 //! that is not whole.
 ghost use Rattle.std.specs.Prelude.{ℕ, OnOk, IfOk, IfErr};
 ghost use Rattle.medium.specs.Moments.{EachCut};
-ghost use Rattle.spec.specs.Blocks.{Array};
+ghost use Rattle.logical_blocks.specs.Blocks.{Array};
 ghost use Rattle.journal.specs.Places.{Shape};
 ghost use Rattle.journal.specs.Standing.{IsOurs};
 ghost use Rattle.recovery.specs.Recovered.{IsRecoveredFrom, IsRecoveryRefusal, IsFresh};

@@ -7,7 +7,7 @@ use Rattle.medium.specs.{Medium.{State, Image, CutLeaves, IsSound, Holds, Gains}
 use Rattle.medium.specs.{declared.fault.MediumFault.MediumFault, declared.medium_call.Call.TheVariants.{Write, Flush}, Performed.IsDone}
 use Rattle.medium.specs.{Performed.{IsWithin, Performed}, declared.medium_call.Call.Call}
 use Rattle.medium.proofs.Moments.{updated_elsewhere, shrunk, one_call, each_write, each_flush}
-use Rattle.spec.specs.Blocks.{Array}
+use Rattle.logical_blocks.specs.Blocks.{Array}
 use Rattle.journal.specs.{Places.{Shape, sectors_of, first_home}, Format2.firsts_of, Standing.{Keeps, IsOurs}, Layout.{Layout, part_at}}
 use Rattle.journal.specs.{Layout.IsRecordOf, Formats.layout_of, Record.{Entry, with_blocks, entries_of, numbers_of}}
 use Rattle.journal.proofs.{BatchEntries.{numbers_of_batch, length_of_batch, sized_batch}, Formats.laws_of, Engine.rests_found}

@@ -3,7 +3,7 @@ use Rattle.std.proofs.Common.{◌≡◌, ℕ, ◌+◌, ◌/◌, Bool, true, fals
 use Rattle.std.proofs.Common.{inr, arith, append_assoc}
 use Rattle.std.proofs.lemmas.Bool.{cases_Bool}
 use Rattle.std.specs.Prelude.{map}
-use Rattle.spec.specs.Blocks.{Array}
+use Rattle.logical_blocks.specs.Blocks.{Array}
 use Rattle.medium.specs.Medium.{Image}
 use Rattle.medium.specs.Moments.{EachCut, IsFlushed}
 use Rattle.medium.specs.Sim.{Sim, state_of, size_of, content_of, IsCut}
@@ -12,7 +12,7 @@ use Rattle.medium.specs.Writes.{sector_of, are_whole, keeps}
 use Rattle.medium.proofs.KeptBlocks.{kept_allowed, none_size, none_content, none_flushed}
 use Rattle.medium.proofs.Moments.{only_image, content_has}
 use Rattle.journal.specs.Places.{limit_of, migrated}
-use Rattle.spec.specs.Book.{Book, opened}
+use Rattle.logical_blocks.specs.Book.{Book, opened}
 use Rattle.bot_machine.specs.Books.{StandsAs}
 use Rattle.bot_machine.specs.Device.{presented, Device}
 use Rattle.spec.specs.declared.event.Event.{Event}

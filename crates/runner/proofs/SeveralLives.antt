@@ -8,7 +8,8 @@ use Rattle.bot_machine.specs.Lifetimes.{KeepsPromise, KeepsPromiseUpTo, IsRefuse
 use Rattle.bot_machine.specs.LivesValue.{LivesValue, LivesRefuseStart, HasLimit, FitsLives, OpensOn, faults_armed}
 use Rattle.bot_machine.specs.Moving.{medium_in, has_refused, MovesBy}
 use Rattle.bot_machine.proofs.{LifeRuns.{first_fits, more_refused}, Moved.few_causes, Runs.refused_events-append}
-use Rattle.spec.specs.{Book.Book, declared.event.Answer.Answer, Promise.{first_standing, AreKept, AreKeptUpTo}}
+use Rattle.logical_blocks.specs.Book.{Book}
+use Rattle.spec.specs.{declared.event.Answer.Answer, Promise.{first_standing, AreKept, AreKeptUpTo}}
 use Rattle.spec.specs.{Disks.prompt_disk, Lives.{Action, plays, Standing, LivesRun}}
 use Rattle.runner.specs.{declared.fault.ScriptFault.ScriptFault, declared.fault.ScriptFault.TheVariants.{Start, Writer}}
 use Rattle.runner.specs.{Lifetimes.{LineActs, AreMoved, AreStopped, AwaitsLife}, declared.line.ScriptKind.TheVariants.Lives}

@@ -5,7 +5,8 @@ use Rattle.medium.specs.Sim.{Sim, state_of, IsCut}
 use Rattle.journal.specs.{declared.log_format.LogFormat.TheVariants.Two, Places.limit_of}
 use Rattle.recovery.specs.{Calls.{Shape, IsFormatted}, Recovered.IsMigratedFrom}
 use Rattle.recovery.specs.declared.recovered.Recovered.{Recovered}
-use Rattle.spec.specs.{Book.{Book, opened}, declared.event.Answer.Answer, Lives.Opens}
+use Rattle.logical_blocks.specs.Book.{Book, opened}
+use Rattle.spec.specs.{declared.event.Answer.Answer, Lives.Opens}
 use Rattle.bot_machine.specs.{Device.Device, declared.lives.life.Life.Life}
 use Rattle.bot_machine.specs.{LivesValue.{OpensOn, HasLimit, IsAtRest}, Lifetimes.AreLived}
 

@@ -1,8 +1,9 @@
 -- What a script of one life plays, and its text.
 use Rattle.std.specs.Prelude.{◌≡◌, ◌≤◌, ℕ, ◌+◌, Bool, true, List, [], ◌∷◌, ◌++◌, length, All, codes}
 use Rattle.medium.specs.{Medium.State, Moments.EachCut}
-use Rattle.spec.specs.{Blocks.Array, Identification.Identification, Book.{Book, opened}}
-use Rattle.spec.specs.{Rules.{UnitState, opened_unit}, declared.event.Event.Event}
+use Rattle.logical_blocks.specs.{Blocks.Array, Book.{Book, opened}}
+use Rattle.scsi.specs.{Identification.Identification, Rules.{UnitState, opened_unit}}
+use Rattle.spec.specs.declared.event.Event.{Event}
 use Rattle.spec.specs.{declared.event.Answer.Answer, Exchange.at_rest}
 use Rattle.spec.specs.Conversation.{Conversation, refused_events}
 use Rattle.spec.specs.UnitConversation.{UnitRun, on_line}

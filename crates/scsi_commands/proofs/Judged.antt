@@ -1,6 +1,6 @@
 use Rattle.std.proofs.Common.{◌≡◌, List, [], ◌∷◌, ◌++◌, true, Result, Ok, Err, refl, sym, ◌∙◌, arith}
 use Rattle.std.specs.Prelude.{IfOk, IfErr, ⊤}
-use Rattle.spec.specs.{Sense.Sense, Judging.{Test, judged}}
+use Rattle.scsi.specs.{Sense.Sense, Judging.{Test, judged}}
 
 -- where the first tests are passed, the others decide
 pub judged_after : {A B : Type 0} (tests more : List Test) (first found : A) (value : B)

@@ -1,6 +1,6 @@
 -- What a parameter list with a caching mode page carries.
 use Rattle.std.proofs.Common.{◌≡◌, ◌++◌, ◌∙◌, ℕ, Bool, true, false, List, Result, Ok, Option, Some, refl, ap}
-use Rattle.spec.specs.{Sense.Sense, ModePage.{caching_page, mode_header, selected_bit}}
+use Rattle.scsi.specs.{Sense.Sense, ModePage.{caching_page, mode_header, selected_bit}}
 
 -- a header and a caching page carry the page's bit
 carries :

@@ -2,9 +2,9 @@ use Rattle.std.proofs.Common.{◌≡◌, ◌≤◌, ◌<◌, ◌+◌, ◌-◌, �
 use Rattle.std.proofs.{Common.{length-append, length-drop}, Math.ListN.get_or-append, lemmas.List.drop-append-le, lemmas.Bool.le-leb}
 use Rattle.std.specs.Prelude.{find}
 use Rattle.byteorder.specs.{Endian.big_number, Numbers.big_from-append}
-use Rattle.spec.specs.{Judging.{Test, judged}, Commands.{Row, byte_at, number_at, form_tests, judged_by, judged_by_row, command_of, table}}
-use Rattle.spec.specs.Commands.{request_sense, inquiry, mode_select, mode_sense, read_capacity_16}
-use Rattle.spec.specs.Commands.{read_10, write_10, read_16, write_16, synchronize_cache_10, synchronize_cache_16}
+use Rattle.scsi.specs.{Judging.{Test, judged}, Commands.{Row, byte_at, number_at, form_tests, judged_by, judged_by_row, command_of, table}}
+use Rattle.scsi.specs.Commands.{request_sense, inquiry, mode_select, mode_sense, read_capacity_16}
+use Rattle.scsi.specs.Commands.{read_10, write_10, read_16, write_16, synchronize_cache_10, synchronize_cache_16}
 use Rattle.scsi_commands.specs.Supported.{command_size}
 use Rattle.scsi_commands.proofs.Rows.{by_same_rows}
 

@@ -1,13 +1,11 @@
 use Rattle.std.proofs.Common.{◌≡◌, ◌≤◌, ◌+◌, ℕ, List, [], ◌∷◌, ◌++◌, Bool, true, Some, None, Result, refl, inl, rules, arith}
 use Rattle.std.proofs.{Common.inr, lemmas.Bool.Decides.nat_tests}
 use Rattle.std.specs.Prelude.{IfOk, IfErr, if◌then◌else◌}
-use Rattle.spec.specs.{Sense.Sense, Judging.{Test, judged}, SenseCodes.{invalid_field_in_cdb, logical_block_address_out_of_range}}
-use Rattle.spec.specs.{SenseCodes.{parameter_list_length_error, saving_parameters_not_supported}, declared.command.Command.Command}
-use Rattle.spec.specs.{declared.command.Command.TheVariants.Inquiry, declared.command.Transfer.Transfer}
-use Rattle.spec.specs.{declared.command.BlockRange.BlockRange, Commands.{byte_at, is_one_of, form_tests}}
-use Rattle.spec.specs.Commands.{command_of, table}
-use Rattle.spec.specs.Commands.{transfer_tests, range_tests}
-use Rattle.spec.specs.{Commands.mode_sense_tests, Inquiry.page_codes}
+use Rattle.scsi.specs.{Sense.Sense, Judging.{Test, judged}, SenseCodes.{invalid_field_in_cdb, logical_block_address_out_of_range}}
+use Rattle.scsi.specs.{SenseCodes.{parameter_list_length_error, saving_parameters_not_supported}, declared.command.Command.Command}
+use Rattle.scsi.specs.{declared.command.{Command.TheVariants.Inquiry, Transfer.Transfer, BlockRange.BlockRange}, Commands.byte_at}
+use Rattle.scsi.specs.Commands.{is_one_of, form_tests, command_of, table, transfer_tests, range_tests, mode_sense_tests}
+use Rattle.scsi.specs.Inquiry.{page_codes}
 use Rattle.scsi_commands.specs.Supported.{IsWithin, HasModePage, IsSupported, IsRefusal}
 use Rattle.scsi_commands.proofs.{Judged.{AllPassed, AllRefuse, AllPassed-last, AllRefuse-append, IfOk-judged, IfErr-judged}, Rows.by_rows}
 

@@ -1,8 +1,8 @@
 use Rattle.std.proofs.Common.{◌≡◌, ◌==◌, ℕ, List, [], ◌∷◌, Result, Err, refl, arith}
 use Rattle.std.specs.Prelude.{⊤, find}
 use Rattle.std.proofs.lemmas.Bool.Decides.{nat_tests}
-use Rattle.spec.specs.{Sense.Sense, SenseCodes.invalid_command_operation_code, declared.command.Command.Command}
-use Rattle.spec.specs.Commands.{Row, judged_by, judged_by_row}
+use Rattle.scsi.specs.{Sense.Sense, SenseCodes.invalid_command_operation_code, declared.command.Command.Command}
+use Rattle.scsi.specs.Commands.{Row, judged_by, judged_by_row}
 
 -- what each row of an operation code says of a block has a property
 abbrev pub EachRow : (Result Command Sense → Type 0) → List ℕ → ℕ → List Row → Type 0

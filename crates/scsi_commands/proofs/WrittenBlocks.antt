@@ -2,13 +2,12 @@ use Rattle.std.proofs.Common.{◌≡◌, ◌≤◌, ◌<◌, ◌+◌, ◌*◌, �
 use Rattle.std.proofs.{Common.{refl, ap, ◌∙◌, length, drop, arith}, lemmas.Bool.{le-leb}}
 use Rattle.std.proofs.{lemmas.Bool.Decides.nat_tests, lemmas.Nat.{shr_high, mod_low}}
 use Rattle.byteorder.specs.{Endian.{big_number, big_bytes}, Numbers.big_number-reads_back}
-use Rattle.spec.specs.{declared.command.Command.Command, declared.command.Command.TheVariants.{TestUnitReady, RequestSense, Inquiry}}
-use Rattle.spec.specs.declared.command.Command.TheVariants.{ModeSelect, ModeSense, ReadCapacity10, Read10, Write10, SynchronizeCache10}
-use Rattle.spec.specs.declared.command.Command.TheVariants.{Read16, Write16, SynchronizeCache16, ReadCapacity16}
-use Rattle.spec.specs.{declared.command.Transfer.Transfer, declared.command.BlockRange.BlockRange, Commands.{Row, number_at, is_one_of}}
-use Rattle.spec.specs.Commands.{form_tests, transfer_flags, transfer_tests, range_tests, transfer_10, transfer_16, range_10, range_16}
-use Rattle.spec.specs.Commands.{synchronize_flags, mode_sense_tests, judged_by, command_of, inquiry, mode_select, mode_sense}
-use Rattle.spec.specs.Commands.{read_capacity_16}
+use Rattle.scsi.specs.declared.command.Command.{Command, TheVariants.{TestUnitReady, RequestSense, Inquiry, ModeSelect, ModeSense}}
+use Rattle.scsi.specs.declared.command.Command.TheVariants.{ReadCapacity10, Read10, Write10, SynchronizeCache10, Read16, Write16}
+use Rattle.scsi.specs.declared.command.{Command.TheVariants.{SynchronizeCache16, ReadCapacity16}, Transfer.Transfer, BlockRange.BlockRange}
+use Rattle.scsi.specs.Commands.{Row, number_at, is_one_of, form_tests, transfer_flags, transfer_tests, range_tests, transfer_10}
+use Rattle.scsi.specs.Commands.{transfer_16, range_10, range_16, synchronize_flags, mode_sense_tests, judged_by, command_of, inquiry}
+use Rattle.scsi.specs.Commands.{mode_select, mode_sense, read_capacity_16}
 use Rattle.scsi_commands.specs.Supported.{IsWithin, HasModePage, IsSupported}
 use Rattle.scsi_commands.specs.Written.{FitsFields, block_of, fua_bit, ten_bytes, sixteen_bytes}
 use Rattle.scsi_commands.proofs.Judged.{AllPassed, AllPassed-append, judged_all}

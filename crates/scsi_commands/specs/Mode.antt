@@ -1,6 +1,6 @@
 -- Mode parameters (SPC-4, 7.5) with the caching mode page (SBC-3).
 use Rattle.std.specs.Prelude.{◌≡◌, ◌⊎◌, ◌+◌, slice_index, ℕ, Bool, List, [], ◌++◌}
-use Rattle.spec.specs.ModePage.{caching_page, mode_header}
+use Rattle.scsi.specs.ModePage.{caching_page, mode_header}
 
 -- mode data of this size count themselves: what follows byte 0, and what of the page follows its
 -- byte 1

@@ -1,16 +1,16 @@
 -- What the device carries out of what a command may ask, and how a command is refused.
 use Rattle.std.specs.Prelude.{◌≡◌, ◌+◌, ◌<◌, ◌≤◌, ◌⊎◌, ℕ, [], ◌∷◌, Some, None, IsTrue, ⊤}
 use Rattle.std.specs.Prelude.{if◌then◌else◌, nat_lt}
-use Rattle.spec.specs.{Sense.Sense, SenseCodes.invalid_command_operation_code}
-use Rattle.spec.specs.SenseCodes.{invalid_field_in_cdb, logical_block_address_out_of_range}
-use Rattle.spec.specs.SenseCodes.{parameter_list_length_error, saving_parameters_not_supported}
-use Rattle.spec.specs.{declared.command.Transfer.Transfer, declared.command.Command.Command}
-use Rattle.spec.specs.declared.command.Command.TheVariants.{TestUnitReady, RequestSense, Inquiry}
-use Rattle.spec.specs.declared.command.Command.TheVariants.{ModeSelect, ModeSense, ReadCapacity10}
-use Rattle.spec.specs.declared.command.Command.TheVariants.{Read10, Write10, SynchronizeCache10}
-use Rattle.spec.specs.declared.command.Command.TheVariants.{Read16, Write16, SynchronizeCache16}
-use Rattle.spec.specs.{declared.command.Command.TheVariants.ReadCapacity16, Commands.is_one_of}
-use Rattle.spec.specs.Inquiry.{page_codes}
+use Rattle.scsi.specs.{Sense.Sense, SenseCodes.invalid_command_operation_code}
+use Rattle.scsi.specs.SenseCodes.{invalid_field_in_cdb, logical_block_address_out_of_range}
+use Rattle.scsi.specs.SenseCodes.{parameter_list_length_error, saving_parameters_not_supported}
+use Rattle.scsi.specs.declared.command.{Transfer.Transfer, Command.Command}
+use Rattle.scsi.specs.declared.command.Command.TheVariants.{TestUnitReady, RequestSense, Inquiry}
+use Rattle.scsi.specs.declared.command.Command.TheVariants.{ModeSelect, ModeSense, ReadCapacity10}
+use Rattle.scsi.specs.declared.command.Command.TheVariants.{Read10, Write10, SynchronizeCache10}
+use Rattle.scsi.specs.declared.command.Command.TheVariants.{Read16, Write16, SynchronizeCache16}
+use Rattle.scsi.specs.{declared.command.Command.TheVariants.ReadCapacity16, Commands.is_one_of}
+use Rattle.scsi.specs.Inquiry.{page_codes}
 
 -- a READ or WRITE that moves at most `limit` blocks, all of them on a medium of n blocks
 pub record IsWithin (n limit : ℕ) (transfer : Transfer) : Type 0 where

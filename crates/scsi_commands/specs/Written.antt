@@ -3,12 +3,11 @@
 use Rattle.std.specs.Prelude.{◌+◌, ◌*◌, ◌<◌, ◌^◌, ℕ, Bool, List, [], ◌∷◌, ◌++◌, Some, None, ⊤}
 use Rattle.std.specs.Prelude.{if◌then◌else◌}
 use Rattle.byteorder.specs.Endian.{big_bytes}
-use Rattle.spec.specs.declared.command.Command.{Command}
-use Rattle.spec.specs.declared.command.Command.TheVariants.{TestUnitReady, RequestSense, Inquiry}
-use Rattle.spec.specs.declared.command.Command.TheVariants.{ModeSelect, ModeSense, ReadCapacity10}
-use Rattle.spec.specs.declared.command.Command.TheVariants.{Read10, Write10, SynchronizeCache10}
-use Rattle.spec.specs.declared.command.Command.TheVariants.{Read16, Write16, SynchronizeCache16}
-use Rattle.spec.specs.declared.command.Command.TheVariants.{ReadCapacity16}
+use Rattle.scsi.specs.declared.command.Command.{Command, TheVariants.{TestUnitReady, RequestSense}}
+use Rattle.scsi.specs.declared.command.Command.TheVariants.{Inquiry, ModeSelect, ModeSense}
+use Rattle.scsi.specs.declared.command.Command.TheVariants.{ReadCapacity10, Read10, Write10}
+use Rattle.scsi.specs.declared.command.Command.TheVariants.{SynchronizeCache10, Read16, Write16}
+use Rattle.scsi.specs.declared.command.Command.TheVariants.{SynchronizeCache16, ReadCapacity16}
 
 -- each number fits its field
 abbrev pub FitsFields : Command → Type 0

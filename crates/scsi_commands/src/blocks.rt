@@ -3,16 +3,15 @@
 #![tactic(auto, using(crate::proofs::Judged::judging))]
 
 ghost use Rattle.std.specs.Prelude.{◌≡◌, ◌≤◌, ◌++◌, length};
-ghost use Rattle.spec.specs.declared.command.Transfer.{Transfer};
-ghost use Rattle.spec.specs.Judging.{judged};
-ghost use Rattle.spec.specs.Commands.{judged_by, flag_at, form_tests, range_tests, range_10};
-ghost use Rattle.spec.specs.Commands.{range_16, transfer_tests, transfer_10, transfer_16};
-ghost use Rattle.spec.specs.Commands.{transfer_flags, synchronize_flags, read_capacity_10};
-ghost use Rattle.spec.specs.Commands.{read_capacity_16};
+ghost use Rattle.scsi.specs.{declared.command.Transfer.Transfer, Judging.judged};
+ghost use Rattle.scsi.specs.Commands.{judged_by, flag_at, form_tests, range_tests, range_10};
+ghost use Rattle.scsi.specs.Commands.{range_16, transfer_tests, transfer_10, transfer_16};
+ghost use Rattle.scsi.specs.Commands.{transfer_flags, synchronize_flags, read_capacity_10};
+ghost use Rattle.scsi.specs.Commands.{read_capacity_16};
 
 use crate::codes::Sense;
 use crate::form::{check_form, u16_at, u32_at, u64_at};
-use spec::{BlockRange, Command, Transfer};
+use scsi::{BlockRange, Command, Transfer};
 
 /// Disable page out, in byte 1 of READ and WRITE: advice to a cache, which is ignored.
 const DPO: u8 = 0x10;

@@ -1,9 +1,7 @@
 //! The caching mode page, and the mode data that has it.
 ghost use Rattle.std.specs.Prelude.{◌≡◌, ℕ, Bool, ◌++◌, IfOk, OnOk, OnErr};
-ghost use Rattle.spec.specs.Judging.{judged};
-ghost use Rattle.spec.specs.Commands.{mode_sense_tests};
-ghost use Rattle.spec.specs.ModePage.{mode_header, caching_page, mode_data};
-ghost use Rattle.spec.specs.ModePage.{mode_select_answer, selected_bit};
+ghost use Rattle.scsi.specs.{Judging.judged, Commands.mode_sense_tests, ModePage.mode_header};
+ghost use Rattle.scsi.specs.ModePage.{caching_page, mode_data, mode_select_answer, selected_bit};
 ghost use Rattle.scsi_commands.specs.Mode.{CountsItself, Selects};
 
 use crate::codes::Sense;
@@ -27,7 +25,7 @@ const ALL_PAGES: u8 = 0x3f;
 const DPO_AND_FUA: u8 = 0x10;
 
 // The caching mode page, with the write cache enabled or not (SBC-3, caching mode page).
-#[tactic(auto, unfolding(spec::specs::ModePage::caching_page))]
+#[tactic(auto, unfolding(scsi::specs::ModePage::caching_page))]
 fn caching_page(wce: bool) -> [u8; 20]
     ensures { result ≡ caching_page wce }
 {
@@ -39,7 +37,7 @@ fn caching_page(wce: bool) -> [u8; 20]
 }
 
 // The caching mode page behind a mode parameter header that tells that FUA is served.
-#[tactic(auto, unfolding(spec::specs::ModePage::caching_page))]
+#[tactic(auto, unfolding(scsi::specs::ModePage::caching_page))]
 fn mode_parameters(wce: bool) -> [u8; 24]
     ensures bytes { result ≡ mode_header 0x17 0x10 ++ caching_page wce }
     ensures counted { CountsItself result 24 }

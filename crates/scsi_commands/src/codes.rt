@@ -1,9 +1,9 @@
 //! Sense keys and additional sense codes.
 ghost use Rattle.std.specs.Prelude.{◌≡◌, length, drop, slice_index};
-ghost use Rattle.spec.specs.Sense as value;
-ghost use Rattle.spec.specs.FixedSense.{fixed_sense};
+ghost use Rattle.scsi.specs.Sense as value;
+ghost use Rattle.scsi.specs.FixedSense.{fixed_sense};
 
-use spec::SenseKey;
+use scsi::SenseKey;
 use std::marker::Model;
 
 /// Why a command failed: a sense key, an additional sense code and its qualifier (SPC-4 4.5.6).
@@ -111,7 +111,7 @@ impl Sense {
     };
 
     /// The sense as fixed-format sense data of a current error (SPC-4 4.5.3).
-    #[tactic(auto, unfolding(spec::specs::FixedSense::fixed_sense))]
+    #[tactic(auto, unfolding(scsi::specs::FixedSense::fixed_sense))]
     pub fn encode18(&self) -> [u8; 18]
         ensures bytes { result ≡ fixed_sense self.now }
         ensures counted { slice_index result 7 ≡ length (drop 8 result) }

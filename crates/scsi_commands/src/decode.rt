@@ -1,8 +1,8 @@
 //! How a command descriptor block is decoded.
 ghost use Rattle.std.specs.Prelude.{◌≡◌, ◌≤◌, ◌++◌, ℕ, List, IfErr, IfOk, length};
-ghost use Rattle.spec.specs.declared.command.Command.{Command};
+ghost use Rattle.scsi.specs.declared.command.Command.{Command};
 ghost use Rattle.scsi_commands.specs.Supported.{IsRefusal, IsSupported, command_size};
-ghost use Rattle.spec.specs.Commands.{byte_at, command_of};
+ghost use Rattle.scsi.specs.Commands.{byte_at, command_of};
 ghost use Rattle.scsi_commands.specs.Written.{FitsFields, block_of};
 
 use crate::blocks::{
@@ -10,7 +10,7 @@ use crate::blocks::{
 };
 use crate::codes::Sense;
 use crate::device::{inquiry, mode_select, mode_sense, request_sense, test_unit_ready};
-use spec::Command;
+use scsi::Command;
 
 /// The command in a command descriptor block, or the sense with which it is refused: for a medium
 /// of `n` blocks, and transfers of at most `limit` blocks.
@@ -52,7 +52,7 @@ pub fn operation_code(block: &[u8]) -> u8
 }
 
 // The command by its operation code.
-#[tactic(auto, using(crate::proofs::Judged::judging), unfolding(spec::specs::Commands::command_of))]
+#[tactic(auto, using(crate::proofs::Judged::judging), unfolding(scsi::specs::Commands::command_of))]
 fn by_operation_code(block: &[u8], n: u64, limit: u32) -> Result<Command, Sense>
     ensures { result ≡ command_of n limit block.now }
 {

@@ -3,14 +3,13 @@
 #![tactic(auto, using(crate::proofs::Judged::judging))]
 
 ghost use Rattle.std.specs.Prelude.{◌≡◌, ◌<◌, ◌≤◌, length};
-ghost use Rattle.spec.specs.Judging.{judged};
-ghost use Rattle.spec.specs.Commands.{judged_by, test_unit_ready, request_sense, inquiry};
-ghost use Rattle.spec.specs.Commands.{inquiry_page, inquiry_tests, mode_select, mode_sense};
-ghost use Rattle.spec.specs.Commands.{mode_sense_tests};
+ghost use Rattle.scsi.specs.{Judging.judged, Commands.{judged_by, test_unit_ready, request_sense}};
+ghost use Rattle.scsi.specs.Commands.{inquiry, inquiry_page, inquiry_tests, mode_select};
+ghost use Rattle.scsi.specs.Commands.{mode_sense, mode_sense_tests};
 
 use crate::codes::Sense;
 use crate::form::{check_form, u16_at};
-use spec::Command;
+use scsi::Command;
 
 /// Enable vital product data, in byte 1 of INQUIRY.
 const EVPD: u8 = 0x01;

@@ -1,14 +1,13 @@
 //! The form of a command descriptor block: its length, its control byte, its numbers.
 ghost use Rattle.std.specs.Prelude.{◌≡◌, ◌<◌, ◌≤◌, ◌+◌, OnOk, length};
-ghost use Rattle.spec.specs.Judging.{judged};
-ghost use Rattle.spec.specs.Commands.{form_tests, number_at};
+ghost use Rattle.scsi.specs.{Judging.judged, Commands.{form_tests, number_at}};
 
 use crate::codes::Sense;
 use byteorder::{BigEndian, ByteOrder};
 
 /// Refuses a block with less than `size` bytes, whose control byte, the last of these, is not 0, or
 /// whose byte 1 has none of the values allowed.
-#[tactic(auto, unfolding(spec::specs::Commands::form_tests))]
+#[tactic(auto, unfolding(scsi::specs::Commands::form_tests))]
 pub(crate) fn check_form(block: &[u8], size: usize, allowed: &[u8]) -> Result<(), Sense>
     requires { 1 < size }
     ensures judged { result ≡ judged (form_tests size allowed.now block.now) tt }
@@ -21,7 +20,7 @@ pub(crate) fn check_form(block: &[u8], size: usize, allowed: &[u8]) -> Result<()
 }
 
 /// The number in the two bytes from `place` on.
-#[tactic(auto, unfolding(spec::specs::Commands::number_at))]
+#[tactic(auto, unfolding(scsi::specs::Commands::number_at))]
 pub(crate) fn u16_at(block: &[u8], place: usize) -> u16
     requires { place + 2 ≤ length block.now }
     ensures { result ≡ number_at place 2 block.now }
@@ -30,7 +29,7 @@ pub(crate) fn u16_at(block: &[u8], place: usize) -> u16
 }
 
 /// The number in the four bytes from `place` on.
-#[tactic(auto, unfolding(spec::specs::Commands::number_at))]
+#[tactic(auto, unfolding(scsi::specs::Commands::number_at))]
 pub(crate) fn u32_at(block: &[u8], place: usize) -> u32
     requires { place + 4 ≤ length block.now }
     ensures { result ≡ number_at place 4 block.now }
@@ -39,7 +38,7 @@ pub(crate) fn u32_at(block: &[u8], place: usize) -> u32
 }
 
 /// The number in the eight bytes from `place` on.
-#[tactic(auto, unfolding(spec::specs::Commands::number_at))]
+#[tactic(auto, unfolding(scsi::specs::Commands::number_at))]
 pub(crate) fn u64_at(block: &[u8], place: usize) -> u64
     requires { place + 8 ≤ length block.now }
     ensures { result ≡ number_at place 8 block.now }

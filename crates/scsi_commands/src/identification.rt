@@ -1,9 +1,9 @@
 //! The texts by which a disk is known, and the pages that tell them.
 ghost use Rattle.std.specs.Prelude.{◌≡◌, ◌↔◌, None, option_map, take, unwrap_or, All, Contains};
 ghost use Rattle.std.specs.Prelude.{IfSome, IsSome, IsTrue, SomeIff};
-ghost use Rattle.spec.specs.Identification.{Identification, IsPrintable, IsLegible};
-ghost use Rattle.spec.specs.Inquiry.{standard_data, unit_serial_number, device_identification};
-ghost use Rattle.spec.specs.Inquiry.{inquiry_data, inquiry_size, page_codes};
+ghost use Rattle.scsi.specs.Identification.{Identification, IsPrintable, IsLegible};
+ghost use Rattle.scsi.specs.Inquiry.{standard_data, unit_serial_number, device_identification};
+ghost use Rattle.scsi.specs.Inquiry.{inquiry_data, inquiry_size, page_codes};
 ghost use Rattle.scsi_commands.specs.Inquiry.{told_size, StaysFrom};
 
 use crate::inquiry::{
@@ -108,7 +108,7 @@ impl Identity {
     }
 
     // Writes standard data, and answers their length.
-    #[tactic(auto, unfolding(spec::specs::Inquiry::standard_data))]
+    #[tactic(auto, unfolding(scsi::specs::Inquiry::standard_data))]
     fn standard_data(&self, to: &mut [u8; 64]) -> usize
         ensures size { result ≡ 36 }
         ensures data { take 36 to.new ≡ standard_data self.now }
@@ -122,7 +122,7 @@ impl Identity {
     }
 
     // Writes the unit serial number page, and answers its length.
-    #[tactic(auto, unfolding(spec::specs::Inquiry::unit_serial_number))]
+    #[tactic(auto, unfolding(scsi::specs::Inquiry::unit_serial_number))]
     fn unit_serial_number(&self, to: &mut [u8; 64]) -> usize
         ensures size { result ≡ 16 }
         ensures data { take 16 to.new ≡ unit_serial_number self.now }
@@ -134,7 +134,7 @@ impl Identity {
     }
 
     // Writes the device identification page, and answers its length.
-    #[tactic(auto, unfolding(spec::specs::Inquiry::device_identification))]
+    #[tactic(auto, unfolding(scsi::specs::Inquiry::device_identification))]
     fn device_identification(&self, to: &mut [u8; 64]) -> usize
         ensures size { result ≡ 44 }
         ensures data { take 44 to.new ≡ device_identification self.now }

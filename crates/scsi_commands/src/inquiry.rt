@@ -1,7 +1,7 @@
 //! Standard INQUIRY data and the vital product data pages.
 ghost use Rattle.std.specs.Prelude.{◌≡◌, ◌+◌, ◌≤◌, ◌++◌, length, take};
 ghost use Rattle.scsi_commands.specs.Inquiry.{StaysFrom, told_size};
-ghost use Rattle.spec.specs.Inquiry.{supported_pages, block_limits};
+ghost use Rattle.scsi.specs.Inquiry.{supported_pages, block_limits};
 
 use byteorder::{BigEndian, ByteOrder};
 
@@ -30,7 +30,7 @@ pub fn append(to: &mut [u8; 64], start: usize, field: &[u8]) -> usize
 }
 
 /// Writes the page of supported pages, and answers its length.
-#[tactic(auto, unfolding(spec::specs::Inquiry::supported_pages))]
+#[tactic(auto, unfolding(scsi::specs::Inquiry::supported_pages))]
 pub fn supported_pages(to: &mut [u8; 64]) -> usize
     ensures size { result ≡ 8 }
     ensures data { take 8 to.new ≡ supported_pages }
@@ -51,7 +51,7 @@ pub fn supported_pages(to: &mut [u8; 64]) -> usize
 }
 
 /// Writes the block limits page, and answers its length.
-#[tactic(auto, unfolding(spec::specs::Inquiry::block_limits))]
+#[tactic(auto, unfolding(scsi::specs::Inquiry::block_limits))]
 pub fn block_limits(to: &mut [u8; 64], limit: u32) -> usize
     ensures size { result ≡ 64 }
     ensures data { take 64 to.new ≡ block_limits limit }

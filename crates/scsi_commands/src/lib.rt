@@ -24,5 +24,5 @@ pub use codes::Sense;
 pub use decode::{operation_code, parse};
 pub use identification::Identity;
 pub use laws::sense_codes;
-pub use spec::{BlockRange, Command, SenseKey, Transfer};
+pub use scsi::{BlockRange, Command, SenseKey, Transfer};
 pub use waiting::Kept;

@@ -1,6 +1,6 @@
 //! Sense and unit attention are kept from one command to the next.
 ghost use Rattle.std.specs.Prelude.{◌≡◌, None, true};
-ghost use Rattle.spec.specs.Waiting.{Waiting, after_failure, reported, after_report};
+ghost use Rattle.scsi.specs.Waiting.{Waiting, after_failure, reported, after_report};
 
 use crate::codes::Sense;
 use std::marker::Model;

@@ -3,7 +3,7 @@ use Rattle.std.proofs.Common.{◌≡◌, ◌≢◌, ◌≤◌, ◌<◌, ◌+◌,
 use Rattle.std.{proofs.{Common.{inr, true, length, ◌∙◌, ◌*◌}, lemmas.Bool.Decides.nat_tests}, specs.Prelude.{◌||◌, not, if◌then◌else◌}}
 use Rattle.medium.specs.{Medium.State, Sent.{sent, SendsUpTo}, declared.fault.MediumFault.{TheVariants.{Write, Flush}, MediumFault}}
 use Rattle.medium.proofs.SectorsRead.{no_looks, looks_joined, looks_wider}
-use Rattle.spec.specs.{Sense.Sense, declared.command.{Transfer.Transfer, Command.Command}, Rules.{forces_reading, moves_blocks}}
+use Rattle.scsi.specs.{Sense.Sense, declared.command.{Transfer.Transfer, Command.Command}, Rules.{forces_reading, moves_blocks}}
 use Rattle.theorems.{specs.Retiring.{firsts_in, wants}, proofs.{Headroom.{one_each, both_each, headroom_finished}, Steady.steady_sync}}
 use Rattle.blocks.specs.{Limit.Shape, Looks.{LooksAtLog, IsReadFor}, OneBatch.SendsOneBatch, Sent.most_sent, StoreValue.StoreValue}
 use Rattle.blocks.specs.StoreValue.{is_dead, transfer_limit, active_of, Cached, HasLimits, blocks_of, slots_of, batch_steps}
@@ -15,7 +15,7 @@ use Rattle.scsi_unit.specs.Reading.{ReadsBack, ReadsBackOr, LooksToRead, first_h
 use Rattle.scsi_unit.specs.{StoreCalls.{MakesDurable, MakesNone, ReadsBlocks, WritesBlocks}, Costs.{CostsFinishing, CostsWriting}}
 use Rattle.scsi_unit.specs.{Costs.{SteadyIsCheap, RecordsFlushOnce}, Performing.{Spares, silent}}
 use Rattle.scsi_commands.specs.Supported.{IsSupported}
-use Rattle.spec.specs.declared.command.Command.TheVariants as command
+use Rattle.scsi.specs.declared.command.Command.TheVariants as command
 
 -- no call was made
 pub no_calls : {M : Type 0} (count : ℕ) (read : Option Transfer) (promising : Bool) (Quiet : Type 0) (m : State) (unit : UnitValue M)

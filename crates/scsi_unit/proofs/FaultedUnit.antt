@@ -2,7 +2,7 @@
 use Rattle.std.proofs.{Common.{◌≡◌, ℕ, Bool, true, false, List, arith}, lemmas.Bool.Decides.nat_tests}
 use Rattle.std.specs.Prelude.{◌&&◌, IfOk}
 use Rattle.blocks.specs.StoreValue.{is_dead}
-use Rattle.spec.specs.Rules.{needs_medium, intention_by, command_by}
+use Rattle.scsi.specs.Rules.{needs_medium, intention_by, command_by}
 use Rattle.scsi_unit.specs.{Serving.{command_for, wants_medium}, UnitValue.UnitValue, Faulting.{faulted_unit, IsSteady}}
 
 -- what a faulted unit carries out needs no medium

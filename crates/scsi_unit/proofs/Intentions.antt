@@ -3,14 +3,14 @@ use Rattle.std.proofs.Common.{◌≡◌, ◌≢◌, ◌<◌, ◌≤◌, ◌*◌,
 use Rattle.std.proofs.{Common.{Result, Err, refl, arith, length-append}, lemmas.Bool.Decides.nat_tests}
 use Rattle.std.proofs.{lemmas.List.{length-take, length-drop}, lemmas.List.Elements.{All-nil, All-cons}}
 use Rattle.std.specs.Prelude.{All, IfOk, min, unwrap_or}
-use Rattle.spec.specs.{Blocks.{Array, Write, IsWrite, chunks}, Book.{array_of, blocks_at}, Sense.Sense, FixedSense.fixed_sense}
-use Rattle.spec.specs.{Identification.Identification, Inquiry.{inquiry_data, inquiry_size, standard_data, supported_pages}}
-use Rattle.spec.specs.{Inquiry.{unit_serial_number, device_identification, block_limits}, ModePage.caching_page}
-use Rattle.spec.specs.{Capacity.{capacity_10, capacity_16}, declared.command.Command.Command, declared.command.Transfer.Transfer}
-use Rattle.spec.specs.Rules.{Intention, sends, UnitState, checked, command_by, intention_by, moves, moves_after, effect_of, write_after}
-use Rattle.spec.specs.Rules.{write_by, IsOutcome}
-use Rattle.spec.specs.declared.command.Command.TheVariants as command
-use Rattle.spec.specs.declared.intent.Intent.TheVariants as intent
+use Rattle.logical_blocks.specs.{Blocks.{Array, Write, IsWrite, chunks}, Book.{array_of, blocks_at}}
+use Rattle.scsi.specs.{Sense.Sense, FixedSense.fixed_sense, Identification.Identification, Inquiry.{inquiry_data, inquiry_size}}
+use Rattle.scsi.specs.Inquiry.{standard_data, supported_pages, unit_serial_number, device_identification, block_limits}
+use Rattle.scsi.specs.{ModePage.caching_page, Capacity.{capacity_10, capacity_16}, declared.command.{Command.Command, Transfer.Transfer}}
+use Rattle.scsi.specs.Rules.{Intention, sends, UnitState, checked, command_by, intention_by, moves, moves_after, effect_of, write_after}
+use Rattle.scsi.specs.Rules.{write_by, IsOutcome}
+use Rattle.scsi.specs.declared.command.Command.TheVariants as command
+use Rattle.scsi.specs.declared.intent.Intent.TheVariants as intent
 use Rattle.scsi_commands.specs.Supported.{IsSupported, IsWithin}
 use Rattle.scsi_commands.proofs.RowLaws.{supported}
 use Rattle.scsi_unit.specs.{Laws.{IsSized, KeepsIntentions, WritesAreWrites}, UnitValue.{UnitValue, unit_limit}}

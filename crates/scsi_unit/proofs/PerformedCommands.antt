@@ -4,14 +4,14 @@ use Rattle.std.proofs.{Common.length-append, lemmas.Bool.Decides.nat_tests}
 use Rattle.std.specs.Prelude.{◌||◌, ◌&&◌, not, if◌then◌else◌, take}
 use Rattle.medium.specs.{Medium.{State, IsSound}, Moments.LeavesOnly}
 use Rattle.medium.proofs.Moments.{weaker, joined_same}
-use Rattle.spec.specs.{Book.{Book, promised, with_write}, Sense.Sense, declared.command.Command.Command, declared.command.Transfer.Transfer}
-use Rattle.spec.specs.{declared.command.BlockRange.BlockRange, Rules.{effect_of, write_of_command, write_after, wants_writing}}
-use Rattle.spec.specs.Rules.{with_progress, write_by, some_write, moves_blocks, MayFault, IsOutcome, IsByTable, selected_by}
-use Rattle.spec.specs.Capacity.{capacity_10}
+use Rattle.logical_blocks.specs.Book.{Book, promised, with_write, with_progress}
+use Rattle.scsi.specs.{Sense.Sense, declared.command.{Command.Command, Transfer.Transfer, BlockRange.BlockRange}, Rules.effect_of}
+use Rattle.scsi.specs.Rules.{write_of_command, write_after, wants_writing, write_by, some_write, moves_blocks, MayFault, IsOutcome}
+use Rattle.scsi.specs.{Rules.{IsByTable, selected_by}, Capacity.capacity_10}
 use Rattle.blocks.specs.{Finding.{MayFind, Found, FoundWith}, StoreValue.{Cached, StoreValue, FitsBook, is_dead, layout_of, blocks_of}}
 use Rattle.blocks.specs.Turns.{IsTurn}
 use Rattle.blocks.proofs.TurnsJoined.{stays, turns}
-use Rattle.spec.specs.declared.command.Command.TheVariants as command
+use Rattle.scsi.specs.declared.command.Command.TheVariants as command
 use Rattle.scsi_unit.specs.{UnitValue.{UnitValue, state_of, answer_of}, Serving.{has_refused, command_for, Serves}}
 use Rattle.scsi_unit.specs.Performing.{settled, silent, Performs, settled_kept}
 use Rattle.scsi_unit.specs.StoreCalls.{TellsDeath, MakesDurable, ReadsBlocks, WritesBlocks}

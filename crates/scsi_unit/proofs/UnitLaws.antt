@@ -6,7 +6,8 @@ pub use Rattle.scsi_unit.proofs.CommandCalls.{none_made, step_made, few_ticks}
 pub use Rattle.blocks.proofs.EmptyBatches.{steps_to_write, written_live, ahead_fewer, both_empty}
 use Rattle.std.specs.Prelude.{Result}
 use Rattle.std.proofs.{Common.{◌≡◌, ℕ, Bool, List, [], true, false, ap, sym, subst, arith}, lemmas.Bool.Decides.nat_tests}
-use Rattle.spec.specs.{Sense.Sense, declared.command.Command.Command, Book.Book, Rules.{intention, intention_by, checked, command_by}}
+use Rattle.logical_blocks.specs.Book.{Book}
+use Rattle.scsi.specs.{Sense.Sense, declared.command.Command.Command, Rules.{intention, intention_by, checked, command_by}}
 use Rattle.medium.specs.{Medium.State, Moments.EachCut}
 use Rattle.blocks.specs.{Finding.MayFind, StoreValue.is_dead, Limit.HasLimit}
 use Rattle.blocks.proofs.{TurnsJoined.exits, ImageLimit.{some_limit, one_limit, cut_keeps_limit}}

@@ -3,7 +3,8 @@ use Rattle.std.proofs.{Common.{◌≡◌, ◌<◌, Bool, true, arith, refl, ap},
 use Rattle.medium.specs.{Medium.State, Moments.IsUnchanged}
 use Rattle.blocks.specs.{Limit.{Shape, limit_of}, Work.IsWork, declared.work.Work.Work}
 use Rattle.blocks.specs.{StoreValue.{Cached, StoreValue, FitsBook, layout_of, transfer_limit, is_dead}, Turns.{GoesOn, HasCause}}
-use Rattle.spec.specs.{Book.Book, Rules.{MayFault, Ticks, intention_by, command_by}}
+use Rattle.logical_blocks.specs.Book.{Book}
+use Rattle.scsi.specs.Rules.{MayFault, Ticks, intention_by, command_by}
 use Rattle.scsi_unit.specs.{UnitValue.{UnitValue, state_of}, Serving.{has_refused, TicksOver}, StoreCalls.StepsBehind, Faulting.IsSteady}
 
 -- the failures grew

@@ -2,9 +2,9 @@
 use Rattle.std.specs.Prelude.{◌≡◌, ◌<◌, ◌≤◌, ◌*◌, ◌&&◌, ℕ, false, List, length}
 use Rattle.blocks.specs.StoreValue.{Cached, blocks_of, transfer_limit, is_dead}
 use Rattle.scsi_commands.specs.Supported.{IsSupported, IsWithin}
-use Rattle.spec.specs.{declared.command.Command.Command, declared.command.Transfer.Transfer}
-use Rattle.spec.specs.Rules.{needs_medium, moves}
-use Rattle.spec.specs.declared.intent.Intent.TheVariants as intent
+use Rattle.scsi.specs.declared.command.{Command.Command, Transfer.Transfer}
+use Rattle.scsi.specs.Rules.{needs_medium, moves}
+use Rattle.scsi.specs.declared.intent.Intent.TheVariants as intent
 use Rattle.scsi_unit.specs.UnitValue.{UnitValue, unit_limit, intention_of}
 
 -- the bytes taken for a command block, as many as it intends to take, and room for those that it

@@ -12,14 +12,13 @@ pub use Rattle.blocks.specs.Running.{ComesBy}
 pub use Rattle.blocks.specs.StoreValue.{Cached}
 -- handed on to the layers above: one call for each block that no batch has
 pub use Rattle.blocks.specs.Calls.{reads_of}
-use Rattle.spec.specs.{Sense.Sense, declared.command.Command.Command}
-use Rattle.spec.specs.declared.command.Transfer.{Transfer}
-use Rattle.spec.specs.Rules.{moves_blocks, forces_reading, clears, selected_by, Intention}
-use Rattle.spec.specs.declared.command.Command.TheVariants as command
+use Rattle.scsi.specs.{Sense.Sense, declared.command.{Command.Command, Transfer.Transfer}}
+use Rattle.scsi.specs.Rules.{moves_blocks, forces_reading, clears, selected_by, Intention}
+use Rattle.scsi.specs.declared.command.Command.TheVariants as command
 use Rattle.scsi_unit.specs.UnitValue.{UnitValue, unit_limit, intention_of}
 use Rattle.scsi_unit.specs.{Promising.{promises_for, IsQuietFor}, Serving.command_for}
 use Rattle.scsi_unit.specs.Reading.{read_of, LooksToRead}
-use Rattle.spec.specs.declared.intent.Intent.TheVariants as intent
+use Rattle.scsi.specs.declared.intent.Intent.TheVariants as intent
 
 -- making all accepted writes durable: two for each step that is left
 abbrev pub calls_of_sync : Cached → ℕ

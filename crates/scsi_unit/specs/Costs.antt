@@ -4,15 +4,15 @@
 use Rattle.std.specs.Prelude.{◌≡◌, ⊤, ℕ, ◌+◌, ◌<◌, ◌||◌, not, Bool, true, false, List, [], length}
 use Rattle.std.specs.Prelude.{Result, Ok, Err}
 use Rattle.medium.specs.{Medium.State, declared.fault.MediumFault.TheVariants.Flush}
-use Rattle.spec.specs.{Sense.Sense, declared.command.{Command.Command, Transfer.Transfer}}
-use Rattle.spec.specs.Rules.{moves_blocks, wants_writing}
+use Rattle.scsi.specs.{Sense.Sense, declared.command.{Command.Command, Transfer.Transfer}}
+use Rattle.scsi.specs.Rules.{moves_blocks, wants_writing}
 use Rattle.theorems.specs.Retiring.{finish_flushes, both_flushes, both_calls, finish_calls}
 use Rattle.theorems.specs.Retiring.{finished, wants}
 use Rattle.blocks.specs.StoreValue.{Cached, transfer_limit, active_of, FitsBeside, TakesRange}
 pub use Rattle.theorems.specs.Headroom.{HasHeadroom}
 pub use Rattle.blocks.specs.Headroom.{KeepsHeadroom}
 pub use Rattle.theorems.specs.Steady.{IsSteady, steady_calls}
-use Rattle.spec.specs.declared.command.Command.TheVariants as command
+use Rattle.scsi.specs.declared.command.Command.TheVariants as command
 
 -- the calls and the flushes that make the frozen batch durable, and then one of these blocks, and
 -- no other

@@ -1,8 +1,8 @@
 -- The device behind the medium refused a call that it had taken, and the unit is told so.
 use Rattle.std.specs.Prelude.{◌≡◌, ℕ, Bool, true, false, List}
-use Rattle.spec.specs.{SenseCodes.write_error, Waiting.{Waiting, after_failure}, Rules.UnitState}
+use Rattle.scsi.specs.{SenseCodes.write_error, Waiting.{Waiting, after_failure}, Rules.UnitState}
 use Rattle.blocks.specs.Stopping.{stopped_store}
-use Rattle.spec.specs.declared.intent.Intent.TheVariants as intent
+use Rattle.scsi.specs.declared.intent.Intent.TheVariants as intent
 use Rattle.scsi_unit.specs.UnitValue.{UnitValue, intention_of}
 
 -- where a good status is taken back that was not yet sent, its write error is kept for REQUEST

@@ -3,15 +3,15 @@ use Rattle.std.specs.Prelude.{◌≡◌, ◌≢◌, ◌⊎◌, ◌<◌, ◌≤�
 use Rattle.std.specs.Prelude.{replicate, ◌++◌, length, if◌then◌else◌, Option, Some, None}
 use Rattle.std.specs.Prelude.{Result, Ok, Err, IfOk}
 use Rattle.medium.specs.Medium.{Image}
-use Rattle.spec.specs.{Blocks.{Write, IsWrite}, Book.{Book, array_of, StampsOut, opened}}
-use Rattle.spec.specs.{Sense.Sense, Identification.Identification, Rules.opened_unit}
-use Rattle.spec.specs.{declared.command.Command.Command, Rules.{UnitState, checked, intention}}
-use Rattle.spec.specs.Rules.{write_in_progress, with_progress, clears, selected_by, CarriesOut}
-use Rattle.spec.specs.Rules.{Ticks}
+use Rattle.logical_blocks.specs.{Blocks.{Write, IsWrite}, Book.{Book, array_of, StampsOut, opened}}
+use Rattle.logical_blocks.specs.Book.{with_progress}
+use Rattle.scsi.specs.{Sense.Sense, Identification.Identification, Rules.opened_unit}
+use Rattle.scsi.specs.{declared.command.Command.Command, Rules.{UnitState, checked, intention}}
+use Rattle.scsi.specs.Rules.{write_in_progress, clears, selected_by, CarriesOut, Ticks}
 use Rattle.blocks.specs.Finding.{StandsAs, FoundWith}
 use Rattle.blocks.specs.{Opening.{IsOursForSome, Stands, StandsForOpening}, Limit.HasLimit}
-use Rattle.spec.specs.declared.command.Command.TheVariants as command
-use Rattle.spec.specs.declared.intent.Intent.TheVariants as intent
+use Rattle.scsi.specs.declared.command.Command.TheVariants as command
+use Rattle.scsi.specs.declared.intent.Intent.TheVariants as intent
 use Rattle.scsi_unit.specs.Promising.{promises, promises_for}
 
 -- no stamp is wanting for a command, with its write counted

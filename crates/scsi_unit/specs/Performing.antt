@@ -2,9 +2,10 @@
 use Rattle.std.specs.Prelude.{◌≡◌, ◌≤◌, ℕ, true, false, List, [], Some, None, Result, Ok, Err}
 use Rattle.std.specs.Prelude.{is_ok}
 use Rattle.medium.specs.{Medium.State, Moments.LeavesOnly}
-use Rattle.spec.specs.{Book.Book, Sense.Sense, Waiting.{Waiting, after_failure}}
-use Rattle.spec.specs.{declared.command.Command.Command, declared.command.Transfer.Transfer}
-use Rattle.spec.specs.Rules.{UnitState, write_after, IsOutcome}
+use Rattle.logical_blocks.specs.Book.{Book}
+use Rattle.scsi.specs.{Sense.Sense, Waiting.{Waiting, after_failure}}
+use Rattle.scsi.specs.declared.command.{Command.Command, Transfer.Transfer}
+use Rattle.scsi.specs.Rules.{UnitState, write_after, IsOutcome}
 use Rattle.blocks.specs.Finding.{FoundWith}
 use Rattle.blocks.specs.StoreValue.{layout_of, blocks_of, is_dead, active_of, FitsBeside}
 use Rattle.scsi_unit.specs.Costs.{CostsAfter, KeepsHeadroom}

@@ -1,9 +1,9 @@
 -- Which commands promise: they are good only when all accepted writes are durable.
 use Rattle.std.specs.Prelude.{⊤, ◌≡◌, ◌⊎◌, ◌&&◌, ◌||◌, not, Bool, true, false, Result, Ok, Err}
 use Rattle.blocks.specs.{Prepared.IsTakenAtOnce, StoreValue.Cached, Written.IsWritten}
-use Rattle.spec.specs.{Sense.Sense, declared.command.Command.Command}
-use Rattle.spec.specs.{declared.command.Transfer.Transfer, Rules.{moves_blocks, forces_reading}}
-use Rattle.spec.specs.declared.command.Command.TheVariants as command
+use Rattle.scsi.specs.{Sense.Sense, declared.command.Command.Command}
+use Rattle.scsi.specs.{declared.command.Transfer.Transfer, Rules.{moves_blocks, forces_reading}}
+use Rattle.scsi.specs.declared.command.Command.TheVariants as command
 
 -- a WRITE of some blocks that is good only when it is durable
 abbrev pub forces_writing : Transfer → Bool → Bool

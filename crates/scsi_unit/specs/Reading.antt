@@ -2,9 +2,9 @@
 use Rattle.std.specs.Prelude.{ℕ, ◌+◌, ◌<◌, ◌≤◌, ◌⊎◌, Option, Some, None, Result, Ok, Err}
 use Rattle.std.specs.Prelude.{if◌then◌else◌}
 use Rattle.medium.specs.Medium.{State, LooksOnly}
-use Rattle.spec.specs.{Sense.Sense, declared.command.Command.Command}
-use Rattle.spec.specs.{declared.command.Transfer.Transfer, Rules.moves_blocks}
-use Rattle.spec.specs.declared.command.Command.TheVariants as command
+use Rattle.scsi.specs.{Sense.Sense, declared.command.Command.Command}
+use Rattle.scsi.specs.{declared.command.Transfer.Transfer, Rules.moves_blocks}
+use Rattle.scsi.specs.declared.command.Command.TheVariants as command
 use Rattle.blocks.specs.{Looks.IsReadBack, StoreValue.layout_of}
 use Rattle.scsi_unit.specs.{UnitValue.UnitValue, declared.reading.HomeSectors.HomeSectors}
 

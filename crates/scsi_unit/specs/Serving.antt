@@ -2,9 +2,10 @@
 use Rattle.std.specs.Prelude.{◌≡◌, ◌⊎◌, ℕ, ◌≤◌, ◌+◌, nat_lt, ◌&&◌, ◌||◌, not, Bool, true, false}
 use Rattle.std.specs.Prelude.{List, [], Option, Some, None, Result, Ok, Err, is_ok, if◌then◌else◌}
 use Rattle.medium.specs.{Medium.State, Moments.{LeavesOnly, IsUnchanged}, Sent.SendsUpTo}
-use Rattle.spec.specs.{Book.Book, Sense.Sense, declared.command.Command.Command}
-use Rattle.spec.specs.{declared.command.Transfer.Transfer, Rules.{command_by, moves_blocks}}
-use Rattle.spec.specs.Rules.{reads_blocks, wants_writing, write_in_progress, CarriesOut, Ticks}
+use Rattle.logical_blocks.specs.Book.{Book}
+use Rattle.scsi.specs.{Sense.Sense, declared.command.Command.Command}
+use Rattle.scsi.specs.{declared.command.Transfer.Transfer, Rules.{command_by, moves_blocks}}
+use Rattle.scsi.specs.Rules.{reads_blocks, wants_writing, write_in_progress, CarriesOut, Ticks}
 use Rattle.theorems.specs.Retiring.{finished}
 use Rattle.blocks.specs.{Finding.{MayFind, FoundWith}, Calls.TurnsBatches, Headroom.KeepsHeadroom}
 use Rattle.blocks.specs.{Looks.LooksAtLog, Work.{IsWork, LeavesBy}, declared.work.Work.Work}
@@ -13,8 +14,8 @@ use Rattle.blocks.specs.StoreValue.{blocks_of, is_dead, active_of, transfer_limi
 use Rattle.blocks.specs.StoreValue.{TakesRange}
 use Rattle.scsi_unit.specs.{Costs.CostsAfter, UnitValue.{UnitValue, unit_limit, state_of}}
 use Rattle.scsi_unit.specs.UnitValue.{intention_of, FitsUnit}
-use Rattle.spec.specs.declared.command.Command.TheVariants as command
-use Rattle.spec.specs.declared.intent.Intent.TheVariants as intent
+use Rattle.scsi.specs.declared.command.Command.TheVariants as command
+use Rattle.scsi.specs.declared.intent.Intent.TheVariants as intent
 
 -- ---- a command
 

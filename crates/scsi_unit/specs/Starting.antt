@@ -2,7 +2,8 @@
 -- medium by the words that are handed on here and in Books, and open none of them.
 use Rattle.std.specs.Prelude.{◌≡◌, ℕ, true}
 use Rattle.medium.specs.{Medium.State, Moments.{EachCut, LeavesOnly}}
-use Rattle.spec.specs.{Book.Book, Identification.Identification, Rules.opened_unit}
+use Rattle.logical_blocks.specs.Book.{Book}
+use Rattle.scsi.specs.{Identification.Identification, Rules.opened_unit}
 use Rattle.theorems.specs.Headroom.{HasHeadroom}
 use Rattle.blocks.specs.{StoreValue.{Cached, StoreValue}, Opening.StartFault}
 use Rattle.blocks.specs.declared.start.Keeping.{Keeping}

@@ -2,9 +2,9 @@
 use Rattle.std.specs.Prelude.{◌≡◌, ℕ, ◌+◌, ◌*◌, ◌<◌, ◌≤◌, Bool, true, false, List, [], take}
 use Rattle.std.specs.Prelude.{Result, OnOk, IfOk, IfErr, MatchResult, is_ok, if◌then◌else◌}
 use Rattle.medium.specs.{Medium.State, Sent.SendsUpTo}
-use Rattle.spec.specs.{Book.{Book, array_of, blocks_at, promised, write_of}, Sense.Sense}
-use Rattle.spec.specs.SenseCodes.{unrecovered_read_error, write_error}
-use Rattle.spec.specs.declared.command.Transfer.{Transfer}
+use Rattle.logical_blocks.specs.Book.{Book, array_of, blocks_at, promised, write_of}
+use Rattle.scsi.specs.{Sense.Sense, SenseCodes.{unrecovered_read_error, write_error}}
+use Rattle.scsi.specs.declared.command.Transfer.{Transfer}
 use Rattle.blocks.specs.{Calls.{reads_of, TurnsBatches}, Headroom.KeepsHeadroom}
 use Rattle.blocks.specs.{Looks.{LooksAtLog, LooksAtBlocks}, Passing.MayEmpty}
 use Rattle.blocks.specs.{OneBatch.SendsOneBatch, Sent.batch_sends, StoreValue.{Cached, StoreValue}}

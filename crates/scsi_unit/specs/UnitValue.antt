@@ -1,7 +1,8 @@
 -- A logical unit over its store.
 use Rattle.std.specs.Prelude.{◌≡◌, ◌≤◌, ℕ, List, take, Result, Ok, Err}
 use Rattle.medium.specs.{Medium.State, Moments.IsUnchanged}
-use Rattle.spec.specs.{Sense.Sense, Book.Book, Rules.{Intention, UnitState, intention_by}}
+use Rattle.logical_blocks.specs.Book.{Book}
+use Rattle.scsi.specs.{Sense.Sense, Rules.{Intention, UnitState, intention_by}}
 use Rattle.blocks.specs.StoreValue.{FitsBook, blocks_of, transfer_limit, is_dead}
 use Rattle.scsi_unit.specs.declared.unit.Unit.{Unit}
 

@@ -2,8 +2,8 @@
 ghost use Rattle.std.specs.Prelude.{◌≡◌, ◌≤◌, ◌*◌, ℕ, List, unwrap_or, IfOk};
 ghost use Rattle.blocks.specs.StoreValue.{blocks_of, is_dead};
 ghost use Rattle.scsi_commands.specs.Supported.{IsSupported};
-ghost use Rattle.spec.specs.Inquiry.{inquiry_size};
-ghost use Rattle.spec.specs.Rules.{passes_attention, needs_medium, sends, takes, moves};
+ghost use Rattle.scsi.specs.Inquiry.{inquiry_size};
+ghost use Rattle.scsi.specs.Rules.{passes_attention, needs_medium, sends, takes, moves};
 ghost use Rattle.scsi_unit.specs.UnitValue.{unit_limit};
 ghost use Rattle.scsi_unit.specs.Calls.{calls_after, most_calls};
 ghost use Rattle.scsi_unit.specs.Serving.{command_for};
@@ -52,7 +52,7 @@ fn needs_medium(command: &Command) -> bool
 
 impl<M: Medium> Unit<M> {
     /// The command of a command block, or the sense with which it is refused.
-    #[tactic(auto, unfolding(spec::specs::Rules::command_by))]
+    #[tactic(auto, unfolding(scsi::specs::Rules::command_by))]
     pub(crate) fn command(&self, block: &[u8]) -> Result<Command, Sense>
         ensures value { result ≡ command_for self.now block.now }
         ensures supported { IfOk result

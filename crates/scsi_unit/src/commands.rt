@@ -1,12 +1,9 @@
 //! Commands, each by its own function.
 ghost use Rattle.std.specs.Prelude.{◌≡◌, ◌≤◌, ◌*◌, ℕ, List, [], length};
 ghost use Rattle.std.specs.Prelude.{◌<◌, take, min, unwrap_or, IfOk, Ok};
-ghost use Rattle.spec.specs.FixedSense.{fixed_sense};
-ghost use Rattle.spec.specs.Waiting.{reported, after_report};
-ghost use Rattle.spec.specs.Inquiry.{inquiry_data, inquiry_size};
-ghost use Rattle.spec.specs.ModePage.{mode_data};
-ghost use Rattle.spec.specs.Capacity.{capacity_10, capacity_16};
-ghost use Rattle.spec.specs.Rules.{moves};
+ghost use Rattle.scsi.specs.{FixedSense.fixed_sense, Waiting.{reported, after_report}};
+ghost use Rattle.scsi.specs.{Inquiry.{inquiry_data, inquiry_size}, ModePage.mode_data};
+ghost use Rattle.scsi.specs.{Capacity.{capacity_10, capacity_16}, Rules.moves};
 ghost use Rattle.blocks.specs.Running.{ComesBy};
 ghost use Rattle.scsi_unit.specs.UnitValue.{unit_limit, intention_of, answer_of};
 ghost use Rattle.scsi_unit.specs.Serving.{command_for};
@@ -45,7 +42,7 @@ fn silent(done: Result<(), Sense>) -> Result<usize, Sense>
 }
 
 // The data of READ CAPACITY (10), for a medium of `n` blocks.
-#[tactic(auto, unfolding(spec::specs::Capacity::capacity_10))]
+#[tactic(auto, unfolding(scsi::specs::Capacity::capacity_10))]
 fn capacity_10(n: u64) -> [u8; 8]
     requires { n ≤ 2147483648 }
     ensures { result ≡ capacity_10 n }
@@ -57,7 +54,7 @@ fn capacity_10(n: u64) -> [u8; 8]
 }
 
 // The data of READ CAPACITY (16), for a medium of `n` blocks.
-#[tactic(auto, unfolding(spec::specs::Capacity::capacity_16))]
+#[tactic(auto, unfolding(scsi::specs::Capacity::capacity_16))]
 fn capacity_16(n: u64) -> [u8; 32]
     ensures { result ≡ capacity_16 n }
 {

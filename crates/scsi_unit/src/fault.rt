@@ -1,6 +1,6 @@
 //! A unit is told that the device behind its medium refused a call.
 ghost use Rattle.std.specs.Prelude.{◌≡◌};
-ghost use Rattle.spec.specs.Book.{Book};
+ghost use Rattle.logical_blocks.specs.Book.{Book};
 ghost use Rattle.scsi_unit.specs.UnitValue.{state_of, FitsUnit};
 ghost use Rattle.scsi_unit.specs.Faulting.{faulted_unit, faulted_state, IsSteady};
 

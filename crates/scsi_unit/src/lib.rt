@@ -26,4 +26,4 @@ pub use scsi_commands::{Identity, Sense};
 pub use unit::Unit;
 
 /// What a command is about to move, or the sense with which it is refused.
-pub type Intent = spec::Intent<Sense>;
+pub type Intent = scsi::Intent<Sense>;

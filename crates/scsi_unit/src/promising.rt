@@ -2,8 +2,8 @@
 //! the medium for no write and no flush.
 ghost use Rattle.std.specs.Prelude.{◌≡◌, ◌↔◌, ◌≤◌, ◌+◌, IsTrue};
 ghost use Rattle.blocks.specs.StoreValue.{blocks_of};
-ghost use Rattle.spec.specs.Book.{Book};
-ghost use Rattle.spec.specs.Rules.{checked, forces_reading};
+ghost use Rattle.logical_blocks.specs.Book.{Book};
+ghost use Rattle.scsi.specs.Rules.{checked, forces_reading};
 ghost use Rattle.scsi_commands.specs.Supported.{IsSupported};
 ghost use Rattle.scsi_unit.specs.UnitValue.{unit_limit, state_of, IsOfSize};
 ghost use Rattle.scsi_unit.specs.Serving.{command_for};

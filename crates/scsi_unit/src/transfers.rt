@@ -1,9 +1,9 @@
 //! The commands that use the store.
 ghost use Rattle.std.specs.Prelude.{◌≡◌, ◌&&◌, ◌||◌, ℕ, true, false, not, List, None, Ok};
 ghost use Rattle.blocks.specs.StoreValue.{is_dead};
-ghost use Rattle.spec.specs.declared.command.BlockRange.{BlockRange};
-ghost use Rattle.spec.specs.declared.command.Command.TheVariants as command;
-ghost use Rattle.spec.specs.Rules.{forces_reading};
+ghost use Rattle.scsi.specs.declared.command.BlockRange.{BlockRange};
+ghost use Rattle.scsi.specs.declared.command.Command.TheVariants as command;
+ghost use Rattle.scsi.specs.Rules.{forces_reading};
 ghost use Rattle.blocks.specs.Running.{ComesBy};
 ghost use Rattle.scsi_unit.specs.UnitValue.{answer_of};
 ghost use Rattle.scsi_unit.specs.Asking.{CanRead, CanWrite, CanSelect};

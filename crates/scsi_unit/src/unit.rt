@@ -4,14 +4,14 @@ ghost use Rattle.std.specs.Prelude.{length};
 ghost use Rattle.std.specs.Prelude.{◌↔◌, IsTrue};
 ghost use Rattle.medium.specs.Inlet.{AreHeld};
 ghost use Rattle.medium.specs.Moments.{EachCut, IsUnchanged};
-ghost use Rattle.spec.specs.Book.{Book};
+ghost use Rattle.logical_blocks.specs.Book.{Book};
 ghost use Rattle.blocks.specs.Finding.{MayFind};
 ghost use Rattle.blocks.specs.Settled.{IsSettled};
 ghost use Rattle.blocks.specs.StoreValue.{is_dead, steps_left, HasLimits};
-ghost use Rattle.spec.specs.Rules.{opened_unit, intention};
+ghost use Rattle.scsi.specs.Rules.{opened_unit, intention};
 ghost use Rattle.scsi_unit.specs.UnitValue.{unit_limit, state_of, intention_of, answer_of};
 ghost use Rattle.scsi_unit.specs.UnitValue.{FitsUnit, TellsLimit, ArmsUnit};
-ghost use Rattle.spec.specs.declared.intent.Intent.TheVariants as intent;
+ghost use Rattle.scsi.specs.declared.intent.Intent.TheVariants as intent;
 ghost use Rattle.blocks.specs.Limit.{HasLimit};
 ghost use Rattle.blocks.specs.Prepared.{TellsWork};
 ghost use Rattle.blocks.specs.Written.{IsWritten};
@@ -67,7 +67,7 @@ impl<M: Medium> Unit<M> {
 
     /// What a command block is about to move. Bytes past the command are ignored, and at most
     /// `limit` blocks are moved.
-    #[tactic(auto, unfolding(spec::specs::Rules::intention_by))]
+    #[tactic(auto, unfolding(scsi::specs::Rules::intention_by))]
     pub fn intend(&self, block: &[u8]) -> Intent
         ensures intention { result ≡ intention_of self.now block.now }
         ensures by_book { (book : Book) → FitsUnit (M.state self.now.store.medium) self.now book

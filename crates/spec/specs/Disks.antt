@@ -1,8 +1,8 @@
 -- The two disks of which the promise speaks.
 use Rattle.std.specs.Prelude.{ℕ, List, Option, Some, None}
-use Rattle.spec.specs.Blocks.{Write}
-use Rattle.spec.specs.Book.{Book}
-use Rattle.spec.specs.Rules.{UnitState, opened_unit}
+use Rattle.logical_blocks.specs.Blocks.{Write}
+use Rattle.logical_blocks.specs.Book.{Book}
+use Rattle.scsi.specs.Rules.{UnitState, opened_unit}
 use Rattle.spec.specs.declared.event.Event.{Event}
 use Rattle.spec.specs.Exchange.{at_rest}
 use Rattle.spec.specs.Conversation.{Conversation}

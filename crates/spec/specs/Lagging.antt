@@ -10,8 +10,9 @@ use Rattle.spec.specs.declared.event.Answer.TheVariants.{Ack, Nak, Ticked}
 use Rattle.spec.specs.Requests.{setup_packet, mass_storage_reset}
 use Rattle.spec.specs.Exchange.{Script, finished, taking, sending, after_request}
 use Rattle.spec.specs.Conversation.{Conversation, Step, OutStep}
-use Rattle.spec.specs.Blocks.{Write}
-use Rattle.spec.specs.Rules.{UnitState, CarriesOut, Ticks, with_progress}
+use Rattle.logical_blocks.specs.Blocks.{Write}
+use Rattle.logical_blocks.specs.Book.{with_progress}
+use Rattle.scsi.specs.Rules.{UnitState, CarriesOut, Ticks}
 use Rattle.spec.specs.UnitConversation.{Intends, write_of_packet}
 use Rattle.spec.specs.declared.event.Event.TheVariants as event
 

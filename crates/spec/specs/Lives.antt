@@ -3,13 +3,13 @@
 -- another. The rules of the disk are handed in.
 use Rattle.std.specs.Prelude.{◌≡◌, ◌⊎◌, ℕ, ◌+◌, ◌≤◌, Bool, true, false, List, [], ◌∷◌, ◌++◌, length}
 use Rattle.std.specs.Prelude.{Option, None}
-use Rattle.spec.specs.Blocks.{Write}
-use Rattle.spec.specs.Book.{Book, after_first, opened}
-use Rattle.spec.specs.Rules.{with_progress}
+use Rattle.logical_blocks.specs.Blocks.{Write}
+use Rattle.logical_blocks.specs.Book.{Book, after_first, opened}
+use Rattle.logical_blocks.specs.Book.{with_progress}
 use Rattle.spec.specs.declared.event.Event.{Event}
 use Rattle.spec.specs.declared.event.Answer.{Answer}
 use Rattle.spec.specs.declared.event.Answer.TheVariants.{Off}
-use Rattle.spec.specs.Identification.{Identification}
+use Rattle.scsi.specs.Identification.{Identification}
 
 -- how a disk presents itself: who it is, and how many bytes a bulk packet has at most
 pub record Presentation : Type 0 where

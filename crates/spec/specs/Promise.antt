@@ -1,11 +1,11 @@
 -- The promise. What an image of a medium stands for is handed in, and so is what a loss of power
 -- may leave of a medium: the promise reads without the bytes of a format. The rules of the disk are
 -- handed in too: it is the same promise for a disk whose device is behind.
-use Rattle.std.specs.Prelude.{◌≡◌, ◌⊎◌, ℕ, ◌+◌, ◌≤◌, Bool, true, false, List, [], ◌∷◌, ◌++◌, length}
-use Rattle.std.specs.Prelude.{Option, Some, None}
+use Rattle.std.specs.Prelude.{◌≡◌, ℕ, ◌+◌, ◌≤◌, Bool, true, false, List, [], ◌∷◌, ◌++◌}
 use Rattle.spec.specs.declared.event.Answer.{Answer}
-use Rattle.spec.specs.Blocks.{Array, Write}
-use Rattle.spec.specs.Book.{Book, after_first, with_write, opened}
+use Rattle.logical_blocks.specs.Blocks.{Array}
+use Rattle.logical_blocks.specs.Book.{Book}
+use Rattle.logical_blocks.specs.CrashStates.{MayFind, FoundWith, OpensOn}
 use Rattle.spec.specs.Conversation.{refused_events}
 use Rattle.spec.specs.Lives.{Presentation, DiskRules, Action, Place, before_first, between, runs}
 use Rattle.spec.specs.Lives.{off, Standing, Opens, LivesRun}
@@ -16,45 +16,13 @@ first_standing limit book = record { place = before_first book; armed = false; l
 
 -- What an image is found to hold: this many logical blocks, with these bytes, and this next stamp.
 module _ {Image : Type 0} (Holds : ℕ → Image → Array → ℕ → Type 0) where
-  -- the image holds the blocks after some of the first writes of the book, the promised ones at
-  -- least
-  pub record MayFind (book : Book) (image : Image) : Type 0 where
-    -- how many of the writes
-    pub count : ℕ
-    -- the next stamp: each write since the book opened took one at most, and a start takes one
-    pub next : ℕ
-    pub promises : book.mark ≤ count
-    pub accepted : count ≤ length book.writes
-    pub stands : Holds book.blocks image (after_first count book) next
-    pub bound : next ≤ book.stamp + length book.writes + 1
-
-  -- the same, perhaps with the write in progress, whole
-  abbrev pub Found : Book → Write → Image → Type 0
-  Found book write image = MayFind book image ⊎ MayFind (with_write book write) image
-
-  -- the same, where perhaps a write is in progress
-  abbrev pub FoundWith : Book → Option Write → Image → Type 0
-  FoundWith book None image = MayFind book image
-  FoundWith book (Some write) image = Found book write image
-
   -- an image that a loss of power may leave of lives that stand here
   abbrev pub FoundAt : {rules : DiskRules} → Place rules → Image → Type 0
   FoundAt (before_first book) image = Holds book.blocks image book.opening book.stamp
-  FoundAt (between remains) image = FoundWith remains.book remains.in_progress image
+  FoundAt (between remains) image = FoundWith Holds remains.book remains.in_progress image
   FoundAt {rules} (runs conversation) image =
-      FoundWith (rules.book conversation) (rules.write_now conversation) image
-  FoundAt (off remains) image = FoundWith remains.book remains.in_progress image
-
--- An image stands for blocks and a next stamp. It is ours where, besides, nothing that lies on it
--- could be taken for a write that was not made: so it is once a format wrote it.
-module _ {Image : Type 0} (StandsFor IsOurs : ℕ → Image → Array → ℕ → Type 0) where
-  -- A first life opens with this book on a medium with this content, of which a loss of power may
-  -- leave these images. Where the book says so, each of them is ours.
-  pub record OpensOn (content : Image) (Leaves : Image → Type 0) (book : Book) : Type 0 where
-    pub opens : book ≡ opened book.blocks book.opening book.stamp book.ours
-    pub stands : StandsFor book.blocks content book.opening book.stamp
-    pub ours : book.ours ≡ true → (image : Image) → Leaves image
-        → (blocks : ℕ) × (array : Array) × (next : ℕ) × IsOurs blocks image array next
+      FoundWith Holds (rules.book conversation) (rules.write_now conversation) image
+  FoundAt (off remains) image = FoundWith Holds remains.book remains.in_progress image
 
 -- A limit is the most blocks of one READ or WRITE: an image tells it.
 module _ (rules : DiskRules) {Image : Type 0} (StandsFor IsOurs : ℕ → Image → Array → ℕ → Type 0)

@@ -3,15 +3,15 @@
 use Rattle.std.specs.Prelude.{◌≡◌, ℕ, List, Bool, Option, None, ◌==◌, ◌&&◌, nat_le}
 use Rattle.std.specs.Prelude.{false, if◌then◌else◌, ◌++◌, length, take}
 use Rattle.spec.specs.declared.way.Way.{Way}
-use Rattle.spec.specs.Rules.{Intention, UnitState, intention, CarriesOut, Ticks, write_in_progress}
-use Rattle.spec.specs.Blocks.{Write}
+use Rattle.scsi.specs.Rules.{Intention, UnitState, intention, CarriesOut, Ticks, write_in_progress}
+use Rattle.logical_blocks.specs.Blocks.{Write}
 use Rattle.spec.specs.declared.event.Event.{Event}
 use Rattle.spec.specs.declared.event.Answer.{Answer}
 use Rattle.spec.specs.Exchange.{Line, Script, taking}
 use Rattle.spec.specs.Conversation.{Conversation, Step, Run}
 use Rattle.spec.specs.Cases.{size_of_way}
 use Rattle.spec.specs.declared.way.Way.TheVariants as ways
-use Rattle.spec.specs.declared.intent.Intent.TheVariants as intent
+use Rattle.scsi.specs.declared.intent.Intent.TheVariants as intent
 use Rattle.spec.specs.declared.event.Event.TheVariants as event
 
 -- a command that is refused intends to move nothing

@@ -3,7 +3,7 @@ use Rattle.std.proofs.Common.{◌≡◌, ◌≤◌, true, length, arith, ap, len
 use Rattle.medium.specs.{Medium.Image, Moments.EachCut}
 use Rattle.window.specs.{OutboxMedium.sent, declared.call.DeviceCall.DeviceCall, Window.{Window, state_of, mirror_of, ComesAfter}}
 use Rattle.window.specs.{WindowLaws.{is_sound, comes_after_itself}, declared.asked.Asked.Asked}
-use Rattle.spec.specs.{Book.Book}
+use Rattle.logical_blocks.specs.Book.{Book}
 use Rattle.blocks.specs.{Finding.MayFind, StoreValue.FitsBook}
 use Rattle.store_calls.specs.{Rooms.CoversParts, Serving.{ServesAtRest, BeginsBehind}}
 use Rattle.store_calls.specs.StoreMachine.{Machine, IsCaughtUp, MayLeave, under_way}

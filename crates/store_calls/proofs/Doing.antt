@@ -4,7 +4,7 @@ use Rattle.std.proofs.lemmas.List.{take-append-le, append-nil}
 use Rattle.medium.specs.{Medium.Image}
 use Rattle.window.specs.{Story.given, declared.call.DeviceCall.DeviceCall, Window.{Window, mirror_of, ComesAfter, kept_out}}
 use Rattle.window.specs.{declared.ask.DeviceRead.DeviceRead, declared.asked.Asked.Asked}
-use Rattle.spec.specs.{Blocks.Write, Book.{Book, with_write, promised}}
+use Rattle.logical_blocks.specs.{Blocks.Write, Book.{Book, with_write, promised}}
 use Rattle.blocks.specs.{Finding.MayFind, StoreValue.{Cached, is_dead, layout_of, unwritten, FitsBook}, Turns.IsTurn}
 use Rattle.blocks.proofs.{BookTurns.settles, EmptyBatches.none_of}
 use Rattle.store_calls.specs.{Calls.{IsWritten, KeepsAll}, Idling.IsShort, Rooms.{Appends, Foresees}, WritingBack.{IsLeft, WritesBack}}

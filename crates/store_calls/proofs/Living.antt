@@ -1,7 +1,7 @@
 -- A life is served on through all calls.
 use Rattle.std.proofs.Common.{◌≡◌, inl, inr, [], ◌∷◌, List, ℕ, true}
 use Rattle.std.specs.Prelude.{Result, Ok, Err}
-use Rattle.spec.specs.{Book.Book}
+use Rattle.logical_blocks.specs.Book.{Book}
 use Rattle.store_calls.specs.StoreLives.{Call, next, done, read, write, sync, idle, work_ahead, IsMade, book_after, LivesThrough}
 use Rattle.store_calls.specs.{StoreMachine.{Machine, Serves}, Serving.ServesOn, Transfers.{Reads, Writes, Syncs}}
 use Rattle.store_calls.specs.{declared.store_fault.StoreFault.StoreFault}

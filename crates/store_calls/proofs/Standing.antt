@@ -5,7 +5,7 @@ use Rattle.medium.specs.{Medium.Image}
 use Rattle.window.specs.{OutboxMedium.{sent, LeftSince}, Story.Told, declared.call.DeviceCall.DeviceCall, Window.{Window, mirror_of}}
 use Rattle.window.specs.{declared.asked.Asked.Asked}
 use Rattle.journal.specs.{Places.Shape}
-use Rattle.spec.specs.{Book.Book}
+use Rattle.logical_blocks.specs.Book.{Book}
 use Rattle.blocks.specs.StoreValue.{FitsBook, layout_of}
 use Rattle.store_calls.specs.{Rooms.room_for, Serving.{StaysSafe, KeepsGoing, WaitsForDevice, LeavesNoMore, LeavesSince, ServesOn}}
 use Rattle.store_calls.specs.{StoreMachine.{Machine, carried, is_behind, under_way}, Stores.Store}

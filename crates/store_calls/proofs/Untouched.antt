@@ -2,7 +2,7 @@
 use Rattle.std.proofs.{Common.{◌≡◌, inl, inr, ℕ, Bool, List, refl, sym, ◌∙◌, ap}, lemmas.Bool.cases_Bool}
 use Rattle.medium.proofs.Moments.{unchanged, unchanged_through}
 use Rattle.window.specs.{Window.{Window, state_of, AreOnDevice, IsShown}, WindowLaws.is_sound}
-use Rattle.spec.specs.{Book.Book}
+use Rattle.logical_blocks.specs.Book.{Book}
 use Rattle.blocks.specs.{Passing.IsUntouched, Stopping.{stopped, stopped_store}, StoreValue.FitsBook}
 use Rattle.blocks.proofs.TurnsJoined.{stays, turns}
 use Rattle.store_calls.specs.{Refused.{IsDrained, IsRefused}, Stores.Store}

@@ -1,7 +1,7 @@
 -- What each call does to a store.
 use Rattle.std.specs.Prelude.{◌≡◌, ◌≢◌, ◌⊎◌, ℕ, ◌+◌, ◌*◌, ◌/◌, ◌%◌, ◌<◌, Bool, true, false, List}
 use Rattle.medium.specs.Sent.{SendsUpTo}
-use Rattle.spec.specs.{Blocks.Write, Book.{Book, array_of, blocks_at}}
+use Rattle.logical_blocks.specs.{Blocks.Write, Book.{Book, array_of, blocks_at}}
 use Rattle.journal.specs.Places.{first_home}
 use Rattle.theorems.specs.Headroom.{HasHeadroom}
 use Rattle.window.specs.Window.{state_of, ComesAfter, AreOnDevice, IsShown}

@@ -2,7 +2,7 @@
 use Rattle.std.specs.Prelude.{◌≡◌, Result, Ok, Err}
 use Rattle.medium.specs.{Moments.IsUnchanged}
 use Rattle.window.specs.{Window.state_of}
-use Rattle.spec.specs.{Book.Book}
+use Rattle.logical_blocks.specs.Book.{Book}
 use Rattle.blocks.specs.{Passing.IsUntouched, Stopping.stopped_store, StoreValue.FitsBook}
 use Rattle.store_calls.specs.{Outbox.IsEmptied, Stores.Store}
 use Rattle.store_calls.specs.{declared.call_fault.CallFault.CallFault}

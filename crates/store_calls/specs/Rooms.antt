@@ -5,7 +5,7 @@ use Rattle.journal.specs.{Places.{Shape, first_home, sectors_of}, Sectors.IsSupe
 use Rattle.journal.specs.{declared.log_format.LogFormat.LogFormat}
 use Rattle.journal.specs.{declared.log_format.LogFormat.TheVariants.Two}
 use Rattle.medium.specs.{Medium.State}
-use Rattle.spec.specs.{Blocks.Array}
+use Rattle.logical_blocks.specs.Blocks.{Array}
 use Rattle.recovery.specs.Calls.{most_start_sends, IsFresh, IsReadOfFresh}
 use Rattle.recovery.specs.{Recovered.HasNoneWaiting}
 use Rattle.window.specs.Window.{Window, state_of, mirror_of, kept_out, ComesAfter, CoversDevice}

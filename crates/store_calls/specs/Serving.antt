@@ -2,7 +2,7 @@
 use Rattle.std.specs.Prelude.{◌≡◌, true, []}
 use Rattle.medium.specs.{Medium.Image}
 use Rattle.window.specs.{OutboxMedium.sent, Window.Window}
-use Rattle.spec.specs.{Book.Book}
+use Rattle.logical_blocks.specs.Book.{Book}
 use Rattle.blocks.specs.{StoreValue.FitsBook}
 use Rattle.store_calls.specs.Rooms.{CoversParts, IsRoomy, HoldsLog}
 use Rattle.store_calls.specs.StoreMachine.{Machine, IsCaughtUp, MayLeave, Serves, begun, is_behind}

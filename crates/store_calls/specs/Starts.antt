@@ -1,7 +1,7 @@
 -- How a store starts on the first sectors of a device.
 use Rattle.std.specs.Prelude.{◌≡◌, ◌≢◌, ◌⊎◌, ℕ, ◌+◌, ◌<◌, true, min, max}
 use Rattle.medium.specs.Sent.{sent}
-use Rattle.spec.specs.Book.{Book}
+use Rattle.logical_blocks.specs.Book.{Book}
 use Rattle.theorems.specs.{Ahead.may_go_by, Headroom.HasHeadroom}
 use Rattle.recovery.specs.declared.start_fault.StartFault.{StartFault}
 use Rattle.window.specs.Window.{Window, state_of, ComesAfter, CoversDevice, IsServed}

@@ -1,6 +1,6 @@
 -- Calls of a machine, one after the other, and what they keep of a life.
 use Rattle.std.specs.Prelude.{◌≡◌, ℕ, Bool, List, [], ◌∷◌, Result, Ok, Err}
-use Rattle.spec.specs.Book.{Book, with_write, write_of, promised}
+use Rattle.logical_blocks.specs.Book.{Book, with_write, write_of, promised}
 use Rattle.window.specs.{declared.ask.DeviceAsk.DeviceAsk, declared.done_fault.DoneFault.DoneFault}
 use Rattle.store_calls.specs.{Asking.{TellsNext, Ends, IsHonest}, StoreMachine.{Machine, Serves}}
 use Rattle.store_calls.specs.Transfers.{Reads, Writes, Syncs, IdlesStore, WorksStoreAhead}

@@ -6,7 +6,7 @@ use Rattle.medium.specs.Medium.{Image, CutLeaves}
 use Rattle.window.specs.{Device.{durable, after}, OutboxMedium.sent, Parts.AreCarriedOut}
 use Rattle.window.specs.{declared.call.DeviceCall.DeviceCall, Window.mirror_of}
 use Rattle.window.specs.{declared.state.MachineState.MachineState, declared.asked.Asked.Asked}
-use Rattle.spec.specs.{Book.Book}
+use Rattle.logical_blocks.specs.Book.{Book}
 use Rattle.blocks.specs.{Finding.MayFind, StoreValue.FitsBook}
 use Rattle.store_calls.specs.{Stores.Store, declared.machine.StoreMachine.StoreMachine}
 use Rattle.window.specs.Window as window

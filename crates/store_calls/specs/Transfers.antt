@@ -3,7 +3,7 @@ use Rattle.std.specs.Prelude.{◌≡◌, ◌≢◌, ◌⊎◌, ℕ, ◌+◌, ◌
 use Rattle.std.specs.Prelude.{None, Result, Ok, Err}
 use Rattle.window.specs.{Window.{Window, state_of}, declared.ask.DeviceRead.DeviceRead}
 use Rattle.window.specs.{Sight.{AreInSight, AreMissing}, declared.asked.Asked.Asked}
-use Rattle.spec.specs.{Blocks.Write, Book.{Book, with_write, write_of, promised}}
+use Rattle.logical_blocks.specs.{Blocks.Write, Book.{Book, with_write, write_of, promised}}
 use Rattle.blocks.specs.{Book.IsTransfer}
 use Rattle.blocks.specs.StoreValue.{Cached, blocks_of, transfer_limit, is_dead, unwritten, FitsBook}
 use Rattle.blocks.specs.{Prepared.IsTakenAtOnce, Turns.IsTurn}

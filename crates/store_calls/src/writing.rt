@@ -1,7 +1,7 @@
 //! How blocks are written.
 ghost use Rattle.std.specs.Prelude.{◌/◌, length};
 ghost use Rattle.blocks.specs.Prepared.{IsTakenAtOnce};
-ghost use Rattle.spec.specs.Book.{write_of};
+ghost use Rattle.logical_blocks.specs.Book.{write_of};
 ghost use Rattle.store_calls.specs.Calls.{MayMove, IsWritten, CostsWrite};
 
 use crate::reading::foresee;

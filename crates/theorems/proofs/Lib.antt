@@ -1,8 +1,3 @@
-pub mod Rules
-pub mod Packets
-pub mod Wrappers
-pub mod StruckTicks
-pub mod Transfers
 pub mod OrderedArrays
 pub mod OrderedCuts
 pub mod Ordering
@@ -13,7 +8,4 @@ pub mod Making
 pub mod LogRuns
 pub mod Steady
 pub mod Headroom
-pub mod PacketsHidden
-pub mod LagsKept
-pub mod PromptLives
 pub mod Witnesses

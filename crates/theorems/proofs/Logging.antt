@@ -5,7 +5,7 @@ use Rattle.std.specs.Prelude.{◌^◌, Ok}
 use Rattle.medium.specs.{Medium.{State, IsSound}, Performed.Performed, declared.medium_call.Call.Call}
 use Rattle.medium.specs.declared.medium_call.Call.TheVariants.{Read, Write, Flush}
 use Rattle.journal.specs.Record.{Entry}
-use Rattle.spec.specs.Blocks.{Array}
+use Rattle.logical_blocks.specs.Blocks.{Array}
 use Rattle.redo_log.specs.{Value.{LogValue, keeping_from, settled, of_oldest, IsStepped}, declared.progress.Progress.Progress}
 use Rattle.redo_log.specs.declared.progress.Progress.TheVariants.{More, Durable}
 use Rattle.redo_log.proofs.RecordSteps.{none_written}

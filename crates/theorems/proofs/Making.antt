@@ -5,7 +5,7 @@ use Rattle.medium.specs.{Medium.{State, Image, IsSound}, Moments.LeavesOnly, Per
 use Rattle.medium.specs.{declared.medium_call.Call.Call, declared.medium_call.Call.TheVariants.{Write, Flush}}
 use Rattle.medium.proofs.Moments.{started, weaker, joined_same}
 use Rattle.journal.specs.Record.{Entry}
-use Rattle.spec.specs.Blocks.{Array}
+use Rattle.logical_blocks.specs.Blocks.{Array}
 use Rattle.redo_log.specs.{Value.{LogValue, IsAway, CanPass, IsSentHome, IsRetireStepped, IsStepped, of_oldest}, Steps.{MakesStep, Unless}}
 use Rattle.redo_log.specs.{Steps.{MakesRetireStep, MakesHomeAhead, MakesHeadAhead}, Told.{CallMade, FirstMade, BothMade, TurnMade, IsNext}}
 use Rattle.redo_log.specs.{declared.fault.LogFault.LogFault, declared.progress.Progress.Progress}

@@ -3,7 +3,7 @@ use Rattle.std.proofs.Common.{◌≡◌, ◌≢◌, ◌⊎◌, inr, ℕ, zero, s
 use Rattle.std.proofs.{Common.⊎_elim, lemmas.List.{length-map, get_or_default}, Math.ListN.get_or-map, lemmas.Bool.cases_eq}
 use Rattle.std.proofs.{lemmas.Bool.Decides.nat_tests, Math.Seq.{take-suc, take-nil, drop-nil}}
 use Rattle.std.specs.{Prelude.Contains}
-use Rattle.spec.specs.{Blocks.Array}
+use Rattle.logical_blocks.specs.Blocks.{Array}
 use Rattle.journal.specs.{Record.{Entry, with_blocks, with_records, numbers_of}, Sectors.IsRising}
 use Rattle.journal.proofs.Wholeness.{with_records-same, with_records-append}
 

@@ -3,7 +3,7 @@ use Rattle.std.proofs.Common.{◌≡◌, ◌≢◌, ◌⊎◌, inl, inr, ⊎_eli
 use Rattle.std.proofs.Common.{refl, true, false, rules, length-drop, get_or-drop, length-append}
 use Rattle.std.proofs.lemmas.Bool.{cases_Bool, cases_lt, cases_eq}
 use Rattle.medium.specs.{Medium.Image}
-use Rattle.spec.specs.{Blocks.Array}
+use Rattle.logical_blocks.specs.Blocks.{Array}
 use Rattle.journal.specs.{Places.{Shape, sectors_of}, Record.{Entry, with_records, home_of}, Sectors.{IsSuper, IsHead}, Formats.layout_of}
 use Rattle.journal.specs.Layout.{IsRecordOf, IsFree, LoggedIn, CarriesBelowIn, part_at}
 use Rattle.journal.specs.{Staged.{View, KeepsView, Guarded, HasSlots, MayLeave as LeavesOf}, Standing.IsOurs}

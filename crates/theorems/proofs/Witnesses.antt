@@ -1,25 +1,16 @@
 -- What ships meets the premises of the laws.
-use Rattle.std.proofs.Common.{◌≡◌, ◌⊎◌, inl, inr, ⊎_elim, ℕ, ◌≤◌, Bool, true, false, List, [], ◌∷◌, refl, sym, ◌∙◌}
-use Rattle.std.proofs.Common.{arith, rules, Result, Ok, Err, length, map, append-nil}
+use Rattle.std.proofs.Common.{◌≡◌, inl, inr, ⊎_elim, ℕ, ◌≤◌, List, [], refl, sym, ◌∙◌}
+use Rattle.std.proofs.Common.{arith, rules, Ok, length, map, append-nil}
 use Rattle.std.proofs.lemmas.List.{length-map, get_or_at}
-use Rattle.std.specs.Prelude.{replicate, None, Some}
+use Rattle.std.specs.Prelude.{replicate}
 use Rattle.medium.specs.{Medium.{State, IsSound}, Moments.EachCut}
-use Rattle.spec.specs.{Blocks.Array, Book.StampsOut, CommandWrapper.SpellsCommand, Sense.Sense, declared.wrapper.Cbw.Cbw}
-use Rattle.spec.specs.{declared.way.Way.TheVariants.Nothing, declared.case.Case.TheVariants.C1, Commands.{command_of, form_tests}}
-use Rattle.spec.specs.Rules.{UnitState, CarriesOut, Ticks, command_by, intention_by, gives, fails_with, Effect}
-use Rattle.spec.specs.{Exchange.{at_rest, sending, told}, Conversation.{Conversation, IsCarriedOut, OpensExchange}}
-use Rattle.spec.specs.{UnitConversation.{on_line, UnitRun, UnitStep, Intends, way_of}, declared.event.Event.{Event, TheVariants.In}}
-use Rattle.spec.specs.declared.event.Event.TheVariants as event
-use Rattle.spec.specs.declared.{event.Answer.{Answer, TheVariants.{Ack, Data}}, command.Command.TheVariants.TestUnitReady}
+use Rattle.logical_blocks.specs.Blocks.{Array}
 use Rattle.journal.specs.{Places.{Shape, sectors_of}, Record.entries_of, Formats.layout_of, Layout.RestsIn}
 use Rattle.redo_log.specs.{Value.{LogValue, HasRoom}, Held.bytes_of, Steps.BeginsRecord}
 use Rattle.recovery.{specs.{Calls.IsFormatted, Recovered.IsFresh}, proofs.JoinedCalls.zeros_fresh}
-use Rattle.theorems.specs.{Ordering.{Written, Opens}, Logging.{Logs, begun_of, waiting_of}, Striking.IsUntroubled}
-use Rattle.theorems.specs.Transfers.{Transfer, packet_out, events_of, heard_in}
-use Rattle.spec.specs.Lagging.{settled}
-use Rattle.theorems.specs.HiddenLag.{UndroppedRun}
-use Rattle.theorems.specs.Witnesses.{opening_of, OpeningWitness, LogWitness, ConversationWitness}
-use Rattle.theorems.proofs.{LoggedSteps.many, Making.{step_on, turned}, Packets.packets_of-none}
+use Rattle.theorems.specs.{Ordering.{Written, Opens}, Logging.{Logs, begun_of, waiting_of}}
+use Rattle.theorems.specs.Witnesses.{opening_of, OpeningWitness, LogWitness}
+use Rattle.theorems.proofs.{LoggedSteps.many, Making.{step_on, turned}}
 
 -- ---- a log
 
@@ -73,113 +64,3 @@ module _ {M : Type 0} (state : M → State) (Follows : M → M → Type 0) where
     writes = λ ahead room three. record { room = room; spares = λ _. inl three };
     performs = λ call may made. record { call = call; bytes = _; got = _; may = may; made = made };
   }
-
--- ---- a conversation: TEST UNIT READY of the unit 0, with tag 1, which announces no data
-
-abbrev wrapper : List ℕ
-wrapper = 0x55 ∷ 0x53 ∷ 0x42 ∷ 0x43 ∷ 1 ∷ 0 ∷ 0 ∷ 0 ∷ 0 ∷ 0 ∷ 0 ∷ 0 ∷ 0 ∷ 0 ∷ 6 ∷ replicate 16 0
-
-abbrev block : List ℕ
-block = replicate 6 0
-
-abbrev command : Cbw
-command = record { tag = 1; host = Nothing; block = record { items = block } }
-
-spelled : SpellsCommand wrapper command
-spelled = search rules
-
--- it passes the checks, or it is refused
-ready_or_not : (blocks limit : ℕ) (attention faulted : Bool) → (command_by blocks limit attention faulted block ≡ Ok TestUnitReady)
-    ⊎ ((sense : Sense) × (command_by blocks limit attention faulted block ≡ Err sense))
-unfolding command_by command_of form_tests
-ready_or_not blocks limit true faulted = inr (_, refl)
-ready_or_not blocks limit false true = inr (_, refl)
-ready_or_not blocks limit false false = inl refl
-
-moves_nothing : (blocks limit : ℕ) (attention faulted : Bool) → Nothing ≡ way_of (intention_by blocks limit attention faulted block)
-unfolding intention_by
-moves_nothing blocks limit attention faulted =
-    ⊎_elim (λ is. rw is refl) (λ is. rw is.1 refl) (ready_or_not blocks limit attention faulted)
-
-carried_out : (unit : UnitState) → (answer : Result (List ℕ) Sense) × (after : UnitState) × CarriesOut false block [] unit answer after
-    × (after.book ≡ unit.book)
-carried_out unit = elim (ready_or_not unit.book.blocks unit.limit unit.kept.attention unit.faulted) [
-  | inl is ↦
-      let done : Effect = gives [] unit in (done.answer, done.after, rw is (inl (record { answered = refl; after = refl })), refl)
-  | inr is ↦
-      let done : Effect = fails_with is.0 unit in (done.answer, done.after, rw is.1 (record { answered = refl; after = refl }), refl)
-]
-
-status_alone : (size : ℕ) (answer : Result (List ℕ) Sense) → (status : List ℕ)
-    × (told C1 command Nothing answer (at_rest size) ≡ record (at_rest size) { left = sending [] None status })
-status_alone size (Ok bytes) = (_, refl)
-status_alone size (Err sense) = (_, refl)
-
--- the wrapper begins the exchange, and the status wrapper ends it
-exchange : (size : ℕ) (unit : UnitState) → ¬ StampsOut unit.book → (events : List Event) → events ≡ packet_out wrapper ∷ In ∷ []
-    → (after : UnitState) × (answers : List Answer) × (run : UnitRun (on_line (at_rest size) unit) events answers (false ∷ false ∷ [])
-    (on_line (at_rest size) after)) × IsUntroubled (on_line (at_rest size) unit) events answers (false ∷ false ∷ [])
-    (on_line (at_rest size) after) run
-exchange size unit stamps events are =
-    let c = carried_out unit in
-    let intends = moves_nothing unit.book.blocks unit.limit unit.kept.attention unit.faulted in
-    let s = status_alone size c.0 in
-    let mid : Conversation UnitState = on_line (record (at_rest size) { left = sending [] None s.0 }) c.1 in
-    let carried : IsCarriedOut Intends CarriesOut Ticks false C1 command Nothing [] (on_line (at_rest size) unit) mid =
-    record { answer = c.0; effect = c.2; moved = λ n is. absurd (cc is); after = sym s.1 } in
-    let opens : OpensExchange Intends CarriesOut Ticks false wrapper (on_line (at_rest size) unit) mid = record {
-      command = command;
-      intended = Nothing;
-      case = C1;
-      spelled = spelled;
-      intends = intends;
-      is_case = tt;
-      begins = carried;
-    } in
-    rw are (
-      c.1,
-      Ack ∷ Data (record { items = s.0 }) ∷ [],
-      (mid, (refl, inl opens), (on_line (at_rest size) c.1, (refl, refl), refl)),
-      (refl, stamps, (refl, rw c.3 stamps, tt)),
-    )
-
-plain : (refused : Bool) (old new : Conversation UnitState) (happens : Event) (answer : Answer) → UnitStep refused old happens answer new
-    → UndroppedRun (settled old) (happens ∷ []) (answer ∷ []) (refused ∷ []) (settled new)
-plain refused old new (event.Out packet) answer step = (settled new, inl (record { step = step; pending = refl }), refl)
-plain refused old new happens answer step = (settled new, record { step = step; pending = refl }, refl)
-
-pub conversation_met : ConversationWitness
-conversation_met =
-    let transfer : Transfer = record { wrapper = wrapper; command = command; spelled = spelled; sent = []; announced = inl refl } in
-    record {
-      transfer = (
-        transfer,
-        λ size unit some stamps.
-            let are : events_of size transfer (In ∷ []) ≡ packet_out wrapper ∷ In ∷ [] = rw (packets_of-none size some) refl in
-            let e = exchange size unit stamps (events_of size transfer (In ∷ [])) are in (
-              e.0,
-              heard_in e.1,
-              record {
-                asks = In ∷ [];
-                only = search rules;
-                answers = e.1;
-                refusals = false ∷ false ∷ [];
-                run = e.2;
-                untroubled = e.3;
-                heard_is = refl;
-              },
-            ),
-      );
-      tick = λ s stamps. ((s, (refl, inl refl, refl), refl), (refl, stamps, tt));
-      plain = plain;
-      deferred = λ refused old new packet any step. (
-        record { now = old; pending = Some packet },
-        inr (record { acknowledged = any; answered = refl; after = refl }),
-        (settled new, inr (record { answered = refl; step = step; after = refl }), refl),
-      );
-      dropped = λ old packet any. (
-        record { now = old; pending = Some packet },
-        inr (record { acknowledged = any; answered = refl; after = refl }),
-        (_, inr (record { spelled = refl; answered = refl; line = refl; unit = inl refl; after = refl }), refl),
-      );
-    }

@@ -7,8 +7,4 @@ pub mod Ordering
 pub mod Retiring
 pub mod Room
 pub mod Steady
-pub mod Striking
-pub mod Transfers
-pub mod HiddenLag
-pub mod KeptLag
 pub mod Witnesses

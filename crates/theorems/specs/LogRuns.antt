@@ -2,7 +2,7 @@
 -- other call of the medium. In whatever order they come, a cut does no harm.
 use Rattle.std.specs.Prelude.{◌≡◌, ◌⊎◌, ℕ, List, [], true, false}
 use Rattle.medium.specs.{Medium.State, Moments.{EachCut, IsQuiet, LeavesOnly}, Sent.SendsUpTo}
-use Rattle.spec.specs.Blocks.{Array}
+use Rattle.logical_blocks.specs.Blocks.{Array}
 use Rattle.journal.specs.{Places.Shape, Record.Entry}
 use Rattle.redo_log.specs.Value.{LogValue, died, keeping_from}
 use Rattle.theorems.specs.Ordering.{Written, at_first, MayLeave, Opens}

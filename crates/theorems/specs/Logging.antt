@@ -3,7 +3,7 @@
 use Rattle.std.specs.Prelude.{◌≡◌, ℕ, ◌+◌, ◌-◌, ◌^◌, ◌≤◌, ◌<◌, List, true, length, get_or, map, All}
 use Rattle.std.specs.Prelude.{drop, slice_index, Some, [], ◌∷◌, ◌++◌, ◌⊎◌, Ok, ◌==◌, if◌then◌else◌}
 use Rattle.medium.specs.{Medium.State, declared.medium_call.Call.Call, Performed.Performed}
-use Rattle.spec.specs.Blocks.{Array}
+use Rattle.logical_blocks.specs.Blocks.{Array}
 use Rattle.journal.specs.{Formats.layout_of, Record.{Entry, numbers_of, entries_of}}
 use Rattle.redo_log.specs.Value.{LogValue, HasRoom, IsBatch, IsAway, IsSentHome, IsRetireStepped}
 use Rattle.redo_log.specs.Value.{IsStepped, IsCovered, CanPass, keeping_from, begun, settled}

@@ -2,7 +2,7 @@
 -- in whatever order, a cut does no harm.
 use Rattle.std.specs.Prelude.{◌≡◌, ◌⊎◌, ℕ, ◌<◌, List, false, Result}
 use Rattle.medium.specs.{Medium.State, Moments.LeavesOnly}
-use Rattle.spec.specs.Blocks.{Array}
+use Rattle.logical_blocks.specs.Blocks.{Array}
 use Rattle.journal.specs.Record.{Entry}
 use Rattle.redo_log.specs.{Value.{LogValue, IsCovered, settled, keeping_from}, Steps.MakesStep}
 use Rattle.redo_log.specs.Steps.{MakesRetireStep, MakesHomeAhead, MakesHeadAhead}

@@ -5,7 +5,7 @@ use Rattle.std.specs.Prelude.{◌++◌, length, get_or, Contains, if◌then◌el
 use Rattle.medium.specs.{Medium.{State, Image}, Moments.{EachCut, LeavesOnly}, Performed.Performed}
 use Rattle.medium.specs.declared.{fault.MediumFault.MediumFault, medium_call.Call.Call}
 use Rattle.medium.specs.declared.medium_call.Call.TheVariants.{Read, Write, Flush}
-use Rattle.spec.specs.Blocks.{Array}
+use Rattle.logical_blocks.specs.Blocks.{Array}
 use Rattle.journal.specs.{Places.{Shape, sectors_of}, Sectors.IsHead, Formats.layout_of}
 use Rattle.journal.specs.{Record.{Entry, with_blocks, with_records}, Standing.IsOurs}
 use Rattle.journal.specs.Layout.{Layout, part_at, IsRecordOf, RestsIn}

@@ -1,13 +1,9 @@
 -- The premises of the laws are met by what ships: the clauses of public calls give each of them.
-use Rattle.std.specs.Prelude.{◌≡◌, ◌⊎◌, ℕ, ◌<◌, List, [], ◌∷◌, true, false, Result, Ok, replicate}
+use Rattle.std.specs.Prelude.{◌≡◌, ◌⊎◌, ℕ, ◌<◌, List, [], true, false, Result, Ok, replicate}
 use Rattle.std.specs.Prelude.{Bool}
 use Rattle.medium.specs.{Medium.State, Moments.EachCut, Performed.Performed}
 use Rattle.medium.specs.declared.medium_call.Call.{Call}
-use Rattle.spec.specs.{Blocks.Array, Book.StampsOut, Conversation.Conversation, Rules.UnitState}
-use Rattle.spec.specs.UnitConversation.{UnitRun, UnitStep}
-use Rattle.spec.specs.declared.event.{Event.Event, Event.TheVariants.{Setup, Tick}}
-use Rattle.spec.specs.declared.event.{Answer.Answer, Answer.TheVariants.{Ack, Ticked}}
-use Rattle.spec.specs.{Exchange.after_request, Requests.{setup_packet, mass_storage_reset}}
+use Rattle.logical_blocks.specs.Blocks.{Array}
 use Rattle.journal.specs.{Places.Shape, Record.entries_of, Standing.IsOurs}
 use Rattle.redo_log.specs.{Value.{LogValue, HasRoom, IsBatch}, Steps.{BeginsRecord, MakesStep}}
 use Rattle.redo_log.specs.Steps.{MakesRetireStep, MakesHomeAhead, MakesHeadAhead}
@@ -16,10 +12,6 @@ use Rattle.recovery.specs.{Calls.IsFormatted, Recovered.{IsFresh, RecoveryMoment
 use Rattle.theorems.specs.Ordering.{Written, at_first, MayBeNext, Opens, Calls}
 use Rattle.theorems.specs.Logging.{Logs, TakesRecord, GoesOn, begun_of}
 use Rattle.theorems.specs.{Making.{Steps, MakesCalls}, Room.{HasSlots, MayWrite}}
-use Rattle.theorems.specs.Striking.{IsUntroubled}
-use Rattle.theorems.specs.Transfers.{Transfer, Heard, IsTransferred, packet_out}
-use Rattle.spec.specs.Lagging.{settled, AcknowledgesAny, UnitLagRun}
-use Rattle.theorems.specs.HiddenLag.{UndroppedRun}
 
 -- a log of which nothing is written yet, over this array
 abbrev pub opening_of : Shape → Array → ℕ → Written
@@ -73,29 +65,3 @@ module _ {M : Type 0} (state : M → State) (Follows : M → M → Type 0) where
     pub performs : {w new : Written} {m n : M} {bytes got : List ℕ} (call : Call)
         → MayBeNext call bytes w new → Performed call bytes got (Ok tt) (state m) (state n)
         → Calls state w m new n
-
--- hosts and units have conversations that nothing troubles
-pub record ConversationWitness : Type 0 where
-  -- each unit with stamps left works some transfer, in packets of any size
-  pub transfer : (transfer : Transfer) × ((size : ℕ) (unit : UnitState) → 0 < size
-      → ¬ StampsOut unit.book
-      → (new : UnitState) × (heard : Heard) × IsTransferred size transfer unit new heard)
-  -- a step in the background alone is a conversation
-  pub tick : (s : Conversation UnitState) → ¬ StampsOut s.unit.book
-      → (run : UnitRun s (Tick ∷ []) (Ticked ∷ []) (false ∷ []) s)
-      × IsUntroubled s (Tick ∷ []) (Ticked ∷ []) (false ∷ []) s run
-  -- A disk whose device may be behind does each step of one that acts at once, and the same for a
-  -- packet that it acknowledged before. A class reset may drop that.
-  pub plain : (refused : Bool) (old new : Conversation UnitState) (happens : Event)
-      (answer : Answer) → UnitStep refused old happens answer new
-      → UndroppedRun (settled old) (happens ∷ []) (answer ∷ []) (refused ∷ []) (settled new)
-  pub deferred : (refused : Bool) (old new : Conversation UnitState) (packet : List ℕ)
-      → AcknowledgesAny old.line.out_halted old.line.left
-      → UnitStep refused old (packet_out packet) Ack new
-      → UndroppedRun (settled old) (packet_out packet ∷ Tick ∷ []) (Ack ∷ Ticked ∷ [])
-      (false ∷ refused ∷ []) (settled new)
-  pub dropped : (old : Conversation UnitState) (packet : List ℕ)
-      → AcknowledgesAny old.line.out_halted old.line.left
-      → UnitLagRun (settled old) (packet_out packet ∷ Setup (setup_packet mass_storage_reset) ∷ [])
-      (Ack ∷ Ack ∷ []) (false ∷ false ∷ [])
-      (settled (record old { line = after_request mass_storage_reset old.line }))

@@ -1,9 +1,10 @@
 use Rattle.std.proofs.Common.{◌≡◌, ◌≤◌, ℕ, length, take, arith, rules, length-take}
 use Rattle.std.specs.Prelude.{Result, Ok, Err}
-use Rattle.spec.specs.{Sense.Sense, Rules.Intention, Exchange.finished}
-use Rattle.spec.specs.declared.intent.Intent.TheVariants as intent
+use Rattle.scsi.specs.{Sense.Sense, Rules.Intention}
+use Rattle.spec.specs.Exchange.{finished}
+use Rattle.scsi.specs.declared.intent.Intent.TheVariants as intent
 use Rattle.scsi_unit.specs.Calls.{SendsAsMeant}
-use Rattle.theorems.proofs.Packets.{packets_of-none}
+use Rattle.transport_laws.proofs.Packets.{packets_of-none}
 use Rattle.bot_machine.proofs.UnitLaws.{keeps_writes, faulted_rests, proceeding}
 use Rattle.bot_machine.proofs.{Packets.{sent_in-size, lies_sent, lies_within, some_bytes}, OutPackets.tells}
 use Rattle.bot_machine.specs.Refinement.{line_with}

@@ -1,5 +1,5 @@
 use Rattle.std.proofs.{Common.{ℕ, ◌≡◌, ◌≢◌, ◌<◌, ◌≤◌, inl, inr, length, min, refl, sym, arith, ◌∙◌}, lemmas.Bool.cases_lt}
-use Rattle.theorems.proofs.Packets.{last_packet, other_packet, packets_of-none}
+use Rattle.transport_laws.proofs.Packets.{last_packet, other_packet, packets_of-none}
 use Rattle.bot_machine.proofs.{Wrappers.nothing_read_for, Packets.{some_bytes, lies_after}}
 use Rattle.bot_machine.proofs.{UnitLaws.proceeding_so, OutPackets.{unit_stays, idle, carried, one_taking, passes_wider}}
 use Rattle.spec.specs.Packets.{bytes_of}

@@ -1,5 +1,5 @@
 use Rattle.std.proofs.Common.{◌≡◌, ◌∙◌, inl, inr, [], refl, sym, arith}
-use Rattle.theorems.proofs.Packets.{packets_of-none}
+use Rattle.transport_laws.proofs.Packets.{packets_of-none}
 use Rattle.bot_machine.proofs.{Wrappers.{at_home, opens, no_write, carries_out, carried_at_once}, Packets.some_bytes}
 use Rattle.bot_machine.proofs.{UnitLaws.{proceeding_so, fits_size}, OutPackets.{unit_stays, idle, carried, passes_wider}}
 use Rattle.spec.specs.{Packets.bytes_of, Exchange.{at_once, after_data, never}}

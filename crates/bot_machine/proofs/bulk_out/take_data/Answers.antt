@@ -1,7 +1,7 @@
 use Rattle.std.proofs.Common.{ℕ, ◌≡◌, ◌<◌, ◌-◌, ◌++◌, inl, length, take, refl, sym, arith, ap, ◌∙◌}
 use Rattle.spec.specs.{Cases.size_of_way, Exchange.taking, Packets.bytes_of}
 use Rattle.bot_machine.specs.{declared.bulk_state.Phase.Phase, declared.bulk_state.Phase.TheVariants.DataOut, Refinement.line_with}
-use Rattle.theorems.proofs.Packets.{other_packet}
+use Rattle.transport_laws.proofs.Packets.{other_packet}
 use Rattle.bot_machine.proofs.OutPackets.{idle}
 use Rattle.bot_machine.proofs.bulk_out.take_data.Goals.{else-pending-most-via-then-pending-most+else-packet-most}
 use Rattle.bot_machine.proofs.bulk_out.take_data.Goals.{else-pending-most-via-else-pending-most}

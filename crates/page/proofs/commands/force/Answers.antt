@@ -1,6 +1,6 @@
 use Rattle.std.proofs.Common.{inl, ⊎_elim, ◌∙◌, arith}
 use Rattle.medium.specs.SimLaws.{comes_after_through}
-use Rattle.spec.specs.Book.{with_write}
+use Rattle.logical_blocks.specs.Book.{with_write}
 use Rattle.page.specs.Extents.{filled}
 use Rattle.page.proofs.Lives.{force_answers, force_dies, force_unwritten, forces, lives_on}
 use Rattle.page.proofs.commands.force.Goals as goal

@@ -1,5 +1,5 @@
 use Rattle.std.proofs.Common.{refl, inl}
-use Rattle.spec.specs.Book.{promised}
+use Rattle.logical_blocks.specs.Book.{promised}
 use Rattle.page.proofs.Lives.{died}
 use Rattle.page.proofs.commands.sync.Goals as goal
 

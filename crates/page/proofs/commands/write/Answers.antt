@@ -1,5 +1,5 @@
 use Rattle.std.proofs.Common.{refl, inl, rules}
-use Rattle.spec.specs.Book.{with_write}
+use Rattle.logical_blocks.specs.Book.{with_write}
 use Rattle.blocks.specs.StoreValue.{blocks_of}
 use Rattle.page.proofs.Lives.{counts_one, died, out_with}
 use Rattle.page.specs.Extents.{LiesWithin, filled}

@@ -1,5 +1,5 @@
 use Rattle.std.proofs.Common.{ℕ, ◌∙◌, ap, arith}
-use Rattle.spec.specs.Book.{array_of, blocks_at}
+use Rattle.logical_blocks.specs.Book.{array_of, blocks_at}
 use Rattle.page.proofs.picture.read_first.Goals as goal
 
 pub read-requires : goal.read-requires

@@ -1,5 +1,5 @@
 use Rattle.std.proofs.Common.{◌≡◌, []}
-use Rattle.spec.specs.Book.{Book}
+use Rattle.logical_blocks.specs.Book.{Book}
 use Rattle.page.specs.Scenes.{Shows}
 use Rattle.page.specs.Standing.{standing}
 use Rattle.page.specs.Scripts.{HasReached}

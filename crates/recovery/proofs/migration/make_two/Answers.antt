@@ -1,7 +1,7 @@
 use Rattle.std.proofs.Common.{◌≡◌, ◌≢◌, ◌⊎◌, inl, inr, ⊎_elim, ℕ, ◌+◌, refl, true, ◌∙◌, arith, rules, replicate, OnOk}
 use Rattle.std.proofs.lemmas.Result.{on_ok_weaker}
 use Rattle.medium.specs.{Medium.{State, Image}, Moments.IsFlushed}
-use Rattle.spec.specs.Blocks.{Array}
+use Rattle.logical_blocks.specs.Blocks.{Array}
 use Rattle.journal.{specs.{Places.{Shape, first_home, migrated}, Formats.shape_of}, proofs.Formats.laws_of}
 use Rattle.recovery.specs.{Calls.{AreMade, zeros_and_head, Writes, IsBetween, IsWritten, WithOrWithout}, Recovered.{StaysFresh, IsFresh}}
 use Rattle.recovery.specs.{Recovered.IsMadeTwo, NewImage.{Under, IsPart}, declared.image_plan.ImagePlan.ImagePlan}

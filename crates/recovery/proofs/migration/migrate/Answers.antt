@@ -2,7 +2,7 @@ use Rattle.std.proofs.Common.{◌≡◌, inl, inr, ⊎_elim, ℕ, ◌+◌, ◌*�
 use Rattle.std.proofs.lemmas.Result.{err_from_is_err_and}
 use Rattle.medium.{specs.{Medium.{State, IsSound}, Moments.EachCut, Sent.SendsUpTo}, proofs.Moments.{weaker, only_image}}
 use Rattle.medium.proofs.{SectorsRead.no_looks, SparedSectors.spared_behind}
-use Rattle.spec.specs.Blocks.{Array}
+use Rattle.logical_blocks.specs.Blocks.{Array}
 use Rattle.journal.specs.{Places.{Shape, first_home, sectors_of, migrated}, declared.log_format.LogFormat.TheVariants.One, Record.home_of}
 use Rattle.journal.{specs.{Formats.shape_of, Standing.IsOurs}, proofs.{SectorNumbers.IsSuper-one, StandingLaws.StandsFor-one}}
 use Rattle.journal.proofs.StandingLaws.{StandsFor-shape}

@@ -1,7 +1,7 @@
 use Rattle.std.proofs.{Common.{◌≡◌, ◌&&◌, ℕ, Bool, true, List, [], ◌∷◌, nat_le, refl, arith}, lemmas.Bool.and_parts}
 use Rattle.std.proofs.{lemmas.Bool.Decides.nat_tests, lemmas.List.Elements.{All-cons, All-nil}}
 use Rattle.std.specs.{Prelude.{All, Option, Some, None, SomeIff, IsSome}, List.list_all}
-use Rattle.spec.specs.Identification.{IsPrintable, IsLegible}
+use Rattle.scsi.specs.Identification.{IsPrintable, IsLegible}
 use Rattle.runner.specs.Script.{identification}
 use Rattle.runner.proofs.identity.disk_identity.Goals as goal
 

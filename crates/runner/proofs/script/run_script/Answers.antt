@@ -1,7 +1,9 @@
 use Rattle.std.proofs.{Common.{◌≡◌, ℕ, Bool, List, Option, ap, ap₂, ◌∙◌, refl, subst, arith}, KnownBytes.Keeps-refl}
 use Rattle.std.{proofs.lemmas.Result.err_from_is_err_and, specs.Prelude.All}
 use Rattle.medium.specs.Medium.{State}
-use Rattle.spec.specs.{Book.opened, Conversation.Conversation, Exchange.Line, Packets.bytes_of, Rules.UnitState}
+use Rattle.logical_blocks.specs.Book.{opened}
+use Rattle.scsi.specs.Rules.{UnitState}
+use Rattle.spec.specs.{Conversation.Conversation, Exchange.Line, Packets.bytes_of}
 use Rattle.spec.specs.{UnitConversation.{UnitRun, on_line}, declared.event.Event.Event, declared.event.Answer.Answer}
 use Rattle.bot_machine.specs.{Starting.{blocks_of, layout_of}, Disk.{DiskValue, StepsThrough, over}, Opening.{IsOpened, StartLeaves}}
 use Rattle.bot_machine.{specs.UnitValue.unit_limit, proofs.UnitLaws.between_calls}

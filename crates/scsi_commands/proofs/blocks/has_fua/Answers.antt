@@ -1,5 +1,5 @@
 use Rattle.std.proofs.{Common.arith, lemmas.Bool.Decides.nat_tests, lemmas.Nat.Bits.and_pow}
-use Rattle.spec.specs.Commands.{byte_at}
+use Rattle.scsi.specs.Commands.{byte_at}
 use Rattle.scsi_commands.proofs.blocks.has_fua.Goals as goal
 
 pub returns : goal.returns

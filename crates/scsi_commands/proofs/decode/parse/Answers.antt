@@ -1,5 +1,5 @@
 use Rattle.std.proofs.Common.{sym, ap, ◌∙◌}
-use Rattle.spec.specs.{Commands.command_of}
+use Rattle.scsi.specs.Commands.{command_of}
 use Rattle.scsi_commands.proofs.{RowLaws.{supported, refused}, Past.past, WrittenBlocks.written}
 use Rattle.scsi_commands.proofs.decode.parse.Goals as goal
 

@@ -1,6 +1,6 @@
 use Rattle.std.proofs.{Common.{rules, arith, ◌≡◌, List, [], ◌∷◌, ℕ, ◌/◌, ◌%◌, slice_index_or}, lemmas.Grind.common_steps}
 use Rattle.std.specs.Prelude.{Ok, Err}
-use Rattle.spec.specs.{Judging.{Test, judged}, Commands.{mode_sense, mode_sense_tests, form_tests}}
+use Rattle.scsi.specs.{Judging.{Test, judged}, Commands.{mode_sense, mode_sense_tests, form_tests}}
 use Rattle.scsi_commands.proofs.Judged.{judged_behind}
 use Rattle.scsi_commands.proofs.device.mode_sense.Goals as goal
 

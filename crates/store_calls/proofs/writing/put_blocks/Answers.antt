@@ -1,6 +1,6 @@
 use Rattle.std.proofs.{Common.{Bool, subst}, lemmas.Bool.false≢true}
 use Rattle.std.specs.Prelude.{Result, Ok, Err, IsOk, OnOk, MatchResult}
-use Rattle.spec.specs.{Book.write_of}
+use Rattle.logical_blocks.specs.Book.{write_of}
 use Rattle.blocks.specs.{Turns.IsWriteTurn, declared.fault.StoreFault.StoreFault}
 use Rattle.window.specs.{Window.state_of}
 use Rattle.store_calls.proofs.{Served.appends_none}

@@ -1,5 +1,5 @@
 use Rattle.std.proofs.{Common.{arith, rules}, lemmas.Result.err_from_is_err_and}
-use Rattle.spec.specs.Book.{write_of}
+use Rattle.logical_blocks.specs.Book.{write_of}
 use Rattle.theorems.{specs.{Retiring.firsts_in, Headroom.HasHeadroom}, proofs.Headroom.{headroom_finished, one_each, one_durable}}
 use Rattle.cache.proofs.Arrays.{unlisted_empty}
 use Rattle.blocks.proofs.TurnsJoined.{paid_refused, paid_written, written_on}

@@ -1,7 +1,7 @@
 -- A device that has carried out all.
 use Rattle.std.{proofs.Common.{◌≡◌, ◌≤◌, inl, true, length, arith, ap, length-append}, specs.Prelude.List}
 use Rattle.medium.specs.Moments.{EachCut}
-use Rattle.spec.specs.Book.{Book}
+use Rattle.logical_blocks.specs.Book.{Book}
 use Rattle.window.specs.{OutboxMedium.sent, declared.call.DeviceCall.DeviceCall, Window.{Window, state_of, mirror_of, ComesAfter}}
 use Rattle.window.specs.WindowLaws.{is_sound, comes_after_itself}
 use Rattle.scsi_unit.specs.Books.{MayFind}

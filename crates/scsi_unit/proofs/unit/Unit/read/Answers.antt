@@ -1,5 +1,5 @@
 use Rattle.std.proofs.{Common.{arith, refl}, lemmas.Result.err_from_is_err_and, lemmas.Bool.Decides.nat_tests}
-use Rattle.spec.specs.declared.command.Command.TheVariants as command
+use Rattle.scsi.specs.declared.command.Command.TheVariants as command
 use Rattle.scsi_unit.proofs.{CommandCalls.{synced, read_on}, PerformedCommands.{by_table, dies_writing, reads_blocks_of}}
 use Rattle.blocks.proofs.StoreRuns.{comes_itself, comes_through}
 use Rattle.scsi_unit.proofs.unit.Unit.read.Goals as goal

@@ -1,5 +1,5 @@
 use Rattle.std.proofs.{Common.{arith, refl, sym, ◌∙◌}, lemmas.Result.err_from_is_err_and, lemmas.Bool.Decides.nat_tests}
-use Rattle.spec.specs.declared.command.Command.TheVariants as command
+use Rattle.scsi.specs.declared.command.Command.TheVariants as command
 use Rattle.scsi_unit.proofs.{CommandCalls.synced, PerformedCommands.{by_table, dies_writing, selects_bit}}
 use Rattle.blocks.proofs.StoreRuns.{comes_itself}
 use Rattle.scsi_unit.proofs.unit.Unit.select.Goals as goal

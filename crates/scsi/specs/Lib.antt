@@ -1,0 +1,11 @@
+pub mod Sense
+pub mod SenseCodes
+pub mod FixedSense
+pub mod Waiting
+pub mod Judging
+pub mod Commands
+pub mod Identification
+pub mod Inquiry
+pub mod ModePage
+pub mod Capacity
+pub mod Rules

@@ -1,0 +1,9 @@
+pub mod Rules
+pub mod Packets
+pub mod Wrappers
+pub mod StruckTicks
+pub mod Transfers
+pub mod PacketsHidden
+pub mod LagsKept
+pub mod PromptLives
+pub mod Witnesses
