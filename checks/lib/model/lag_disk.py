@@ -4,23 +4,23 @@ on a device with a cache, which carries out one call at a time. Each fault that 
 import itertools
 import typing
 
-from lib.model.lag_rules import ACK, INTERNAL, NAK, READ_ERROR, WRITE_ERROR, Command, asks
+from lib.model.lag_rules import ACK, INTERNAL, NAK, READ_ERROR, WRITE_ERROR, Command
 
-# What goes wrong where a fault is planted, by its name.
+# What goes wrong where a fault is planted, by its name, and the world of lag_every.py in which it has to be found.
 FAULTS = {
-    "early status": "a status is laid out when its record is written, before the flush",
-    "wrong call": "any flush that is told done completes the command that waits for its own",
-    "refused is done": "a flush that was refused counts as done",
-    "pending stays": "a class reset forgets to drop the pending command: the endpoint stays busy, and its answer comes",
-    "write stays": "a class reset forgets the WRITE that waits for room, which is taken later",
-    "promise stays": "answers of later commands wait for a promise that a class reset dropped",
-    "blind read": "a READ does not see the writes that wait in the batches",
-    "home under READ": "a READ misses a block that came home after its sector was read, as its record is let go",
-    "late read": "what a read brings that was in flight at a reset goes to the next READ",
-    "taken back": "a refused call turns a good status that is laid out into a failed one",
-    "cache off": "a MODE SELECT that failed has turned the write cache off",
-    "comes again": "a packet that asks its device for something has to come again until that is done",
-    "no recovery": "a start looks at the blocks at home, and not at the record in the log",
+    "early status": ("kinds", "a status is laid out when its record is written, before the flush"),
+    "wrong call": ("cuts", "any flush that is told done completes the command that waits for its own"),
+    "refused is done": ("kinds", "a flush that was refused counts as done"),
+    "pending stays": ("kinds", "a class reset forgets to drop the pending command: the endpoint stays busy, and its answer comes"),
+    "write stays": ("room", "a class reset forgets the WRITE that waits for room, which is taken later"),
+    "promise stays": ("kinds", "answers of later commands wait for a promise that a class reset dropped"),
+    "blind read": ("kinds", "a READ does not see the writes that wait in the batches"),
+    "home under READ": ("cuts", "a READ misses a block that came home after its sector was read, as its record is let go"),
+    "late read": ("reads", "what a read brings that was in flight at a reset goes to the next READ"),
+    "taken back": ("kinds", "a refused call turns a good status that is laid out into a failed one"),
+    "cache off": ("three", "a MODE SELECT that failed has turned the write cache off"),
+    "comes again": ("kinds", "a packet that asks its device for something has to come again until that is done"),
+    "no recovery": ("cuts", "a start looks at the blocks at home, and not at the record in the log"),
 }
 AWAY, WRITTEN, HOME = "away", "written", "home"
 SLOT, HEAD, BLOCKS = 0, 1, 2
@@ -101,7 +101,7 @@ class Machine:
             return NAK, disk
         if self.fault == "comes again" and command.kind == "SYNC" and (disk.batch or disk.under) and not disk.is_dead:
             return NAK, self.begun(disk)
-        return ACK, self.gone_on(disk._replace(pending=Pending(command, shown=disk.pending.shown if disk.pending else ())))
+        return ACK, self.gone_on(disk._replace(pending=Pending(command)))
 
     def token(self, disk):
         if disk.answer is None or disk.is_late:
@@ -141,7 +141,7 @@ class Machine:
                 return disk
             disk = self.put(disk, command)
             disk = disk._replace(pending=disk.pending._replace(is_put=True))
-        is_promise = command.kind in ("FORCED", "SYNC") or command.kind == "CACHE_OFF" or not disk.is_cached
+        is_promise = command.kind in ("FORCED", "SYNC") or disk.is_cached == (command.kind == "CACHE_OFF")
         if is_promise and self.owes(disk):
             return disk
         return self.done(disk._replace(is_cached=disk.is_cached and command.kind != "CACHE_OFF"), ("good", None))
@@ -277,6 +277,3 @@ class Machine:
     def may_rest(self, disk):
         """Whether the device is told nothing."""
         return disk.call is None and not any(self.calls(disk))
-
-    def is_busy(self, disk):
-        return disk.pending is not None and asks(disk.pending.command)

@@ -11,6 +11,20 @@ from lib.model.lag_rules import NAK, Command, Judge, first
 # What a host may do: how many blocks there are, the commands that it sends and how many, class resets, refusals and cuts.
 World = collections.namedtuple("World", "blocks kinds commands resets refusals cuts")
 Result = collections.namedtuple("Result", "states longest wrong")
+KINDS = ("WRITE", "FORCED", "SYNC", "CACHE_OFF", "READ", "SENSE")
+# The worlds that are tried, and how many states each has.
+WORLDS = {
+    "kinds": (World(2, KINDS, 2, 1, 1, 0), 11795),
+    "three": (World(1, KINDS, 3, 1, 1, 0), 27512),
+    "reads": (World(2, ("WRITE", "READ"), 3, 1, 0, 0), 12130),
+    "room": (World(1, ("WRITE", "READ"), 5, 1, 0, 0), 22115),
+    "cuts": (World(2, ("WRITE", "SYNC", "READ"), 3, 0, 0, 1), 10707),
+}
+MORE_WORLDS = {
+    "all of three": (World(2, KINDS, 3, 1, 1, 0), 111027),
+    "four": (World(1, KINDS, 4, 1, 1, 0), 122036),
+    "all with cuts": (World(2, KINDS, 2, 1, 1, 1), 26525),
+}
 
 
 class Left(typing.NamedTuple):
@@ -143,4 +157,4 @@ class EveryLag:
         while seen[state]:
             state, name = seen[state]
             names.append(name)
-        return ", ".join(reversed(names))
+        return "; ".join(reversed(names))

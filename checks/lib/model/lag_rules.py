@@ -43,17 +43,17 @@ def promised(unit):
     return unit._replace(promised=len(unit.arrays) - 1)
 
 
-def asks(command):
-    """Whether a command may ask its device for something: whether it may be pending."""
-    return command.kind != "SENSE"
-
-
 def writes(command):
     return command.kind in ("WRITE", "FORCED")
 
 
 def promises(unit, command):
     return command.kind in ("FORCED", "SYNC") or command.kind == "CACHE_OFF" and unit.is_cached or command.kind == "WRITE" and not unit.is_cached
+
+
+def asks(unit, command):
+    """Whether a command may ask its device for something, and so may be pending."""
+    return not unit.is_faulted and (command.kind == "READ" or writes(command) or promises(unit, command))
 
 
 def by_table(unit, command):
@@ -94,7 +94,7 @@ def taken(it, command):
     if it.answer is not None:
         return []
     acted = Lagging(*carried_out(it.unit, command, GOOD))
-    return [acted, it._replace(pending=command)] if asks(command) else [acted]
+    return [acted, it._replace(pending=command)] if asks(it.unit, command) else [acted]
 
 
 def dropped(it):
