@@ -12,14 +12,13 @@
  * behind [LIVES [FIRST SEED]] */
 #include "behind.h"
 #include "gadget.h"
-#include "image.h"
 #include "number.h"
 #include <limits.h>
 #include <stdio.h>
 #include <stdlib.h>
 #include <string.h>
 
-enum { STEPS = 3000, LIVES_OF_AN_IMAGE = 10, CUTS_AT_ONCE = 3, SEEN = 50 };
+enum { STEPS = 3000, LIVES_OF_AN_IMAGE = 10, CUTS_AT_ONCE = 3, SEEN = 50, ENOUGH = 1000 };
 
 /* What the judge knows of a life besides what was promised. */
 static struct history history;
@@ -70,8 +69,8 @@ static bool cut_here(void)
 
 static void begin(void)
 {
-    struct command command =
-        book.key ? (struct command){ .code = 0x03 } : some_command(book.is_plain);
+    uint8_t code = book.key ? 0x03 : asks_cache() ? 0x1A : 0;
+    struct command command = code ? (struct command){ .code = code } : some_command(book.is_plain);
     host_begin(&bench.host, &command, promises(&command, book.is_cached));
 }
 
@@ -79,6 +78,7 @@ static void begin(void)
 static void note_command(void)
 {
     const struct command *command = &bench.host.command;
+    note_cache(book.is_cached);
     if (bench.is_faulted)
         return;
     if (writes(command)) {
@@ -101,6 +101,8 @@ static bool judge_sense(void)
     bool is_told = book.key == key && book.code == code;
     bool is_unread = key == 3 && code == 0x11, is_later = key == 4 && code == 0x44;
     book.key = 0;
+    if (is_told && code == 0x0C)
+        return is_own_error();
     return is_told || (bench.is_faulted && (is_unread || is_later)) ||
            fails("a sense is not that of what went wrong");
 }
@@ -119,7 +121,7 @@ static bool judge_failure(const struct command *command)
     if (bench.is_faulted) {
         book.key = 3;
         book.code = 0x0C;
-        return true;
+        return judge_fault(&bench.host, &book.is_cached);
     }
     if (!reads(command) || !bench.is_unread)
         return fails("a command is not good");
@@ -138,6 +140,8 @@ static bool judge_status(void)
         return judge_failure(command);
     if (command->code == 0x03)
         return judge_sense();
+    if (command->code == 0x1A)
+        return judge_cache(&bench.host, &book.is_cached);
     if (bench.is_faulted)
         return fails("a command is good though the device refused a call");
     /* (a MODE SELECT that leaves the write cache on may wait like one that turns it off, and
@@ -310,6 +314,7 @@ static void open_book(void)
     book.is_unflushed = bench.device.count > 0;
     book.is_cached = true;
     book.is_settled = false;
+    forget_cache();
     book.is_plain = random_below(4) == 0;
     book.keeps_power = random_below(3) == 0;
     book.key = 6; /* the first command is told that the power was off */
@@ -330,14 +335,8 @@ static bool play_life(void)
 
 static bool make_image(uint32_t format)
 {
-    struct device *device = &bench.device;
-    if (format_memory(device->now, (size_t)SECTORS * 512, format, BLOCKS,
-                      1 + random_below(MOST_SLOTS)))
-        return fails("no image is made");
-    memcpy(device->durable, device->now, (size_t)SECTORS * 512);
-    device->count = 0;
     memset(&history, 0, sizeof history);
-    return true;
+    return device_make(&bench.device, format);
 }
 
 /* Behind some lives what a judge has to see was seen. */
@@ -390,7 +389,8 @@ int main(int count, char **words)
     setvbuf(stdout, NULL, _IOLBF, 0);
     if (!device_open(&bench.device) || !finds_open())
         return EXIT_FAILURE;
-    bool good = play_lives(1, (long)lives) && play_lives(2, (long)lives);
+    bool good = play_lives(1, (long)lives) && play_lives(2, (long)lives) &&
+                tell_departures(lives >= ENOUGH);
     device_close(&bench.device);
     finds_close();
     if (heap_blocks)

@@ -41,6 +41,9 @@ struct device {
 bool device_open(struct device *device);
 void device_close(struct device *device);
 
+/* An image of some slots is made on it, all of which is there for good. */
+bool device_make(struct device *device, uint32_t format);
+
 /* Begins the call in `call`. A WRITE has its bytes in the buffer. */
 bool device_begin(struct device *device);
 
@@ -88,6 +91,7 @@ struct host {
     uint8_t status;
     bool promises;            /* the command is good only when all is durable */
     bool waits;               /* a promise was asked for, and the disk may wait for its device */
+    bool is_dropped;          /* the promise that it may wait for was dropped by a class reset */
     bool is_refused;          /* the last packet was, or the last token */
     bool is_opening;          /* the image is recovered, or its first sectors are read: requests may
                                  be refused */
@@ -105,6 +109,37 @@ void host_reset(struct host *host);
 
 /* Sends a packet that is wrong where the disk is now. */
 bool host_errs(struct host *host);
+
+/* ---- where the disk departs from the definitions */
+
+enum departure {
+    TAKEN_BACK,
+    FAILED_READ_SENDS,
+    CACHE_OFF,
+    HALTED_WAITS,
+    WAITS_FOR_DROPPED,
+    GOOD_ANSWER_WAITS,
+    COMES_AGAIN,
+    DEPARTURES
+};
+
+/* It is seen. False where it is none of those that are known. */
+bool departs(enum departure departure);
+
+/* A MODE SELECT that fails leaves the write cache as it is noted here. Behind it a host asks for
+ * that by MODE SENSE. */
+void note_cache(bool is_cached);
+void forget_cache(void);
+bool asks_cache(void);
+bool judge_cache(const struct host *host, bool *is_cached);
+
+/* A command failed as a write or a flush was refused; and its sense is that of such a call, by
+ * which only one that writes or promises may fail. */
+bool judge_fault(const struct host *host, bool *is_cached);
+bool is_own_error(void);
+
+/* Tells how often each that is known was seen. False where one that has to be was not. */
+bool tell_departures(bool has_to_see);
 
 /* ---- the bench */
 

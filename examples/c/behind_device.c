@@ -3,6 +3,7 @@
  * keeps any. */
 #include "behind.h"
 #include "draw.h"
+#include "image.h"
 #include <stdlib.h>
 #include <string.h>
 
@@ -130,4 +131,14 @@ void device_cut(const struct device *device, unsigned kept, struct device *other
     memcpy(other->now, other->durable, (size_t)SECTORS * 512);
     other->count = 0;
     other->call.kind = USBDISK_NOTHING;
+}
+
+bool device_make(struct device *device, uint32_t format)
+{
+    if (format_memory(device->now, (size_t)SECTORS * 512, format, BLOCKS,
+                      1 + random_below(MOST_SLOTS)))
+        return fails("no image is made");
+    memcpy(device->durable, device->now, (size_t)SECTORS * 512);
+    device->count = 0;
+    return true;
 }

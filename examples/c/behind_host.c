@@ -34,7 +34,9 @@ bool promises(const struct command *command, bool is_cached)
         return command->flags || !is_cached;
     if (reads(command))
         return command->flags;
-    return command->code == 0x15 ? is_cached : command->code != 0x03;
+    if (command->code == 0x15)
+        return is_cached;
+    return command->code != 0x03 && command->code != 0x1A;
 }
 
 struct command some_command(bool is_plain)
@@ -65,12 +67,12 @@ static bool sends_data(const struct command *command)
 
 static bool wants_data(const struct command *command)
 {
-    return reads(command) || command->code == 0x03;
+    return reads(command) || command->code == 0x03 || command->code == 0x1A;
 }
 
 static unsigned length_of(const struct command *command)
 {
-    if (command->code == 0x15)
+    if (command->code == 0x15 || command->code == 0x1A)
         return 24;
     if (command->code == 0x03)
         return 18;
@@ -91,6 +93,7 @@ void host_reset(struct host *host)
 {
     host->stage = RESET;
     host->requests = 0;
+    host->is_dropped |= host->waits;
 }
 
 /* The command block, of 6, 10 or 16 bytes. */
@@ -99,6 +102,9 @@ static unsigned spell_block(const struct command *command, uint8_t block[16])
     block[0] = command->code;
     block[1] = command->flags;
     if (command->code < 0x20) {
+        if (command->code == 0x1A) {
+            block[1] = block[2] = 8; /* the caching page, and no block descriptor */
+        }
         block[4] = (uint8_t)length_of(command);
         return 6;
     }
@@ -153,6 +159,13 @@ static enum outcome take_on(struct host *host, unsigned size)
     return CARRIED_OUT;
 }
 
+/* A packet was not taken, and while no start is under way none is pending. */
+static bool may_come_again(const struct host *host)
+{
+    uint32_t fault;
+    return usbdisk_state(host->disk, &fault) == USBDISK_STARTING || departs(COMES_AGAIN);
+}
+
 /* How many of the bytes were taken: all, or so many packets. */
 static enum outcome judge_taken(struct host *host, uint32_t code, unsigned size, size_t taken)
 {
@@ -160,6 +173,8 @@ static enum outcome judge_taken(struct host *host, uint32_t code, unsigned size,
     bool is_part = code == USBDISK_NAK && taken < size && taken % host->packet == 0;
     host->is_refused = is_part;
     host->parts += is_part && taken > 0;
+    if (is_part && !may_come_again(host))
+        return WRONG;
     if (is_whole || (is_part && taken > 0))
         return take_on(host, (unsigned)taken);
     if (!is_part)
@@ -203,7 +218,7 @@ static enum outcome receive(struct host *host, const uint8_t *bytes, size_t size
 {
     size_t left = host->length - host->moved, of_data = size < left ? size : left;
     bool is_status = host->stage == STATUS || (size == 13 && !memcmp(bytes, "USBS", 4));
-    host->waits = false;
+    host->waits = host->is_dropped = false;
     if (is_status)
         return hear_status(host, bytes, size);
     memcpy(host->data + host->moved, bytes, of_data);
@@ -235,14 +250,24 @@ static bool keeps_the_rest(const uint8_t *room, size_t given, size_t size)
     return true;
 }
 
+/* Whether an answer may wait: that of a command that may ask the device for something. */
+static bool may_wait(const struct host *host)
+{
+    const struct command *command = &host->command;
+    bool asks_none = command->code == 0x15 && command->cache;
+    if (!host->waits)
+        return fails("an answer waits that promises nothing");
+    if (!host->promises && !reads(command) && !writes(command))
+        return !host->is_dropped || departs(WAITS_FOR_DROPPED);
+    return !asks_none || departs(GOOD_ANSWER_WAITS);
+}
+
 /* A token was answered NAK or STALL. */
 static enum outcome wait_or_halt(struct host *host, uint32_t code)
 {
-    if (code == USBDISK_NAK && !host->waits)
-        fails("an answer waits that promises nothing");
-    else if (code == USBDISK_NAK)
-        return GOES_ON;
-    else if (host->stage != DATA_IN || code != USBDISK_STALL)
+    if (code == USBDISK_NAK)
+        return may_wait(host) ? GOES_ON : WRONG;
+    if (host->stage != DATA_IN || code != USBDISK_STALL)
         fails("a status is halted");
     else if (request(host, requests[1])) {
         host->stage = STATUS;
@@ -300,7 +325,7 @@ static bool are_halted(struct host *host)
     bool in_waits = in == USBDISK_NAK && host->waits;
     if ((in != USBDISK_STALL && !in_waits) || (out != USBDISK_STALL && out != USBDISK_NAK))
         return fails("an endpoint is not halted behind a wrong packet");
-    return true;
+    return in == USBDISK_STALL || departs(HALTED_WAITS);
 }
 
 bool host_errs(struct host *host)
