@@ -69,7 +69,7 @@ static bool cut_here(void)
 
 static void begin(void)
 {
-    uint8_t code = book.key ? 0x03 : asks_cache() ? 0x1A : 0;
+    uint8_t code = book.key ? 0x03 : asked_code();
     struct command command = code ? (struct command){ .code = code } : some_command(book.is_plain);
     host_begin(&bench.host, &command, promises(&command, book.is_cached));
 }

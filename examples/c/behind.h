@@ -127,10 +127,10 @@ enum departure {
 bool departs(enum departure departure);
 
 /* A MODE SELECT that fails leaves the write cache as it is noted here. Behind it a host asks for
- * that by MODE SENSE. */
+ * that by the MODE SENSE of this code, or of 0 where it need not. */
 void note_cache(bool is_cached);
 void forget_cache(void);
-bool asks_cache(void);
+uint8_t asked_code(void);
 bool judge_cache(const struct host *host, bool *is_cached);
 
 /* A command failed as a write or a flush was refused; and its sense is that of such a call, by

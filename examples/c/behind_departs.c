@@ -45,9 +45,9 @@ void forget_cache(void)
     last.asks = false;
 }
 
-bool asks_cache(void)
+uint8_t asked_code(void)
 {
-    return last.asks;
+    return last.asks ? 0x1A : 0;
 }
 
 bool judge_cache(const struct host *host, bool *is_cached)
