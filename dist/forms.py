@@ -82,8 +82,11 @@ FORMS = tuple(form(*it) for it in (
 DEFINE = re.compile(rf"define ((?:internal |dso_local |hidden )*)(?:noundef )?(?:signext |zeroext )?(void|{TYPE}) ({NAME})\((.*)\)(?: unnamed_addr)?(?: #\d+)? \{{")
 PARAMETER = re.compile(rf"({TYPE}){PROMISES} (%[\w.]+)")
 STATIC = re.compile(r'(@static\.\d+) = private unnamed_addr constant \[(\d+) x i8\] (?:c"(.*)"|zeroinitializer), align (\d+)')
-# Lines that say nothing of what the program does.
-IDLE = re.compile(r"|;.*|source_filename = .*|target (?:datalayout|triple) = .*|attributes #.*|![\w.]+ = .*|declare .*")
+# Lines that say nothing of what the program does, but for what they promise of it.
+PROMISE = r"(?:nounwind|noinline|alwaysinline|inlinehint|nobuiltin|nocallback|nofree|nosync|speculatable|willreturn|cold|noreturn|memory\([\w: ]+\))"
+IDLE = re.compile(rf"|;.*|source_filename = .*|target (?:datalayout|triple) = .*|attributes #\d+ = \{{ {PROMISE}(?: {PROMISE})* \}}|![\w.]+ = .*")
+DECLARE = re.compile(rf"declare (?:void|{TYPE}|\[2 x i64\]) ({NAME})\((?:(?:{TYPE})[\w ()]*(?:, (?:{TYPE})[\w ()]*)*)?\)(?: #\d+)?")
+METADATA = re.compile(r"(?:, !(?:noundef|range) !\d+)+\Z")
 PAIR = re.compile(r"\{ (\w+), (\w+) \}")
 
 
@@ -133,7 +136,7 @@ def step_of(line, forms=FORMS):
     """An instruction, of its line."""
     # (words that come back from C are two of an array in a module that was made for AArch64, and a pair in one for x86-64)
     text = line.replace("[2 x i64]", "{ i64, i64 }")
-    text = re.sub(r"(?:, !\w+(?:\.\w+)* !\d+)+\Z", "", text.strip())
+    text = METADATA.sub("", text.strip())
     for it in forms:
         found = it.line.fullmatch(text)
         if found:
@@ -175,7 +178,9 @@ def read(path, forms=FORMS, outside=None):
         elif line == "}" and at is not None:
             at = None
         else:
-            module.rest.append(line if IDLE.fullmatch(line) else refuse(line))
+            found = DECLARE.fullmatch(line)
+            is_known = found[1] in (outside or OUTSIDE) if found else IDLE.fullmatch(line)
+            module.rest.append(line if is_known else refuse(line))
     for it in module.functions.values():
         check(it, module, {it.kind: it for it in forms}, outside or OUTSIDE)
     return module
