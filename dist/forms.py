@@ -232,6 +232,8 @@ def check(function, module, forms, outside):
             raise Refused(f"{function.name}: there is no such label: {it.text.strip()[:120]}")
         if it.kind == "ret" and (it.parts["type"] or "void") != function.result:
             raise Refused(f"{function.name}: it returns another type")
+        if it.kind == "icmp" and it.parts["type"] == "ptr" and it.parts["test"] not in ("eq", "ne"):
+            raise Refused(f"{function.name}: addresses in an order: {it.text.strip()[:120]}")
 
 
 def fits(value, wanted, types, module):
