@@ -1,0 +1,82 @@
+"""The module as LLVM's -Os leaves it, and what is understood of it: the forms of forms.py at every width up to 64 bits, and those below.
+
+The compiler keeps what the module means on a processor of 64 bits. That of RISC-V has no vectors and no forms of its own. Words that promise more than
+the plain instruction does are taken off; the alignment of what is copied or filled stays."""
+
+import re
+import subprocess
+
+import forms
+
+WORDS = ["--target=riscv64-unknown-elf", "-Os", "-Wno-override-module", "-mllvm", "-switch-to-lookup=false", "-S", "-emit-llvm", "-x", "ir"]
+# Each width. None is above 64.
+WIDTH = r"i(?:[1-9]|[1-5]\d|6[0-4])"
+PROMISE = re.compile(
+    r"(?<=[ (])(?:fastcc|local_unnamed_addr|noundef|nonnull|noalias|nofree|readonly|writeonly|readnone|returned|immarg|nocapture|signext|zeroext|"
+    r"captures\([^()]*\)|range\([^()]*\)|(?:dereferenceable|dereferenceable_or_null)\(\d+\)|initializes\((?:\([^()]*\)(?:, )?)+\)) "
+)
+# A pair that is known. No part of one is an address but null.
+PART = r"\w+ (?:-?\d+|true|false|null|undef|poison)"
+CONSTANT = rf"(?:undef|poison|zeroinitializer|\{{ {PART}, {PART} \}})"
+ALIGN = r"(?: align <{}:\d+))?"
+MORE = tuple(forms.form(*it) for it in (
+    ("phi", r"TO = phi <type:TYPE) <incoming:\[ .+ \])", "type"),
+    ("select", r"TO = select i1 <test:VALUE), <type:TYPE) <one:VALUE|undef|poison), TYPE <two:VALUE|undef|poison)", "type", "i1 test, type one, type two"),
+    ("insert", rf"TO = insertvalue <type:TYPE) <base:{CONSTANT}), <part:INTEGER|ptr) <given:VALUE), <place:[01])", "type", "part given"),
+    ("return", rf"ret <type:TYPE) <base:{CONSTANT})", "type"),
+    ("freeze", r"TO = freeze <type:INTEGER|ptr) <value:VALUE)", "type", "type value"),
+    ("inttoptr", r"TO = inttoptr i64 <value:VALUE) to ptr", "ptr", "i64 value"),
+    ("ptrtoaddr", r"TO = ptrtoint ptr <value:VALUE) to i64", "i64", "ptr value"),
+    ("ashr", r"TO = ashr (?:exact )?<type:INTEGER) <one:VALUE), <two:\d+)", "type", "type one, type two"),
+    ("sext", r"TO = sext <from:INTEGER) <value:VALUE) to <type:INTEGER)", "type", "from value"),
+    ("lifetime", r"(?:tail )?call void @llvm\.lifetime\.<what:start|end)\.p0\(ptr <at:VALUE)\)(?: #\d+)?", "", "ptr at"),
+    ("copy", rf"(?:tail )?call void @llvm\.<what:memcpy|memmove)\.p0\.p0\.i64\(ptr{ALIGN.format('to_align')} <at:VALUE), "
+     rf"ptr{ALIGN.format('align')} <source:VALUE), i64 <size:VALUE), i1 false\)(?: #\d+)?", "", "ptr at, ptr source, i64 size"),
+    ("fill", rf"(?:tail )?call void @llvm\.memset\.p0\.i64\(ptr{ALIGN.format('align')} <at:VALUE), i8 <byte:VALUE), i64 <size:VALUE), i1 false\)(?: #\d+)?",
+     "", "ptr at, i8 byte, i64 size"),
+    ("funnel", r"TO = (?:tail )?call INTEGER @llvm\.fsh<way:l|r)\.i\d+\(<type:INTEGER) <one:VALUE), INTEGER <two:VALUE), INTEGER <three:[1-9]\d*)\)(?: #\d+)?",
+     "type", "type one, type two, type three"),
+))
+
+
+def widened(row):
+    """A row of the list, for each width."""
+    return row._replace(line=re.compile(row.line.pattern.replace(forms.INTEGER, WIDTH)))
+
+
+FORMS = tuple(map(widened, (*MORE, *forms.FORMS)))
+ROWS = {it.kind: it for it in FORMS}
+TWO = ("umin", "umax", "smin", "smax", "usub.sat", "uadd.sat")
+
+
+def outside():
+    """What is called and not defined, beside what forms.py has."""
+    known = {name: row for name, row in forms.OUTSIDE.items() if not name.startswith("@llvm.mem")}
+    for kind in (f"i{n}" for n in range(1, 65)):
+        known.update({f"@llvm.{it}.{kind}": (kind, (kind, kind)) for it in TWO})
+        known.update({f"@llvm.{it}.{kind}": (kind, (kind, "i1")) for it in ("ctlz", "cttz")})
+        known.update({f"@llvm.{it}.with.overflow.{kind}": (f"{{ {kind}, i1 }}", (kind, kind)) for it in ("uadd", "usub", "umul")})
+    known.update({f"@llvm.bswap.i{n}": (f"i{n}", (f"i{n}",)) for n in (16, 32, 64)})
+    return {**known, "@llvm.assume": ("void", ("i1",))}
+
+
+def plain(text):
+    """The text of a module without promises, its names without quotes."""
+    text, known = re.sub(r" ; (?:preds = .*|No predecessors!)$", "", text, flags=re.M), {}
+    text = re.sub(r'%(?:"[^"]*"|[\w.]+-[\w.-]+)', lambda it: known.setdefault(it[0], f"%q{len(known)}"), text)
+    text = re.sub(r'^(?:"[^"]*"|[\w.]+-[\w.-]+)(?=: *$)', lambda it: known.setdefault(f"%{it[0]}", f"%q{len(known)}")[1:], text, flags=re.M)
+    lines = (PROMISE.sub("", it) if re.search(r"\b(?:call|define)\b", it) else it for it in text.split("\n"))
+    # (a switch may stand behind others; the alignment of an argument is told to copies and fills alone)
+    return "\n".join(it if "@llvm.mem" in it else re.sub(r"\bptr align \d+(?= %| @)", "ptr", it) for it in lines)
+
+
+def optimise(clang, path, to):
+    """Writes the module as -Os leaves it."""
+    subprocess.run([clang, *WORDS, path, "-o", to], check=True)
+
+
+def incoming(step):
+    """What a phi takes: each value with the label that it comes from."""
+    text = step.parts["incoming"]
+    one = rf"\[ ({forms.VALUE}|{CONSTANT}), (%[\w.]+) \]"
+    return re.findall(one, text) if re.fullmatch(rf"{one}(?:, {one})*", text) else forms.refuse(step.text)
