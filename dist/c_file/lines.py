@@ -112,8 +112,9 @@ class Lines:
     def line(self, step):
         """What an instruction does, but for those that a block ends with, and for what nobody reads."""
         made = step.parts.get("to")
-        if made and made not in self.read and step.kind != "call":
-            return None
+        is_call = step.kind == "call" and not step.parts["name"].startswith("@llvm.")
+        if made and made not in self.read:
+            return f"{self.line_call(step.parts, step)};" if is_call else None
         text = getattr(self, f"line_{step.kind}")(step.parts, step)
         if text is None:
             return None

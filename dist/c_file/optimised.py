@@ -52,7 +52,7 @@ TWO = ("umin", "umax", "smin", "smax", "usub.sat", "uadd.sat")
 def outside():
     """What is called and not defined, beside what forms.py has."""
     known = {name: row for name, row in forms.OUTSIDE.items() if not name.startswith("@llvm.mem")}
-    for kind in (f"i{n}" for n in range(1, 65)):
+    for kind in ("i8", "i16", "i32", "i64"):
         known.update({f"@llvm.{it}.{kind}": (kind, (kind, kind)) for it in TWO})
         known.update({f"@llvm.{it}.{kind}": (kind, (kind, "i1")) for it in ("ctlz", "cttz")})
         known.update({f"@llvm.{it}.with.overflow.{kind}": (f"{{ {kind}, i1 }}", (kind, kind)) for it in ("uadd", "usub", "umul")})

@@ -41,6 +41,7 @@ def function_of(function, names):
     phis = [it for label in made.blocks.order for it in made.blocks.steps[label] if it.kind == "phi"]
     before = [f"    {lines.c_type(it.parts['type'])} {made.values[it.parts['to']]};" for it in phis]
     before += [f"    u64 room[{max(1, -(-made.room // 8))}];"] if made.places else []
+    before += [f"    (void)a{n};" for n, it in enumerate(function.parameters) if it.name not in made.read]
     name = function.name.strip('@"').replace("*/", "* /")
     return "\n".join([f"/* {name} */", heading(function, names), "{", *before, *shortened(text), "}", ""])
 
@@ -102,7 +103,8 @@ def write(module, header, stamp):
     if {it.name for it in functions if not it.is_inner} != {f"@{it[1]}" for it in calls}:
         raise forms.Refused("the module has other calls than the header")
     parts = [f"/* {stamp} */", text_of(HEAD), *pairs_of(module), ""]
-    parts += [constant_of(names[name], it) for name, it in module.statics.items()]
-    parts += ["", *(f"{heading(it, names)};" for it in functions), ""]
-    parts += [function_of(it, names) for it in functions]
+    bodies = [function_of(it, names) for it in functions]
+    read = set(re.findall(r"\bstatic_\d+\b", "\n".join(bodies)))
+    parts += [constant_of(names[name], it) for name, it in module.statics.items() if names[name] in read]
+    parts += ["", *(f"{heading(it, names)};" for it in functions), "", *bodies]
     return "\n".join([*parts, *(export_of(*it, names) for it in calls)])
