@@ -195,7 +195,7 @@ class Lines:
         kind, bits = p["type"], bits_of(p["type"])
         one, two, far = self.wide(kind, p["one"]), self.wide(kind, p["two"]), int(p["three"]) % bits
         if not far:
-            return one if p["way"] == "l" else two
+            return cut(kind, one if p["way"] == "l" else two)
         left = far if p["way"] == "l" else bits - far
         return cut(kind, f"({one} << {left}) | ({two} >> {bits - left})")
 

@@ -3,6 +3,7 @@
 The compiler keeps what the module means on a processor of 64 bits. That of RISC-V has no vectors and no forms of its own. Words that promise more than
 the plain instruction does are taken off; the alignment of what is copied or filled stays."""
 
+import itertools
 import re
 import subprocess
 
@@ -24,7 +25,7 @@ MORE = tuple(forms.form(*it) for it in (
     ("select", r"TO = select i1 <test:VALUE), <type:TYPE) <one:VALUE|undef|poison), TYPE <two:VALUE|undef|poison)", "type", "i1 test, type one, type two"),
     ("insert", rf"TO = insertvalue <type:TYPE) <base:{CONSTANT}), <part:INTEGER|ptr) <given:VALUE), <place:[01])", "type", "part given"),
     ("return", rf"ret <type:TYPE) <base:{CONSTANT})", "type"),
-    ("freeze", r"TO = freeze <type:INTEGER|ptr) <value:VALUE)", "type", "type value"),
+    ("freeze", r"TO = freeze <type:TYPE) <value:VALUE)", "type", "type value"),
     ("inttoptr", r"TO = inttoptr i64 <value:VALUE) to ptr", "ptr", "i64 value"),
     ("ptrtoaddr", r"TO = ptrtoint ptr <value:VALUE) to i64", "i64", "ptr value"),
     ("ashr", r"TO = ashr (?:exact )?<type:INTEGER) <one:VALUE), <two:\d+)", "type", "type one, type two"),
@@ -60,12 +61,27 @@ def outside():
     return {**known, "@llvm.assume": ("void", ("i1",))}
 
 
+# What is known of a constant's address, in a line that uses it.
+INSIDE = re.compile(r"ptrtoaddr \(ptr (@static\.\d+) to i64\)|getelementptr (?:inbounds |nuw |nusw )*\(i8, ptr (@static\.\d+), i64 (\d+)\)")
+
+
+def apart(line, names):
+    """A line that makes an address out of a constant's in its middle, as two. (That of a phi would be made elsewhere.)"""
+    before = []
+    while " = phi " not in line and (found := INSIDE.search(line)):
+        name = f"%k{next(names)}"
+        before.append(f"  {name} = ptrtoaddr ptr {found[1]} to i64" if found[1] else f"  {name} = getelementptr i8, ptr {found[2]}, i64 {found[3]}")
+        line = line[: found.start()] + name + line[found.end() :]
+    return "\n".join([*before, line])
+
+
 def plain(text):
     """The text of a module without promises, its names without quotes."""
     text, known = re.sub(r" ; (?:preds = .*|No predecessors!)$", "", text, flags=re.M), {}
     text = re.sub(r'%(?:"[^"]*"|[\w.]+-[\w.-]+)', lambda it: known.setdefault(it[0], f"%q{len(known)}"), text)
     text = re.sub(r'^(?:"[^"]*"|[\w.]+-[\w.-]+)(?=: *$)', lambda it: known.setdefault(f"%{it[0]}", f"%q{len(known)}")[1:], text, flags=re.M)
-    lines = (PROMISE.sub("", it) if re.search(r"\b(?:call|define)\b", it) else it for it in text.split("\n"))
+    names = itertools.count()
+    lines = (apart(PROMISE.sub("", it) if re.search(r"\b(?:call|define)\b", it) else it, names) for it in text.split("\n"))
     # (a switch may stand behind others; the alignment of an argument is told to copies and fills alone)
     return "\n".join(it if "@llvm.mem" in it else re.sub(r"\bptr align \d+(?= %| @)", "ptr", it) for it in lines)
 

@@ -117,7 +117,7 @@ def pairs():
     yield ["%x = trunc i64 %a to i8", "%w = insertvalue { i8, i8 } { i8 1, i8 poison }, i8 %x, 1", "store { i8, i8 } %w, ptr %room, align 1", "ret i64 0"]
     for wanted in ("%w = call { i8, ptr } @pair(i64 %a, ptr %room)", ):
         yield [wanted, "%q = extractvalue { i8, ptr } %w, 1", "store i8 5, ptr %q, align 1", "%z = extractvalue { i8, ptr } %w, 0", *widened(8)]
-    yield ["%w = call { i8, i8 } @known(i64 %a)", "%x = extractvalue { i8, i8 } %w, 0", "%y = extractvalue { i8, i8 } %w, 1", "%z = sub i8 %x, %y", *widened(8)]
+    yield ["%v = call { i8, i8 } @known(i64 %a)", "%w = freeze { i8, i8 } %v", "%x = extractvalue { i8, i8 } %w, 0", "%y = extractvalue { i8, i8 } %w, 1", "%z = sub i8 %x, %y", *widened(8)]
 
 
 def copies():
@@ -131,6 +131,8 @@ def copies():
         yield ["%n = and i64 %a, 31", "%x = trunc i64 %b to i8", f"call void @llvm.memset.p0.i64(ptr align 8 %room, i8 %x, i64 {size}, i1 false)", "ret i64 0"]
     yield ["%n = and i64 %a, 7", "%p = getelementptr i8, ptr @static.1, i64 %n", "%z = load i8, ptr %p, align 1", *widened(8)]
     yield ["%z = load i64, ptr @static.2, align 8", *widened(64)]
+    yield ["%z = load i8, ptr getelementptr inbounds nuw (i8, ptr @static.1, i64 2), align 1", *widened(8)]
+    yield ["%p = getelementptr i8, ptr @static.1, i64 5", "%n = ptrtoaddr ptr %p to i64", "%z = sub i64 %n, ptrtoaddr (ptr @static.1 to i64)", "ret i64 %z"]
     yield ["%w = call { i64, i64 } @rattle_alloc(i64 24, i64 8)", "%g = extractvalue { i64, i64 } %w, 0", "%n = extractvalue { i64, i64 } %w, 1", "%p = inttoptr i64 %n to ptr",
            "store i64 %a, ptr %p, align 8", "%z = load i64, ptr %p, align 8", "call void @rattle_dealloc(ptr %p)", "%h = and i64 %g, 255", "%s = add i64 %z, %h", "ret i64 %s"]
     yield ["%w = call { i64, i64 } @rattle_alloc(i64 1099511627776, i64 8)", "%g = extractvalue { i64, i64 } %w, 0", "%h = and i64 %g, 255", "ret i64 %h"]
