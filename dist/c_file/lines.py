@@ -193,9 +193,9 @@ class Lines:
 
     def line_funnel(self, p, step):
         kind, bits = p["type"], bits_of(p["type"])
-        one, two, far = self.wide(kind, p["one"]), self.wide(kind, p["two"]), int(p["three"]) % bits
-        if not far:
-            return cut(kind, one if p["way"] == "l" else two)
+        one, two, far = self.wide(kind, p["one"]), self.wide(kind, p["two"]), int(p["three"])
+        if far >= bits:
+            forms.refuse(step.text)
         left = far if p["way"] == "l" else bits - far
         return cut(kind, f"({one} << {left}) | ({two} >> {bits - left})")
 

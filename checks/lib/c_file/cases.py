@@ -75,7 +75,7 @@ def known():
             call = [*narrowed(width), f"%w = call {pair} @llvm.{name}.with.overflow.{kind}({kind} %x, {kind} %y)"]
             yield [*call, f"%z = extractvalue {pair} %w, 0", *widened(width)]
             yield [*call, f"%z = extractvalue {pair} %w, 1", *widened(1)]
-        for way, far in (("l", 5), ("r", 3), ("l", width), ("r", width)):
+        for way, far in (("l", 5), ("r", 3), ("l", width - 1), ("r", width - 1)):
             yield [*narrowed(width), f"%z = call {kind} @llvm.fsh{way}.{kind}({kind} %x, {kind} %y, {kind} {far})", *widened(width)]
     for width in (16, 32, 64):
         yield [*narrowed(width), f"%z = call i{width} @llvm.bswap.i{width}(i{width} %x)", *widened(width)]

@@ -26,6 +26,7 @@ LINES = {
     "a remainder with signs": "%x = srem i64 %a, 3",
     "a shift with its sign by a number that is not known": "%x = ashr i64 %a, %b",
     "a funnel by a number that is not known": "%x = call i64 @llvm.fshl.i64(i64 %a, i64 %b, i64 %a)",
+    "a funnel by all bits": "%x = call i64 @llvm.fshl.i64(i64 %a, i64 %b, i64 64)\n  store i64 %x, ptr %room, align 8",
     "addresses in order": "%x = icmp ult ptr %p, %room\n  store i1 %x, ptr %room, align 1",
     "an address of 32 bits": "%x = ptrtoint ptr %p to i32",
     "an address of a number of 32 bits": "%x = inttoptr i32 7 to ptr",
