@@ -6,8 +6,8 @@
  *
  * USBDISK_WIDE   addresses are numbers of 64 bits in registers too, as they are in memory: slower,
  *                and nothing is left to argue about their arithmetic
- * USBDISK_WATCH  each address is compared with what it was as a number of 64 bits; where one
- *                differs the program ends
+ * USBDISK_WATCH  the same, and each address that is used is compared with what it is in the width
+ *                of the processor; where it differs the program ends
  * USBDISK_PLAIN  no word that is not of C99 (of GCC's, where the compiler has them)
  * USBDISK_TRAP   what a place does that no life can come to */
 #include "usbdisk.h"
@@ -42,6 +42,7 @@ typedef uint64_t u64;
 typedef char lies_as_proved[offsetof(struct usbdisk_call, sector) == 8 ? 1 : -1];
 
 #ifdef USBDISK_WATCH
+#define USBDISK_WIDE
 static inline KEPT void *watched(u64 p)
 {
     if (p > UINTPTR_MAX)
@@ -57,19 +58,14 @@ typedef u64 ptr;
 #define TO(p) ((u64)(uintptr_t)(p))
 #define GEP(p, n) ((p) + (u64)(n))
 #define PTR(n) (n)
-#define NUMBER(p) (p)
 #else
 typedef u8 *ptr;
 #define AT(p) ((void *)(p))
 #define TO(p) ((u8 *)(uintptr_t)(p))
-#ifdef USBDISK_WATCH
-#define GEP(p, n) ((u8 *)watched((u64)(uintptr_t)(p) + (u64)(n)))
-#else
 #define GEP(p, n) ((p) + (ptrdiff_t)(n))
+#define PTR(n) ((u8 *)(uintptr_t)(n))
 #endif
-#define PTR(n) ((u8 *)watched(n))
-#define NUMBER(p) ((u64)(uintptr_t)(p))
-#endif
+#define NUMBER(p) ((u64)(uintptr_t)AT(p))
 
 /* Reads and writes: where the address is that of a whole word, and where it may be any. */
 #define ACCESS(n, name, of) \
@@ -100,11 +96,6 @@ ACCESS(32, 32U, AT)
 ACCESS(64, 64U, AT)
 #define LD8(p) (*(const u8 *)AT(p))
 #define ST8(p, v) (*(u8 *)AT(p) = (v))
-/* An address takes eight bytes in memory on every processor: its number, and zeros above it. */
-#define LDP(p) PTR(LD64(p))
-#define LDPU(p) PTR(LD64U(p))
-#define STP(p, v) ST64(p, NUMBER(v))
-#define STPU(p, v) ST64U(p, NUMBER(v))
 static inline KEPT u64 LDN(ptr p, size_t n)
 {
     u64 v = 0;

@@ -86,28 +86,14 @@ class Lines:
         """A number with its sign flipped: those with a sign are in the order of these without."""
         return f"({self.wide(kind, text)} ^ {number(kind, 1 << bits_of(kind) - 1)})"
 
-    def load(self, kind, at, align):
-        pair = forms.pair_of(kind)
-        if pair:
-            second = self.load(pair.second, f"GEP({at}, {pair.second_at})", align)
-            return f"({c_type(kind)}){{ {self.load(pair.first, at, align)}, {second} }}"
-        return f"{self.access('LD', kind, align)}{at}{self.odd(kind)})"
-
-    def store(self, kind, at, value, align):
-        pair = forms.pair_of(kind)
-        if pair:
-            return f"{self.store(pair.first, at, f'{value}.a', align)} {self.store(pair.second, f'GEP({at}, {pair.second_at})', f'{value}.b', align)}"
-        return f"{self.access('ST', kind, align)}{at}, {value}{self.odd(kind)});"
-
-    def access(self, what, kind, align):
-        size = places.bytes_of(kind)
-        cast = f"({c_type(kind)})" if what == "LD" and self.odd(kind) else ""
-        return f"{cast}{what}{'N' if self.odd(kind) else 'P' if kind == 'ptr' else 8 * size}{'U' if align < size and not self.odd(kind) else ''}("
-
-    def odd(self, kind):
-        """The bytes of a number that is as long as no type of C."""
-        size = places.bytes_of(kind)
-        return f", {size}" if size not in (1, 2, 4, 8) else ""
+    def access(self, what, step):
+        """A read or a write of a number. (No address lies in memory but as its number.)"""
+        kind, at, size = step.parts["type"], self.value("ptr", step.parts["at"]), places.bytes_of(step.parts["type"])
+        value = f", {self.value(kind, step.parts['value'])}" if what == "ST" else ""
+        if size not in (1, 2, 4, 8):
+            cast = f"({c_type(kind)})" if what == "LD" else ""
+            return f"{cast}{what}N({at}{value}, {size})"
+        return f"{what}{8 * size}{'U' if int(step.parts['align']) < size else ''}({at}{value})"
 
     def line(self, step):
         """What an instruction does, but for those that a block ends with, and for what nobody reads."""
@@ -126,10 +112,10 @@ class Lines:
     line_lifetime = line_phi = line_alloca
 
     def line_load(self, p, step):
-        return self.load(p["type"], self.value("ptr", p["at"]), int(p["align"]))
+        return self.access("LD", step)
 
     def line_store(self, p, step):
-        return self.store(p["type"], self.value("ptr", p["at"]), self.value(p["type"], p["value"]), int(p["align"]))
+        return f"{self.access('ST', step)};"
 
     def line_getelementptr(self, p, step):
         distance = p["distance"]
@@ -160,7 +146,8 @@ class Lines:
         if kind == "ptr" and test not in ("eq", "ne"):
             forms.refuse(step.text)
         made = self.flipped if test[0] == "s" else self.value
-        return f"{made(kind, p['one'])} {TESTS[test[-2:]]} {made(kind, p['two'])}"
+        one, two = made(kind, p["one"]), made(kind, p["two"])
+        return f"AT({one}) {TESTS[test]} AT({two})" if kind == "ptr" else f"{one} {TESTS[test[-2:]]} {two}"
 
     def line_select(self, p, step):
         return chosen(p["type"], self.value("i1", p["test"]), self.value(p["type"], p["one"]), self.value(p["type"], p["two"]))

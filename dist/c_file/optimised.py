@@ -21,6 +21,8 @@ PART = r"\w+ (?:-?\d+|true|false|null|undef|poison)"
 CONSTANT = rf"(?:undef|poison|zeroinitializer|\{{ {PART}, {PART} \}})"
 ALIGN = r"(?: align <{}:\d+))?"
 MORE = tuple(forms.form(*it) for it in (
+    ("load", r"TO = load <type:INTEGER), ptr <at:VALUE), align <align:\d+)", "type", "ptr at"),
+    ("store", r"store <type:INTEGER) <value:VALUE), ptr <at:VALUE), align <align:\d+)", "", "type value, ptr at"),
     ("phi", r"TO = phi <type:TYPE) <incoming:\[ .+ \])", "type"),
     ("select", r"TO = select i1 <test:VALUE), <type:TYPE) <one:VALUE|undef|poison), TYPE <two:VALUE|undef|poison)", "type", "i1 test, type one, type two"),
     ("insert", rf"TO = insertvalue <type:TYPE) <base:{CONSTANT}), <part:INTEGER|ptr) <given:VALUE), <place:[01])", "type", "part given"),
@@ -45,7 +47,8 @@ def widened(row):
     return row._replace(line=re.compile(row.line.pattern.replace(forms.INTEGER, WIDTH)))
 
 
-FORMS = tuple(map(widened, (*MORE, *forms.FORMS)))
+# (no address is read or written: it is a number in memory)
+FORMS = tuple(map(widened, (*MORE, *(it for it in forms.FORMS if it.kind not in ("load", "store")))))
 ROWS = {it.kind: it for it in FORMS}
 TWO = ("umin", "umax", "smin", "smax", "usub.sat", "uadd.sat")
 
@@ -62,7 +65,7 @@ def outside():
 
 
 # What is known of a constant's address, in a line that uses it.
-INSIDE = re.compile(r"ptrtoaddr \(ptr (@static\.\d+) to i64\)|getelementptr (?:inbounds |nuw |nusw )*\(i8, ptr (@static\.\d+), i64 (\d+)\)")
+INSIDE = re.compile(r"ptrto(?:addr|int) \(ptr (@static\.\d+) to i64\)|getelementptr (?:inbounds |nuw |nusw )*\(i8, ptr (@static\.\d+), i64 (\d+)\)")
 
 
 def apart(line, names):

@@ -17,6 +17,11 @@ def text_of(path):
         return file.read()
 
 
+def write_to(path, text):
+    with open(path, "w", encoding="utf-8") as file:
+        file.write(text)
+
+
 def names_of(module):
     """A name of C for each function and each constant, which no other has."""
     names, taken = {}, set()
