@@ -1,10 +1,7 @@
 /* The block device: virtio over memory-mapped registers, one queue, one request at a time, and no
  * interrupts. Virtual I/O Device (VIRTIO) 1.2: sections 2.7 (queues), 4.2 (registers), 5.2. */
 #include "board.h"
-
-/* Where `-M virt` has its 32 places for devices. */
-enum { PLACES = 32, PLACE = 0x200 };
-#define FIRST_PLACE ((uintptr_t)0x0a000000)
+#include <machine.h>
 
 /* Registers, as numbers of 32-bit words. */
 enum {
@@ -57,16 +54,10 @@ static _Alignas(4) volatile struct {
 
 static volatile uint32_t *device;
 
-/* All that was written to memory is seen before what is written next. */
-static void settle(void)
-{
-    __asm__ volatile("dsb sy" : : : "memory");
-}
-
 static volatile uint32_t *find_device(void)
 {
     for (int i = 0; i < PLACES; i++) {
-        volatile uint32_t *place = (volatile uint32_t *)(FIRST_PLACE + (uintptr_t)(PLACE * i));
+        volatile uint32_t *place = (volatile uint32_t *)(uintptr_t)(FIRST_PLACE + PLACE * i);
         if (place[MAGIC] == IS_VIRTIO && place[VERSION] == 2 && place[DEVICE] == IS_BLOCK)
             return place;
     }
@@ -75,8 +66,9 @@ static volatile uint32_t *find_device(void)
 
 static void set_address(int place, const volatile void *at)
 {
-    device[place] = (uint32_t)(uintptr_t)at;
-    device[place + 1] = (uint32_t)((uintptr_t)at >> 32);
+    uint64_t number = (uintptr_t)at;
+    device[place] = (uint32_t)number;
+    device[place + 1] = (uint32_t)(number >> 32);
 }
 
 /* Without a flush no promise could be kept, so there is no disk on a device that has none. */

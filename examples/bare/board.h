@@ -13,13 +13,17 @@ void uart_start(void);
 uint8_t uart_read(void);
 void uart_write(uint8_t byte);
 
-/* A line for people: '#', the text, and the number in hexadecimal digits. */
+/* line.c. A line for people: '#', the text, and the number in hexadecimal digits. */
 void tell(const char *text, uint64_t number);
 
 /* The same, and nothing more is done. */
 _Noreturn void give_up(const char *text, uint64_t number);
 
-/* block.c: the device, in sectors of 512 bytes. A call that answers false was refused. */
+/* From the machine's start: an exception, with what it has as its cause, where it was, and the
+ * address that was asked for. */
+_Noreturn void trapped(uintptr_t cause, uintptr_t at, uintptr_t address);
+
+/* block.c, or flash.c of a machine: the device, in sectors of 512 bytes. A call that answers false was refused. */
 void block_start(void);
 uint64_t block_sectors(void);
 bool block_read(uint64_t sector, uint8_t *bytes, size_t count);

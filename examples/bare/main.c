@@ -1,11 +1,12 @@
-/* A USB disk in firmware without an operating system, for QEMU's machine `virt`: the library
- * between a block device that can be flushed (block.c) and packets (bus.c). For a board write these
- * two, uart.c and the addresses in link.ld anew. */
+/* A USB disk in firmware without an operating system: the library between a block device that can be
+ * flushed and packets (bus.c). All machines share this file; machine.h tells what one has. For a
+ * board write block.c, bus.c, uart.c and the addresses in link.ld anew. */
 #include "board.h"
 #include "usbdisk.h"
+#include <machine.h>
 
-/* Format 2 with three slots, for hosts that send transfers of up to 240 blocks. */
-enum { FORMAT = 2, SLOTS = 3, LIMIT = 240, HOME = 2 + 249 * SLOTS };
+/* A transfer of a host has up to LIMIT blocks, and they lie from sector HOME on. */
+enum { LIMIT = FORMAT == 1 ? 48 : 240, HOME = 2 + (FORMAT == 1 ? 50 : 249) * SLOTS };
 
 static const struct usbdisk_identity who = { "EXAMPLE ", "BARE            ", "0001",
                                              "000000000001" };
@@ -16,9 +17,9 @@ static bool make_call(const struct usbdisk_call *call)
 {
     switch (call->kind) {
     case USBDISK_READ:
-        return block_read(call->sector, buffer, call->count);
+        return block_read(call->sector, buffer, (size_t)call->count);
     case USBDISK_WRITE:
-        return block_write(call->sector, buffer, call->count);
+        return block_write(call->sector, buffer, (size_t)call->count);
     default:
         return block_flush();
     }
@@ -31,7 +32,7 @@ static uint32_t carry_out(struct usbdisk *handle, uint32_t *fault)
     struct usbdisk_call call;
     while (!usbdisk_next(handle, &call, buffer, sizeof buffer) && call.kind != USBDISK_NOTHING) {
         bool ok = make_call(&call);
-        size_t size = call.kind == USBDISK_READ && ok ? call.count * SECTOR : 0;
+        size_t size = call.kind == USBDISK_READ && ok ? (size_t)call.count * SECTOR : 0;
         usbdisk_done(handle, ok, buffer, size);
     }
     return usbdisk_state(handle, fault);
@@ -67,7 +68,7 @@ static bool is_new(void)
 
 static void start(void)
 {
-    const struct usbdisk_options options = { block_sectors(), who, PACKET, 0 };
+    const struct usbdisk_options options = { block_sectors(), who, PACKET, KEPT };
     if (is_new())
         lay_image();
     uint32_t fault, code = usbdisk_start(&disk, &options);

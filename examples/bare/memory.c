@@ -4,9 +4,7 @@
  * back. So the blocks lie one behind the other, and all are free again with the last one. */
 #include "board.h"
 #include "usbdisk.h"
-
-/* Enough for a start in format 2 with four records kept: usbdisk_memory tells the bytes. */
-enum { HEAP = 6 << 18 };
+#include <machine.h>
 
 static _Alignas(16) uint8_t heap[HEAP];
 static size_t taken, blocks;
