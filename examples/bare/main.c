@@ -26,15 +26,24 @@ static bool make_call(const struct usbdisk_call *call)
 }
 
 /* Has the device carry out all that the disk, or the work on an image, wants of it. What it refuses
- * the library knows then. Answers what state this leaves. */
-static uint32_t carry_out(struct usbdisk *handle, uint32_t *fault)
+ * the library knows then. Answers whether it wanted anything. */
+static bool carry_out(struct usbdisk *handle)
 {
     struct usbdisk_call call;
+    bool is_made = false;
     while (!usbdisk_next(handle, &call, buffer, sizeof buffer) && call.kind != USBDISK_NOTHING) {
         bool ok = make_call(&call);
         size_t size = call.kind == USBDISK_READ && ok ? (size_t)call.count * SECTOR : 0;
         usbdisk_done(handle, ok, buffer, size);
+        is_made = true;
     }
+    return is_made;
+}
+
+/* The same of a start or of the work on an image. Answers what state this leaves. */
+static uint32_t carry_through(struct usbdisk *handle, uint32_t *fault)
+{
+    carry_out(handle);
     return usbdisk_state(handle, fault);
 }
 
@@ -49,7 +58,7 @@ static void lay_image(void)
     uint32_t fault, code = usbdisk_lay_log(&image, &plan);
     if (code)
         give_up("no image is made:", code);
-    if (carry_out(&image, &fault) != USBDISK_DONE)
+    if (carry_through(&image, &fault) != USBDISK_DONE)
         give_up("no image is made:", fault);
     usbdisk_stop(&image);
     tell("a new image, of blocks", plan.blocks);
@@ -74,23 +83,23 @@ static void start(void)
     uint32_t fault, code = usbdisk_start(&disk, &options);
     if (code)
         give_up("no disk:", code);
-    if (carry_out(&disk, &fault) != USBDISK_SERVING)
+    if (carry_through(&disk, &fault) != USBDISK_SERVING)
         give_up("no disk:", fault);
     tell("started, memory", heap_taken());
 }
 
 /* A packet to Bulk-Out. One that waits for the device is taken once it has carried out what it
- * waits for. */
+ * waits for: that may be more than once, where memory has room for few records. */
 static uint32_t bulk_out(const struct event *event)
 {
     size_t taken;
-    uint32_t fault, code = USBDISK_BAD_LENGTH;
-    if (event->size <= PACKET)
+    uint32_t code;
+    if (event->size > PACKET)
+        return USBDISK_BAD_LENGTH;
+    do
         code = usbdisk_out(&disk, event->bytes, event->size, &taken);
-    if (code != USBDISK_NAK)
-        return code;
-    carry_out(&disk, &fault);
-    return usbdisk_out(&disk, event->bytes, event->size, &taken);
+    while (code == USBDISK_NAK && carry_out(&disk));
+    return code;
 }
 
 static uint32_t bulk_in(uint8_t packet[PACKET], uint32_t *size)
@@ -138,7 +147,7 @@ int main(void)
 {
     static struct event event;
     static uint8_t packet[PACKET];
-    uint32_t code, size, fault;
+    uint32_t code, size;
     uart_start();
     if (usbdisk_version() != USBDISK_VERSION)
         give_up("a library of version", usbdisk_version());
@@ -148,6 +157,6 @@ int main(void)
         next_event(&event);
         code = play(&event, packet, &size);
         tell_host(code, packet, size); /* a status does not wait for what the disk does ahead */
-        carry_out(&disk, &fault);
+        carry_out(&disk);
     }
 }

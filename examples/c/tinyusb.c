@@ -1,25 +1,22 @@
-/* The blocks behind a stack that has SCSI in it (port/usbdisk_blocks.h): the callbacks, and what
- * they need. Then a host in their place, which cuts the power: what was promised is there after.
- * Last a device that refuses a call.
- *
- * TinyUSB shows its host no write cache, so that no host sends SYNCHRONIZE CACHE: each write is
- * made durable before it is answered. Where your stack shows a cache (MODE SENSE, page 08h, WCE),
- * and hands SYNCHRONIZE CACHE and FUA on, build with -DSHOWS_CACHE=1. */
-#include "tinyusb.h"
+/* A host in the place of TinyUSB, over the callbacks of port/usbdisk_tinyusb.c: it cuts the power,
+ * and what was promised is there after. Last a device that refuses a call. */
 #include "device.h"
 #include "gadget.h"
-#include "usbdisk_blocks.h"
+#include "usbdisk_tinyusb.h"
 #include <stdio.h>
 #include <stdlib.h>
 #include <string.h>
+#include <tusb.h>
 
-#ifndef SHOWS_CACHE
-#define SHOWS_CACHE 0
+#ifndef USBDISK_SHOWS_CACHE
+#define USBDISK_SHOWS_CACHE 0
 #endif
 
 /* SPAN: how many blocks the stack's buffer has. */
 enum { BLOCKS = 200, SLOTS = 4, SECTORS = 2 + 249 * SLOTS + BLOCKS, SPAN = 8 };
 
+static const struct usbdisk_identity who = { "EXAMPLE ", "POWER SAFE DISK ", "0001",
+                                             "000000000001" };
 static struct usbdisk_blocks *disk;
 
 /* ---- the device */
@@ -61,90 +58,6 @@ static bool flush(void *context)
 
 static const struct usbdisk_io_device device = { NULL, SECTORS, read_run, write_run, flush, 0 };
 
-/* ---- the callbacks */
-
-/* Answers the stack: `good` where the call was, and else an error, of which the host is told the
- * sense. Without it a stack may say that there is no medium. */
-static int32_t answered(uint8_t lun, uint32_t code, int32_t good)
-{
-    uint32_t sense = usbdisk_blocks_sense(code);
-    if (code == 0)
-        return good;
-    tud_msc_set_sense(lun, (uint8_t)(sense >> 16), (uint8_t)(sense >> 8), (uint8_t)sense);
-    return -1;
-}
-
-void tud_msc_inquiry_cb(uint8_t lun, uint8_t vendor[8], uint8_t product[16], uint8_t revision[4])
-{
-    (void)lun;
-    memcpy(vendor, "EXAMPLE ", 8);
-    memcpy(product, "POWER SAFE DISK ", 16);
-    memcpy(revision, "0001", 4);
-}
-
-/* Ready from the start on. After a refusal of the device each command says what is wrong. */
-bool tud_msc_test_unit_ready_cb(uint8_t lun)
-{
-    (void)lun;
-    return disk != NULL;
-}
-
-void tud_msc_capacity_cb(uint8_t lun, uint32_t *block_count, uint16_t *block_size)
-{
-    (void)lun;
-    *block_count = (uint32_t)usbdisk_blocks_count(disk);
-    *block_size = 512;
-}
-
-/* With a buffer of whole blocks the stack asks for whole blocks. */
-static bool is_whole(uint32_t offset, uint32_t bufsize)
-{
-    return offset == 0 && bufsize % 512 == 0;
-}
-
-int32_t tud_msc_read10_cb(uint8_t lun, uint32_t lba, uint32_t offset, void *buffer,
-                          uint32_t bufsize)
-{
-    uint32_t code = USBDISK_BAD_LENGTH;
-    if (is_whole(offset, bufsize))
-        code = usbdisk_blocks_read(disk, lba, buffer, bufsize / 512);
-    return answered(lun, code, (int32_t)bufsize);
-}
-
-int32_t tud_msc_write10_cb(uint8_t lun, uint32_t lba, uint32_t offset, uint8_t *buffer,
-                           uint32_t bufsize)
-{
-    uint32_t code = USBDISK_BAD_LENGTH;
-    if (is_whole(offset, bufsize))
-        code = usbdisk_blocks_write(disk, lba, buffer, bufsize / 512);
-    if (!code && !SHOWS_CACHE)
-        code = usbdisk_blocks_sync(disk);
-    return answered(lun, code, (int32_t)bufsize);
-}
-
-/* START STOP UNIT: a host that lets the disk go has what it wrote. */
-bool tud_msc_start_stop_cb(uint8_t lun, uint8_t power_condition, bool start, bool load_eject)
-{
-    (void)power_condition;
-    (void)start;
-    (void)load_eject;
-    return answered(lun, usbdisk_blocks_sync(disk), 0) == 0;
-}
-
-int32_t tud_msc_scsi_cb(uint8_t lun, const uint8_t command[16], void *buffer, uint16_t bufsize)
-{
-    (void)buffer;
-    (void)bufsize;
-    switch (command[0]) {
-    case 0x35: /* SYNCHRONIZE CACHE(10) */
-    case 0x91: /* SYNCHRONIZE CACHE(16) */
-        return answered(lun, usbdisk_blocks_sync(disk), 0);
-    default: /* ILLEGAL REQUEST, invalid command operation code */
-        tud_msc_set_sense(lun, 0x05, 0x20, 0x00);
-        return -1;
-    }
-}
-
 /* ---- a start, and a host */
 
 static uint32_t sense;
@@ -168,6 +81,7 @@ static void start(void)
 {
     uint32_t code = usbdisk_blocks_start(&disk, &device, SPAN);
     must(!code, usbdisk_text(code));
+    usbdisk_tinyusb_serve(disk, &who);
 }
 
 /* The power goes: what was written and not flushed may be lost. */
@@ -207,7 +121,7 @@ static void live(unsigned round)
 {
     for (uint32_t lba = 0; lba < BLOCKS; lba += SPAN)
         must(write_blocks(lba, (unsigned char)(round + lba)), "a write");
-    if (SHOWS_CACHE || round % 2)
+    if (USBDISK_SHOWS_CACHE || round % 2)
         must(synchronise(round / 2 % 3), "a sync");
     while (round % 3 == 0 && usbdisk_blocks_idle(disk))
         ;
@@ -238,8 +152,8 @@ static bool refuse_one(uint32_t call, unsigned char was, unsigned char fill)
     sense = 0;
     bool is_begun = write_blocks(0, fill), is_written = is_begun && write_blocks(SPAN, fill);
     bool is_synchronised = is_written && synchronise(0);
-    bool first = is_synchronised || (!SHOWS_CACHE && is_begun);
-    bool second = is_synchronised || (!SHOWS_CACHE && is_written);
+    bool first = is_synchronised || (!USBDISK_SHOWS_CACHE && is_begun);
+    bool second = is_synchronised || (!USBDISK_SHOWS_CACHE && is_written);
     while (is_synchronised && usbdisk_blocks_idle(disk))
         ;
     bool is_reached = refuses == 0;
@@ -277,6 +191,7 @@ static void play_worn(void)
         heap_fails = 0;
         must(!code || (code == USBDISK_NO_MEMORY && !heap_blocks), "a start without memory");
     }
+    usbdisk_tinyusb_serve(disk, &who);
     must(has_blocks(0, 1), "a sector that can be read again");
 }
 
@@ -291,8 +206,10 @@ static void misuse(void)
     must(tud_msc_read10_cb(0, BLOCKS, 0, bytes, 512) < 0 && sense == 0x052100,
          "a block behind the last one");
     usbdisk_blocks_stop(disk);
-    disk = NULL;
+    usbdisk_tinyusb_serve(NULL, &who);
     must(!tud_msc_test_unit_ready_cb(0) && !heap_blocks, "the end");
+    must(!has_blocks(0, 1) && !write_blocks(0, 1) && !synchronise(0) && !synchronise(2),
+         "a call of no disk");
 }
 
 int main(void)
@@ -315,6 +232,6 @@ int main(void)
     misuse();
     printf("a stack with SCSI in it, %s: 20 cuts and %u refused calls, all that was promised is "
            "there\n",
-           SHOWS_CACHE ? "a write cache shown" : "no write cache shown", calls - 1);
+           USBDISK_SHOWS_CACHE ? "a write cache shown" : "no write cache shown", calls - 1);
     return 0;
 }

@@ -13,7 +13,6 @@ SECTIONS
         . = ALIGN(8);
         data_kept = .;
     }
-    .ARM.exidx : { *(.ARM.exidx*) }
     . = 0x20000000;
     .stack (NOLOAD) : {
         . += 0x6000; /* 24 KB */
@@ -33,5 +32,5 @@ SECTIONS
         bss_end = .;
     }
     ASSERT(bss_end <= 0x20000000 + MEMORY, "more memory than the part has")
-    /DISCARD/ : { *(.comment) *(.note*) *(.eh_frame*) *(.ARM.attributes) }
+    /DISCARD/ : { *(.comment) *(.note*) *(.eh_frame*) *(.ARM.*) }
 }

@@ -3,13 +3,13 @@
 #ifndef MACHINE_H
 #define MACHINE_H
 
-/* KEPT is how many records of the log lie in memory, and HEAP what the library takes (memory.c uses
- * no block again). A part of 256 KB keeps one in format 1, and one of 4 MB three in format 2. */
+/* KEPT is how many records of the log lie in memory, and HEAP a bit more than the library takes. A
+ * part of 256 KB keeps one in format 1, and one of 4 MB three in format 2. */
 #ifdef MPS2_AN500
-enum { FORMAT = 2, SLOTS = 6, KEPT = 3, HEAP = 5 << 18 };
+enum { FORMAT = 2, SLOTS = 6, KEPT = 3, HEAP = 1012 << 10 };
 #define FLASH_PLACE 0x60000000
 #else
-enum { FORMAT = 1, SLOTS = 3, KEPT = 1, HEAP = 194 << 10 };
+enum { FORMAT = 1, SLOTS = 3, KEPT = 1, HEAP = 158 << 10 };
 #define FLASH_PLACE 0x21000000
 #endif
 

@@ -34,6 +34,7 @@ __attribute__((naked)) static void fault(void)
 
 /* The stack, the reset, and the exceptions that a processor without interrupts knows: NMI,
  * HardFault, MemManage, BusFault, UsageFault. */
-__attribute__((section(".vectors"), used)) static void *const vectors[] = {
+extern void *const vectors[];
+__attribute__((section(".vectors"), used)) void *const vectors[] = {
     stack_end, reset, fault, fault, fault, fault, fault,
 };

@@ -1,13 +1,17 @@
-/* What a stack in the manner of TinyUSB asks of a mass storage device, in words of our own: it
- * speaks SCSI itself, and calls these. Link the real one's header in place of this. */
-#ifndef TINYUSB_SHAPE_H
-#define TINYUSB_SHAPE_H
+/* What port/usbdisk_tinyusb.c uses of TinyUSB, in the place of its tusb.h, so that the callbacks can
+ * be compiled and played where its sources are not. It is what src/class/msc/msc_device.h of TinyUSB
+ * 0.16 to 0.18 declares (github.com/hathach/tinyusb, licence MIT, Ha Thach), as far as it is used,
+ * with comments of our own. Written down from its documentation: it was not compared with those
+ * files by a program. In a firmware put the folder `src` of TinyUSB in front of this one. */
+#ifndef TUSB_H
+#define TUSB_H
 
 #include <stdbool.h>
 #include <stdint.h>
 
 /* Who the disk is, padded with spaces, with no final 0; and whether it is ready. */
-void tud_msc_inquiry_cb(uint8_t lun, uint8_t vendor[8], uint8_t product[16], uint8_t revision[4]);
+void tud_msc_inquiry_cb(uint8_t lun, uint8_t vendor_id[8], uint8_t product_id[16],
+                        uint8_t product_rev[4]);
 bool tud_msc_test_unit_ready_cb(uint8_t lun);
 
 /* How many blocks there are, and of how many bytes each. */
@@ -23,12 +27,13 @@ int32_t tud_msc_write10_cb(uint8_t lun, uint32_t lba, uint32_t offset, uint8_t *
 
 /* A command that the stack does not know, such as 35h, SYNCHRONIZE CACHE (10). A negative answer
  * refuses. */
-int32_t tud_msc_scsi_cb(uint8_t lun, const uint8_t command[16], void *buffer, uint16_t bufsize);
+int32_t tud_msc_scsi_cb(uint8_t lun, uint8_t const scsi_cmd[16], void *buffer, uint16_t bufsize);
 
 /* START STOP UNIT; false refuses. */
 bool tud_msc_start_stop_cb(uint8_t lun, uint8_t power_condition, bool start, bool load_eject);
 
 /* Of the stack: the sense of the command that a callback is about to refuse. */
-bool tud_msc_set_sense(uint8_t lun, uint8_t key, uint8_t code, uint8_t qualifier);
+bool tud_msc_set_sense(uint8_t lun, uint8_t sense_key, uint8_t add_sense_code,
+                       uint8_t add_sense_qualifier);
 
 #endif
