@@ -1,4 +1,5 @@
-/* The memory of the library out of one array, and the three functions of the C library that it calls.
+/* The memory of the library out of one array, and memset, one of the three functions of the C library
+ * that it calls: port/usbdisk_copy.c has the others.
  *
  * A start gives some back before it takes the rest. Large blocks take the first hole that they fit
  * in, and small ones the last, so that these break none that a large one leaves: so an array of 1%
@@ -71,22 +72,5 @@ void *memset(void *to, int byte, size_t size)
 {
     for (uint8_t *at = to; size > 0; size--)
         *at++ = (uint8_t)byte;
-    return to;
-}
-
-void *memcpy(void *restrict to, const void *restrict from, size_t size)
-{
-    const uint8_t *next = from;
-    for (uint8_t *at = to; size > 0; size--)
-        *at++ = *next++;
-    return to;
-}
-
-void *memmove(void *to, const void *from, size_t size)
-{
-    if ((uintptr_t)to <= (uintptr_t)from)
-        return memcpy(to, from, size);
-    while (size-- > 0)
-        ((uint8_t *)to)[size] = ((const uint8_t *)from)[size];
     return to;
 }

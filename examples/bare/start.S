@@ -6,7 +6,7 @@
  *   memory    it loads and stores at addresses that are not aligned, for which the memory has to be
  *             normal: without a map of addresses (MMU) it is device memory, where these trap
  *
- * With PLAIN the library is that without SIMD and such addresses: neither is set up then, and the
+ * With NO_SIMD the library is that without SIMD and such addresses: neither is set up then, and the
  * processor is told to trap on both. */
 .section .text.start, "ax"
 .globl _start
@@ -22,7 +22,7 @@ _start:
         str     xzr, [x0], #8
         b       1b
 2:
-#ifdef PLAIN
+#ifdef NO_SIMD
         mrs     x0, sctlr_el1
         orr     x0, x0, #(1 << 1)       /* A: each address is to be aligned */
         msr     sctlr_el1, x0

@@ -1,5 +1,6 @@
 /* The first lines of a firmware with the library, for RISC-V in machine mode: a stack of 32 KB
  * (link.ld), and memory as a C program wants it. Each exception is told. */
+.option arch, +zicsr
 .section .text.start, "ax"
 .globl _start
 _start:

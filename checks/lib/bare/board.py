@@ -13,7 +13,7 @@ from lib.bare.machine import LIMIT, Line, PowerLoss, Wrong
 
 WORDS = "-nodefaults -display none -nic none -S".split()
 # The power goes at one of so many events of a life, and within so many seconds behind it.
-EVENTS, SPANS = 400, (0.0, 0.0003, 0.001, 0.003, 0.01)
+EVENTS, SPANS = 150, (0.0, 0.0003, 0.001, 0.003, 0.01)
 
 
 def connected(path):

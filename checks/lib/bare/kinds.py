@@ -29,12 +29,12 @@ class Kind:
 
 AARCH64 = ("qemu-system-aarch64", "-M", "virt", "-cpu", "cortex-a53")
 RISCV32 = ("qemu-system-riscv32", "-M", "virt", "-bios", "none")
-CORTEX, THUMB = "arm-none-eabi-gcc", "thumbv7em-none-eabi"
+CORTEX, THUMB = "arm-none-eabi-gcc", "thumbv7em-none"
 
 KINDS = (
     Kind("aarch64-linux-gnu", "aarch64-linux-gnu", "bare", "aarch64-linux-gnu-gcc", (), "disk.elf", AARCH64, machine.Power, faults.AARCH64, 8, 8),
     Kind("aarch64-none", "aarch64-none", "bare", "aarch64-linux-gnu-gcc", ("TARGET=aarch64-none",), "disk.elf", AARCH64, machine.Power, (), 8, 8),
     Kind("Cortex-M4", THUMB, "cortex-m", CORTEX, ("BOARD=mps2-an386",), "disk.bin", ("qemu-system-arm", "-M", "mps2-an386"), board.Power, faults.CORTEX, 60, 10, 50),
     Kind("Cortex-M7", THUMB, "cortex-m", CORTEX, ("BOARD=mps2-an500",), "disk.bin", ("qemu-system-arm", "-M", "mps2-an500"), board.Power, (), 60, 10, 50),
-    Kind("RV32", "riscv32imac-none-elf", "riscv32", "riscv64-unknown-elf-gcc", (), "disk.elf", RISCV32, machine.Power, faults.RISCV, 8, 8, 50),
+    Kind("RV32", "riscv32imac-none", "riscv32", "riscv64-unknown-elf-gcc", (), "disk.elf", RISCV32, machine.Power, faults.RISCV, 8, 8, 50),
 )
