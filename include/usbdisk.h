@@ -377,7 +377,7 @@ uint32_t usbdisk_migrate(struct usbdisk *image, const struct usbdisk_plan *plan)
 
 /* The store without the transport, for a USB stack that has SCSI in it: its callbacks read and
  * write blocks of 512 bytes and synchronise them. docs/MAKERS.md has a section on it, and
- * examples/c/tinyusb.c has the callbacks.
+ * port/usbdisk_tinyusb.c has the callbacks.
  *
  * Where one of the calls answers BUSY, nothing happened that has to be undone: have the device
  * carry out what usbdisk_next tells, until it tells NOTHING, and make the same call again. While

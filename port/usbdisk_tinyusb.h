@@ -1,5 +1,5 @@
-/* The blocks of usbdisk_blocks.h as the disk of TinyUSB: the callbacks of its mass storage class, for
- * one logical unit. docs/MAKERS.md shows a firmware with it, step by step.
+/* The blocks of usbdisk_blocks.h as the disk of TinyUSB: the callbacks of its mass storage class,
+ * for one logical unit. docs/MAKERS.md shows a firmware with it, step by step.
  *
  *     usbdisk_blocks_start(&blocks, &device, 8);      before the bus is there
  *     usbdisk_tinyusb_serve(blocks, &who);
@@ -10,12 +10,12 @@
  *     }
  *
  * The callbacks are made by tud_task, so all calls of the blocks come from one thread. In
- * tusb_config.h let CFG_TUD_MSC_EP_BUFSIZE be a multiple of 512, of at most the `most` of the start:
- * each part of a WRITE, as long as that, is one write.
+ * tusb_config.h let CFG_TUD_MSC_EP_BUFSIZE be a multiple of 512, of at most the `most` of the
+ * start: each part of a WRITE, as long as that, is one write.
  *
- * TinyUSB shows its host no write cache, so that no host sends SYNCHRONIZE CACHE: each write is made
- * durable before it is answered. Where you show a cache (MODE SENSE, page 08h, WCE) build this with
- * -DUSBDISK_SHOWS_CACHE=1: then the host's SYNCHRONIZE CACHE does that. */
+ * TinyUSB shows its host no write cache, so that no host sends SYNCHRONIZE CACHE: each write is
+ * made durable before it is answered. Where you show a cache (MODE SENSE, page 08h, WCE) build this
+ * with -DUSBDISK_SHOWS_CACHE=1: then the host's SYNCHRONIZE CACHE does that. */
 #ifndef USBDISK_TINYUSB_H
 #define USBDISK_TINYUSB_H
 

@@ -1,6 +1,6 @@
-/* The blocks of usbdisk_blocks.h as a disk of Zephyr, over another disk of Zephyr: an SD card ("SD"),
- * an eMMC, or flash behind a translation layer. Zephyr's USB mass storage and its file systems take
- * it by its name.
+/* The blocks of usbdisk_blocks.h as a disk of Zephyr, over another disk of Zephyr: an SD card
+ * ("SD"), an eMMC, or flash behind a translation layer. Zephyr's USB mass storage and its file
+ * systems take it by its name.
  *
  *     static struct usbdisk_zephyr safe = { .disk.name = "SAFE", .below = "SD", .format = 2,
  *                                           .slots = 6, .most = 16 };

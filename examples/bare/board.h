@@ -23,7 +23,8 @@ _Noreturn void give_up(const char *text, uint64_t number);
  * address that was asked for. */
 _Noreturn void trapped(uintptr_t cause, uintptr_t at, uintptr_t address);
 
-/* block.c, or flash.c of a machine: the device, in sectors of 512 bytes. A call that answers false was refused. */
+/* block.c, or flash.c of a machine: the device, in sectors of 512 bytes. A call that answers false
+ * was refused. */
 void block_start(void);
 uint64_t block_sectors(void);
 bool block_read(uint64_t sector, uint8_t *bytes, size_t count);

@@ -3,7 +3,8 @@
 #define MACHINE_H
 
 /* Format 2 with three slots, for hosts that send transfers of up to 240 blocks. HEAP is enough for
- * a start with four records kept, as where nothing is said (KEPT): usbdisk_memory tells the bytes. */
+ * a start with four records kept, as where nothing is said (KEPT): usbdisk_memory tells the bytes.
+ */
 enum { FORMAT = 2, SLOTS = 3, KEPT = 0, HEAP = 6 << 18 };
 
 /* The serial line, and the places for devices of virtio. */

@@ -1,5 +1,5 @@
-/* A USB disk in firmware without an operating system: the library between a block device that can be
- * flushed and packets (bus.c). All machines share this file; machine.h tells what one has. For a
+/* A USB disk in firmware without an operating system: the library between a block device that can
+ * be flushed and packets (bus.c). All machines share this file; machine.h tells what one has. For a
  * board write block.c, bus.c, uart.c and the addresses in link.ld anew. */
 #include "board.h"
 #include "usbdisk.h"

@@ -1,5 +1,5 @@
-/* The memory of the library out of one array, and memset, one of the three functions of the C library
- * that it calls: port/usbdisk_copy.c has the others.
+/* The memory of the library out of one array, and memset, one of the three functions of the C
+ * library that it calls: port/usbdisk_copy.c has the others.
  *
  * A start gives some back before it takes the rest. Large blocks take the first hole that they fit
  * in, and small ones the last, so that these break none that a large one leaves: so an array of 1%

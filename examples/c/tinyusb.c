@@ -230,8 +230,9 @@ int main(void)
         calls++;
     play_worn();
     misuse();
-    printf("a stack with SCSI in it, %s: 20 cuts and %u refused calls, all that was promised is "
+    printf("a stack with SCSI in it, %s: 20 cuts and %lu refused calls, all that was promised is "
            "there\n",
-           USBDISK_SHOWS_CACHE ? "a write cache shown" : "no write cache shown", calls - 1);
+           USBDISK_SHOWS_CACHE ? "a write cache shown" : "no write cache shown",
+           (unsigned long)calls - 1);
     return 0;
 }

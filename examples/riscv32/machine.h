@@ -1,9 +1,10 @@
-/* QEMU's machine `virt` of RISC-V with 32 bits: the disk that it makes, and where its devices are. */
+/* QEMU's machine `virt` of RISC-V with 32 bits: the disk that it makes, and where its devices are.
+ */
 #ifndef MACHINE_H
 #define MACHINE_H
 
-/* Format 2 with three slots, for hosts that send transfers of up to 240 blocks; three records lie in
- * memory. */
+/* Format 2 with three slots, for hosts that send transfers of up to 240 blocks; three records lie
+ * in memory. */
 enum { FORMAT = 2, SLOTS = 3, KEPT = 3, HEAP = 5 << 18 };
 
 /* The serial line, and the places for devices of virtio. */

@@ -1,8 +1,8 @@
-/* What port/usbdisk_tinyusb.c uses of TinyUSB, in the place of its tusb.h, so that the callbacks can
- * be compiled and played where its sources are not. It is what src/class/msc/msc_device.h of TinyUSB
- * 0.16 to 0.18 declares (github.com/hathach/tinyusb, licence MIT, Ha Thach), as far as it is used,
- * with comments of our own. Written down from its documentation: it was not compared with those
- * files by a program. In a firmware put the folder `src` of TinyUSB in front of this one. */
+/* What port/usbdisk_tinyusb.c uses of TinyUSB, in the place of its tusb.h, so that the callbacks
+ * can be compiled and played where its sources are not. It is what src/class/msc/msc_device.h of
+ * TinyUSB 0.16 to 0.18 declares (github.com/hathach/tinyusb, licence MIT, Ha Thach), as far as it
+ * is used, with comments of our own. Written down from its documentation: it was not compared with
+ * those files by a program. In a firmware put the folder `src` of TinyUSB in front of this one. */
 #ifndef TUSB_H
 #define TUSB_H
 

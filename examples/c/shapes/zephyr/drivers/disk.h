@@ -1,7 +1,8 @@
-/* What port/usbdisk_zephyr.c uses of Zephyr's include/zephyr/drivers/disk.h, in its place, so that it
- * can be compiled and played where the sources are not. It is what Zephyr 3.5 to 4.0 declares there
- * (github.com/zephyrproject-rtos/zephyr, licence Apache-2.0), as far as it is used, with comments of
- * our own. Written down from its documentation: it was not compared with that file by a program. */
+/* What port/usbdisk_zephyr.c uses of Zephyr's include/zephyr/drivers/disk.h, in its place, so that
+ * it can be compiled and played where the sources are not. It is what Zephyr 3.5 to 4.0 declares
+ * there (github.com/zephyrproject-rtos/zephyr, licence Apache-2.0), as far as it is used, with
+ * comments of our own. Written down from its documentation: it was not compared with that file by a
+ * program. */
 #ifndef ZEPHYR_DRIVERS_DISK_H
 #define ZEPHYR_DRIVERS_DISK_H
 

@@ -1,5 +1,5 @@
-/* What port/usbdisk_zephyr.c uses of Zephyr's include/zephyr/storage/disk_access.h, in its place: see
- * zephyr/drivers/disk.h beside this folder, which tells version and licence too. */
+/* What port/usbdisk_zephyr.c uses of Zephyr's include/zephyr/storage/disk_access.h, in its place:
+ * see zephyr/drivers/disk.h beside this folder, which tells version and licence too. */
 #ifndef ZEPHYR_STORAGE_DISK_ACCESS_H
 #define ZEPHYR_STORAGE_DISK_ACCESS_H
 
