@@ -142,7 +142,8 @@ uint32_t usbdisk_io_out(struct usbdisk_io *io, const uint8_t *bytes, size_t size
 {
     static const uint8_t none[1];
     uint32_t code;
-    *taken = io->carry.turns = 0;
+    *taken = 0;
+    io->carry.turns = 0;
     do {
         size_t count = 0;
         code = usbdisk_out(&io->carry.core, size ? bytes + *taken : none, size - *taken, &count);

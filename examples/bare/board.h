@@ -19,8 +19,8 @@ void tell(const char *text, uint64_t number);
 /* The same, and nothing more is done. */
 _Noreturn void give_up(const char *text, uint64_t number);
 
-/* From the machine's start: an exception, with what it has as its cause, where it was, and the
- * address that was asked for. */
+/* From the machine's start: an exception, with what it has as its cause (ESR_EL1 of AArch64), where
+ * it was, and the address that was asked for. */
 _Noreturn void trapped(uintptr_t cause, uintptr_t at, uintptr_t address);
 
 /* block.c, or flash.c of a machine: the device, in sectors of 512 bytes. A call that answers false

@@ -2,7 +2,7 @@
  * library that it calls: port/usbdisk_copy.c has the others.
  *
  * A start gives some back before it takes the rest. Large blocks take the first hole that they fit
- * in, and small ones the last, so that these break none that a large one leaves: so an array of 1%
+ * in, and small ones the last, so that these break none that a large one leaves: so an array of 2%
  * more than usbdisk_memory_kept tells is enough. */
 #include "board.h"
 #include "usbdisk.h"

@@ -35,6 +35,6 @@ __attribute__((naked)) static void fault(void)
 /* The stack, the reset, and the exceptions that a processor without interrupts knows: NMI,
  * HardFault, MemManage, BusFault, UsageFault. */
 extern void *const vectors[];
-__attribute__((section(".vectors"), used)) void *const vectors[] = {
+__attribute__((used)) __attribute__((section(".vectors"))) void *const vectors[] = {
     stack_end, reset, fault, fault, fault, fault, fault,
 };

@@ -5,7 +5,7 @@
 
 /* Format 2 with three slots, for hosts that send transfers of up to 240 blocks; three records lie
  * in memory. */
-enum { FORMAT = 2, SLOTS = 3, KEPT = 3, HEAP = 5 << 18 };
+enum { FORMAT = 2, SLOTS = 3, KEPT = 3, HEAP = 1012 << 10 };
 
 /* The serial line, and the places for devices of virtio. */
 #define UART_PLACE 0x10000000
