@@ -5,9 +5,10 @@ use Rattle.logical_blocks.specs.Book.{Book}
 use Rattle.scsi.specs.Rules.{UnitState}
 use Rattle.spec.specs.declared.event.{Event.Event, Answer.Answer}
 use Rattle.spec.specs.declared.event.Answer.TheVariants as answer
-use Rattle.spec.specs.{Conversation.{Conversation, refused_events}, UnitConversation.UnitRun, Lagging.{Lagging, settled}}
+use Rattle.spec.specs.declared.event.Event.TheVariants as event
+use Rattle.spec.specs.{Conversation.{Conversation, refused_events}, UnitConversation.{UnitRun, write_of_event}, Lagging.{Lagging, settled}}
 use Rattle.spec.specs.Lives.{Presentation, Action, plays, between, runs, off, Standing, Remains, LivesRun}
-use Rattle.spec.specs.{Lives.{after_cut, LifeBegins, StartsAt, Opens, KeepsLimit}, Disks.{prompt_disk, started, pending_write}}
+use Rattle.spec.specs.{Lives.{after_cut, LifeBegins, StartsAt, Opens, KeepsLimit}, Disks.{prompt_disk, started, pending_write, event_write}}
 use Rattle.transport_laws.specs.{HiddenLag.{UndroppedRun, Transaction, outs}, KeptLag.{Beginning, place_at, standing_at, undropped_disk}}
 use Rattle.transport_laws.specs.KeptLag.{acknowledged, lost_in, lost_answers, lost_refusals, KeptAtOnce, LagsAreKept}
 use Rattle.transport_laws.proofs.PacketsHidden.{due, Left, at, hidden}
@@ -101,6 +102,12 @@ leaves : (pending : Option (List ℕ)) (now : Conversation UnitState) (armed : B
 leaves None now armed limit remains is = cc
 leaves (Some packet) now armed limit remains is = cc
 
+-- power goes in the event of what is pending, whatever comes meanwhile
+writes_in : (pending : Option (List ℕ)) (now : Conversation UnitState) (packet : List ℕ) → pending ≡ Some packet → (happens : Event)
+    → event_write pending now happens ≡ write_of_event now (event.Out (record { items = packet }))
+writes_in pending now packet is happens =
+    subst (λ (p : Option (List ℕ)). event_write p now happens ≡ write_of_event now (event.Out (record { items = packet }))) (sym is) refl
+
 as_due : (pending : Option (List ℕ)) → acknowledged pending ≡ due pending []
 as_due None = refl
 as_due (Some packet) = refl
@@ -162,6 +169,7 @@ module _ (disk : Presentation) (begins : Beginning) (events : List Event) (answe
         same_setups = l.same_setups;
         few = few;
         left = λ remains is. leaves now.pending now.now begins.armed limit remains is;
+        meanwhile = λ packet is happens. writes_in now.pending now.now packet is happens;
       }
     where
       few : refused_events (refused ∷ l.refused) ≤ refused_events (refused ∷ refusals)

@@ -7,7 +7,7 @@ use Rattle.scsi.specs.Rules.{UnitState, CarriesOut, Ticks}
 use Rattle.spec.specs.declared.event.{Event.Event, Answer.Answer}
 use Rattle.spec.specs.declared.event.Event.TheVariants as event
 use Rattle.spec.specs.declared.event.Answer.TheVariants as answer
-use Rattle.spec.specs.{Conversation.refused_events, UnitConversation.Intends}
+use Rattle.spec.specs.{Conversation.refused_events, UnitConversation.{Intends, write_of_event}}
 use Rattle.spec.specs.Lagging.{Lagging, settled, LagStep}
 use Rattle.spec.specs.Lives.{Presentation, DiskRules, Action, arms, starts, plays, Place}
 use Rattle.spec.specs.Lives.{before_first, between, runs, off, Standing, Remains, LivesRun}
@@ -79,6 +79,10 @@ pub record KeptAtOnce (disk : Presentation) (begins : Beginning) (events : List 
   pub few : refused_events refused ≤ refused_events refusals
   pub left : (remains : Remains) → after_cut {rules = undropped_disk} (runs now) ≡ between remains
       → after_cut last.place ≡ between remains
+  -- in whatever event power goes meanwhile, the packet's write is in progress
+  pub meanwhile : (packet : List ℕ) → now.pending ≡ Some packet → (happens : Event)
+      → undropped_disk.write_in now happens
+      ≡ write_of_event now.now (event.Out (record { items = packet }))
 
 -- each life of that disk in which no packet is dropped, up to any moment at which it runs
 abbrev pub LagsAreKept : Type 0
