@@ -43,7 +43,8 @@ PLAIN static void copy_bytes(uint8_t *to, const uint8_t *from, size_t size)
         *to++ = *from++;
 }
 
-/* So many words from one place to another, both at words: eight are read before they are written. */
+/* So many words from one place to another, both at words: eight are read before they are written.
+ */
 PLAIN static void copy_words(word *to, const word *from, size_t words)
 {
     for (; words >= ROUND; words -= ROUND) {

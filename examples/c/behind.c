@@ -13,6 +13,7 @@
 #include "behind.h"
 #include "gadget.h"
 #include "number.h"
+#include <inttypes.h>
 #include <limits.h>
 #include <stdio.h>
 #include <stdlib.h>
@@ -360,17 +361,20 @@ static bool play_lives(uint32_t format, long lives)
         }
     }
     printf("format %u: %ld lives, each start finds what it may\n", format, lives);
-    printf("  %lu cuts, %lu of them while a start read, %lu while it wrote, %lu behind a refusal; "
-           "%lu starts failed\n",
-           counts.cuts, counts.opening, counts.starting, counts.faulted, counts.failed);
-    printf("  %lu stops with no cut, %lu of them with unflushed sectors\n", counts.stops,
-           counts.unflushed);
-    printf("  %lu writes accepted, %lu of them while a call was under way, %lu transfers taken in "
-           "part\n",
+    printf("  %" PRIu64 " cuts, %" PRIu64 " of them while a start read, ", counts.cuts,
+           counts.opening);
+    printf("%" PRIu64 " while it wrote, %" PRIu64 " behind a refusal; %" PRIu64 " starts failed\n",
+           counts.starting, counts.faulted, counts.failed);
+    printf("  %" PRIu64 " stops with no cut, %" PRIu64 " of them with unflushed sectors\n",
+           counts.stops, counts.unflushed);
+    printf("  %" PRIu64 " writes accepted, %" PRIu64 " of them while a call was under way, %" PRIu64
+           " transfers taken in part\n",
            counts.writes, counts.behind, counts.parts);
-    printf("  %lu reads, %lu of refused sectors, %lu wishes to read ahead\n", counts.reads,
-           counts.refused, counts.ahead);
-    printf("  %lu class resets, %lu of them while a promise waited; %lu wrong packets\n",
+    printf("  %" PRIu64 " reads, %" PRIu64 " of refused sectors, %" PRIu64
+           " wishes to read ahead\n",
+           counts.reads, counts.refused, counts.ahead);
+    printf("  %" PRIu64 " class resets, %" PRIu64 " of them while a promise waited; %" PRIu64
+           " wrong packets\n",
            counts.resets, counts.waiting, counts.wrong);
     return true;
 }

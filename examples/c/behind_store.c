@@ -10,6 +10,7 @@
 #include "gadget.h"
 #include "image.h"
 #include "number.h"
+#include <inttypes.h>
 #include <limits.h>
 #include <stdio.h>
 #include <stdlib.h>
@@ -328,17 +329,18 @@ static bool play_lives(uint32_t format, uint64_t lives)
     memset(&counts, 0, sizeof counts);
     for (uint64_t life = 0; life < lives; life++)
         if ((life % LIVES_OF_AN_IMAGE == 0 && !make_image(format)) || !play_life()) {
-            printf("format %u, life %lu of a store: %s\n", format, life, wrong);
+            printf("format %u, life %" PRIu64 " of a store: %s\n", format, life, wrong);
             return false;
         }
-    printf("format %u: %lu lives of a store, each start finds what it may\n", format, lives);
-    printf(
-        "  %lu cuts, %lu of a start; %lu stops with no cut, %lu of them with unflushed sectors\n",
-        counts.cuts, counts.starting, counts.stops, counts.unflushed);
-    printf("  %lu writes, %lu of them while the device worked; %lu reads, %lu syncs, %lu answers "
-           "BUSY, "
-           "%lu refusals\n",
-           counts.writes, counts.behind, counts.reads, counts.syncs, counts.busy, counts.refused);
+    printf("format %u: %" PRIu64 " lives of a store, each start finds what it may\n", format,
+           lives);
+    printf("  %" PRIu64 " cuts, %" PRIu64 " of a start; %" PRIu64 " stops with no cut, %" PRIu64
+           " of them with unflushed sectors\n",
+           counts.cuts, counts.starting, counts.stops, counts.unflushed);
+    printf("  %" PRIu64 " writes, %" PRIu64 " of them while the device worked; ", counts.writes,
+           counts.behind);
+    printf("%" PRIu64 " reads, %" PRIu64 " syncs, %" PRIu64 " answers BUSY, %" PRIu64 " refusals\n",
+           counts.reads, counts.syncs, counts.busy, counts.refused);
     return true;
 }
 

@@ -27,7 +27,8 @@ static void draw(uint8_t *room, size_t size)
 }
 
 /* Whether a room of drawn bytes has got `size` of those from `from` on at `to`, and no others. */
-static void judge(const char *what, const uint8_t *room, size_t all, size_t to, size_t from, size_t size)
+static void judge(const char *what, const uint8_t *room, size_t all, size_t to, size_t from,
+                  size_t size)
 {
     for (size_t i = 0; i < all; i++)
         if (room[i] != drawn(i >= to && i < to + size ? i - to + from : i)) {
@@ -65,7 +66,8 @@ static void copy(size_t to, size_t from, size_t size)
     free(two);
 }
 
-/* Each of these lengths at each alignment, apart, and by a move in which they lie over each other. */
+/* Each of these lengths at each alignment, apart, and by a move in which they lie over each other.
+ */
 static void each_at(size_t size)
 {
     for (size_t to = 0; to < PLACES; to++)

@@ -15,10 +15,11 @@ struct rattle_tried rattle_alloc(size_t size, size_t alignment)
     char *nowhere = (char *)(uintptr_t)1; /* not to be read */
     int fails = heap_fails && --heap_fails == 0;
     if (size == 0 || alignment == 0 || alignment > HEAD || alignment & (alignment - 1))
-        abort(); /* no library that keeps usbdisk.h asks for that */
-    char *block = fails ? NULL : malloc(size + HEAD);
-    if (!block)
+        abort();        /* no library that keeps usbdisk.h asks for that */
+    void *taken = NULL; /* (malloc keeps an alignment of 16 on targets of 64 bits alone) */
+    if (fails || posix_memalign(&taken, HEAD, size + HEAD))
         return (struct rattle_tried){ false, nowhere };
+    char *block = taken;
     memcpy(block, &size, sizeof size);
     heap_now += size;
     heap_taken += size;
