@@ -117,13 +117,6 @@ static inline KEPT u64 leading_zeros(u64 n, unsigned bits)
         count--;
     return count;
 }
-static inline KEPT u64 trailing_zeros(u64 n, unsigned bits)
-{
-    u64 count = 0;
-    while (count < bits && !(n >> count & 1))
-        count++;
-    return count;
-}
 static inline KEPT u16 swapped16(u16 n) { return (u16)((u32)n << 8 | (u32)n >> 8); }
 static inline KEPT u32 swapped32(u32 n)
 {
@@ -143,16 +136,6 @@ static p_i64_i64 rattle_alloc_(u64 size, u64 alignment)
         struct rattle_tried it = rattle_alloc((size_t)size, (size_t)alignment);
         got.a = it.ok;
         got.b = it.ok ? (u64)(uintptr_t)it.at : 0;
-    }
-    return got;
-}
-/* (no life comes to it: it is for a module in which one may) */
-static inline KEPT p_i64_i64 rattle_realloc_(ptr at, u64 old, u64 size, u64 alignment)
-{
-    p_i64_i64 got = rattle_alloc_(size ? size : alignment, alignment);
-    if (got.a) {
-        memcpy((void *)(uintptr_t)got.b, AT(at), (size_t)(old < size ? old : size));
-        rattle_dealloc(AT(at));
     }
     return got;
 }

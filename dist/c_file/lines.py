@@ -41,10 +41,10 @@ def chosen(kind, test, one, two):
 
 def read_by(steps):
     """The values that something reads which is done."""
-    idle, read, known = ("lifetime", "@llvm.assume"), None, {it.parts["to"] for it in steps if it.parts.get("to")}
+    read, known = None, {it.parts["to"] for it in steps if it.parts.get("to")}
     while read != known:
         read = known
-        done = [it for it in steps if it.kind not in idle and it.parts.get("name") not in idle and (it.kind == "call" or it.parts.get("to", "") in {None, "", *read})]
+        done = [it for it in steps if it.kind != "lifetime" and (it.kind == "call" or not it.parts.get("to") or it.parts["to"] in read)]
         known = {name for it in done for what, text in it.parts.items() if text and what != "to" for name in re.findall(r"%[\w.]+", text)}
     return read
 
@@ -128,11 +128,6 @@ class Lines:
             two = f"({two} & {63 if bits_of(kind) > 32 else 31}u)"
         return cut(kind, f"{one} {sign} {two}")
 
-    def line_ashr(self, p, step):
-        kind, far = p["type"], int(p["two"])
-        sign = number(kind, 1 << bits_of(kind) - 1 - far)
-        return cut(kind, f"(({self.wide(kind, p['one'])} >> {far}) ^ {sign}) - {sign}")
-
     def line_sext(self, p, step):
         kind, sign = p["type"], number(p["type"], 1 << bits_of(p["from"]) - 1)
         return cut(kind, f"((u{64 if bits_of(kind) > 32 else 32}){self.value(p['from'], p['value'])} ^ {sign}) - {sign}")
@@ -188,36 +183,26 @@ class Lines:
 
     def line_call(self, p, step):
         arguments = forms.arguments_of(step)
+        if p["name"] == "@llvm.trap":
+            return "NEVER();"
         if p["name"].startswith("@llvm."):
-            return self.known(p["name"][6:], arguments, step)
+            return self.known(p["name"][6:], arguments)
         given = [self.value(*it) for it in arguments]
         if p["name"] == "@rattle_dealloc":
             return f"rattle_dealloc(AT({given[0]}));"
         name = f"{p['name'][1:]}_" if p["name"] in forms.OUTSIDE else self.names[p["name"]]
         return f"{name}({', '.join(given)}){'' if p['to'] else ';'}"
 
-    def known(self, name, arguments, step):
+    def known(self, name, arguments):
         """What the compiler knows."""
-        if name in ("trap", "assume"):
-            return "NEVER();" if name == "trap" else None
         name, _, kind = name.rpartition(".")
-        one, two = (self.wide(kind, text) for kind, text in (arguments * 2)[:2])
-        most = number(kind, -1)
-        if name in ("umin", "umax", "smin", "smax"):
-            left, right = (self.flipped(*it) for it in arguments) if name[0] == "s" else (one, two)
-            return chosen(kind, f"{left} {'<' if name.endswith('min') else '>'} {right}", one, two)
+        one, two = (self.wide(kind, text) for _, text in (arguments * 2)[:2])
+        if name in ("umin", "umax"):
+            return chosen(kind, f"{one} {'<' if name == 'umin' else '>'} {two}", one, two)
         if name == "usub.sat":
             return chosen(kind, f"{one} > {two}", f"{one} - {two}", number(kind, 0))
-        if name == "uadd.sat":
-            return chosen(kind, f"{one} > {most} - {two}", most, f"{one} + {two}")
-        if name == "bswap":
-            return f"swapped{kind[1:]}({self.value(kind, arguments[0][1])})"
-        if name in ("ctlz", "cttz"):
-            value = self.value(kind, arguments[0][1])
-            return f"({c_type(kind)}){'leading' if name == 'ctlz' else 'trailing'}_zeros({value}, {kind[1:]})"
-        over = {"uadd": f"{one} > {most} - {two}", "usub": f"{one} < {two}", "umul": f"{two} && {one} > {most} / {two}"}[name.partition(".")[0]]
-        sign = {"uadd": "+", "usub": "-", "umul": "*"}[name.partition(".")[0]]
-        return f"({c_type(step.parts['type'])}){{ {cut(kind, f'{one} {sign} {two}')}, {over} }}"
+        value = self.value(kind, arguments[0][1])
+        return f"swapped{kind[1:]}({value})" if name == "bswap" else f"({c_type(kind)})leading_zeros({value}, {kind[1:]})"
 
     def branch(self, begin, end):
         """The way from one block to another, at which its phis get what they are."""

@@ -30,7 +30,6 @@ MORE = tuple(forms.form(*it) for it in (
     ("freeze", r"TO = freeze <type:TYPE) <value:VALUE)", "type", "type value"),
     ("inttoptr", r"TO = inttoptr i64 <value:VALUE) to ptr", "ptr", "i64 value"),
     ("ptrtoaddr", r"TO = ptrtoint ptr <value:VALUE) to i64", "i64", "ptr value"),
-    ("ashr", r"TO = ashr (?:exact )?<type:INTEGER) <one:VALUE), <two:\d+)", "type", "type one, type two"),
     ("sext", r"TO = sext <from:INTEGER) <value:VALUE) to <type:INTEGER)", "type", "from value"),
     ("lifetime", r"(?:tail )?call void @llvm\.lifetime\.<what:start|end)\.p0\(ptr <at:VALUE)\)(?: #\d+)?", "", "ptr at"),
     ("copy", rf"(?:tail )?call void @llvm\.<what:memcpy|memmove)\.p0\.p0\.i64\(ptr{ALIGN.format('to_align')} <at:VALUE), "
@@ -50,18 +49,15 @@ def widened(row):
 # (no address is read or written: it is a number in memory)
 FORMS = tuple(map(widened, (*MORE, *(it for it in forms.FORMS if it.kind not in ("load", "store")))))
 ROWS = {it.kind: it for it in FORMS}
-TWO = ("umin", "umax", "smin", "smax", "usub.sat", "uadd.sat")
 
 
 def outside():
     """What is called and not defined, beside what forms.py has."""
-    known = {name: row for name, row in forms.OUTSIDE.items() if not name.startswith("@llvm.mem")}
+    known = {name: row for name, row in forms.OUTSIDE.items() if name in ("@llvm.trap", "@rattle_alloc", "@rattle_dealloc")}
     for kind in ("i8", "i16", "i32", "i64"):
-        known.update({f"@llvm.{it}.{kind}": (kind, (kind, kind)) for it in TWO})
-        known.update({f"@llvm.{it}.{kind}": (kind, (kind, "i1")) for it in ("ctlz", "cttz")})
-        known.update({f"@llvm.{it}.with.overflow.{kind}": (f"{{ {kind}, i1 }}", (kind, kind)) for it in ("uadd", "usub", "umul")})
-    known.update({f"@llvm.bswap.i{n}": (f"i{n}", (f"i{n}",)) for n in (16, 32, 64)})
-    return {**known, "@llvm.assume": ("void", ("i1",))}
+        known.update({f"@llvm.{it}.{kind}": (kind, (kind, kind)) for it in ("umin", "umax", "usub.sat")})
+        known[f"@llvm.ctlz.{kind}"] = (kind, (kind, "i1"))
+    return known | {f"@llvm.bswap.{it}": (it, (it,)) for it in ("i16", "i32", "i64")}
 
 
 # What is known of a constant's address, in a line that uses it.

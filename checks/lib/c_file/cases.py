@@ -33,8 +33,6 @@ def arithmetic():
         for name in ("shl", "lshr"):
             yield [*narrowed(width), f"%m = urem {kind} %y, {width}", f"%z = {name} {kind} %x, %m", *widened(width)]
             yield [*narrowed(width), f"%z = {name} {kind} %x, 5", *widened(width)]
-        for far in (0, 1, 7, width - 1):
-            yield [*narrowed(width), f"%z = ashr {kind} %x, {far}", *widened(width)]
         for other in (-1, most >> 1, 100):
             yield [*narrowed(width), f"%z = sub {kind} {other if other < 1 << width - 1 else -1}, %x", *widened(width)]
             yield [*narrowed(width), f"%z = mul {kind} %x, {other if other < 1 << width - 1 else -1}", *widened(width)]
@@ -69,20 +67,13 @@ def chosen():
 def known():
     for width in (8, 16, 32, 64):
         kind = f"i{width}"
-        for name in ("umin", "umax", "smin", "smax", "usub.sat", "uadd.sat"):
+        for name in ("umin", "umax", "usub.sat"):
             yield [*narrowed(width), f"%z = call {kind} @llvm.{name}.{kind}({kind} %x, {kind} %y)", *widened(width)]
-        for name in ("ctlz", "cttz"):
-            yield [*narrowed(width), f"%z = call {kind} @llvm.{name}.{kind}({kind} %x, i1 false)", *widened(width)]
-        for name in ("uadd", "usub", "umul"):
-            pair = f"{{ {kind}, i1 }}"
-            call = [*narrowed(width), f"%w = call {pair} @llvm.{name}.with.overflow.{kind}({kind} %x, {kind} %y)"]
-            yield [*call, f"%z = extractvalue {pair} %w, 0", *widened(width)]
-            yield [*call, f"%z = extractvalue {pair} %w, 1", *widened(1)]
+        yield [*narrowed(width), f"%z = call {kind} @llvm.ctlz.{kind}({kind} %x, i1 false)", *widened(width)]
         for way, far in (("l", 5), ("r", 3), ("l", width - 1), ("r", width - 1)):
             yield [*narrowed(width), f"%z = call {kind} @llvm.fsh{way}.{kind}({kind} %x, {kind} %y, {kind} {far})", *widened(width)]
     for width in (16, 32, 64):
         yield [*narrowed(width), f"%z = call i{width} @llvm.bswap.i{width}(i{width} %x)", *widened(width)]
-    yield ["%t = icmp ule i64 %a, %a", "call void @llvm.assume(i1 %t)", "ret i64 5"]
 
 
 def memory():

@@ -3,7 +3,6 @@
 PLANTED = (
     ("a sign that is not looked at", "lines.py", 'made = self.flipped if test[0] == "s" else self.value', "made = self.value"),
     ("a sign that is not carried on", "lines.py", "{self.value(p['from'], p['value'])} ^ {sign}) - {sign}", "{self.value(p['from'], p['value'])})"),
-    ("a sign that a shift drops", "lines.py", "sign = number(kind, 1 << bits_of(kind) - 1 - far)", "sign = number(kind, 0)"),
     ("a width that is not cut", "lines.py", "if bits in (32, 64):", "if bits in (24, 32, 64):"),
     ("a number of no width of C that is a byte longer", "lines.py", 'N({at}{value}, {size})', 'N({at}{value}, {size + 1})'),
     ("a small number that is promoted to one with a sign", "lines.py", "if bits_of(kind) <= 16 and not found[0].isdigit()", "if False"),
@@ -16,8 +15,6 @@ PLANTED = (
     ("phis that are set one behind the other", "lines.py", "if any(it[2] in first for it in moves):", "if False:"),
     ("a choice the other way", "lines.py", 'self.value(p["type"], p["one"]), self.value(p["type"], p["two"]))', 'self.value(p["type"], p["two"]), self.value(p["type"], p["one"]))'),
     ("a difference that is not held at 0", "lines.py", 'f"{one} > {two}", f"{one} - {two}"', 'f"{one} != {two}", f"{one} - {two}"'),
-    ("a sum that is not held at the most", "lines.py", 'f"{one} > {most} - {two}", most,', 'f"{one} > {most}", most,'),
-    ("a product that never overflows", "lines.py", '"umul": f"{two} && {one} > {most} / {two}"', '"umul": "0"'),
     ("a funnel the other way", "lines.py", 'left = far if p["way"] == "l" else bits - far', 'left = far if p["way"] == "r" else bits - far'),
     ("places that share bytes while both are alive", "places.py", "together.update(itertools.permutations(alive, 2))", "together.update(list(itertools.permutations(alive, 2))[2:])"),
     ("a place that is forgotten where a block begins", "places.py", "begins[label] = always.union(*(ends[it] for it in blocks.before[label]))", "begins[label] = always"),
