@@ -150,6 +150,9 @@ class Powered(Line):
 class Power:
     """Such a board, which is reset each time that the power goes."""
 
+    # It goes at a moment, and the seed draws which; but how far the firmware is then is not told by it.
+    is_exact = False
+
     def __init__(self, words, firmware, folder, chance):
         self.board, self.chance = Board(words, firmware, folder), chance
 

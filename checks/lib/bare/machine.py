@@ -136,6 +136,9 @@ class Machine(Line):
 class Power:
     """Such a machine, which is a new one each time that the power comes. The device stays."""
 
+    # The power goes at a call that was chosen before.
+    is_exact = True
+
     def __init__(self, words, firmware, folder, chance):
         self.words, self.folder, self.chance = [*words, *WORDS, "-kernel", firmware], folder, chance
         self.device = Device(SECTORS, chance)
