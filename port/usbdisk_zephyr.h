@@ -6,7 +6,7 @@
  *                                           .slots = 6, .most = 16 };
  *
  *     usbdisk_zephyr_register(&safe);
- *     USBD_DEFINE_MSC_LUN(safe, "SAFE", "EXAMPLE", "POWER SAFE", "1.00");    of the USB stack
+ *     USBD_DEFINE_MSC_LUN(lun, "SAFE", "EXAMPLE", "POWER SAFE", "1.00");    of USB in Zephyr 4
  *
  * Where the disk below is blank it gets an image the first time: see usbdisk_io_format_blank. What
  * that disk must promise docs/MAKERS.md tells; its flush is DISK_IOCTL_CTRL_SYNC. In prj.conf:
