@@ -1,4 +1,4 @@
-/* What the parts of the firmware share: the serial line, the block device, the bus, the memory. */
+/* What the parts of the firmware share: the serial line, the block device, the bus. */
 #ifndef BOARD_H
 #define BOARD_H
 
@@ -44,8 +44,5 @@ struct event {
 
 void next_event(struct event *event);
 void tell_host(uint32_t code, const uint8_t *bytes, uint32_t size);
-
-/* memory.c: how many bytes the library has. */
-size_t heap_taken(void);
 
 #endif

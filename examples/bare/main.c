@@ -85,7 +85,7 @@ static void start(void)
         give_up("no disk:", code);
     if (carry_through(&disk, &fault) != USBDISK_SERVING)
         give_up("no disk:", fault);
-    tell("started, memory", heap_taken());
+    tell("started, memory", usbdisk_memory_kept(FORMAT, SLOTS, KEPT));
 }
 
 /* A packet to Bulk-Out. One that waits for the device is taken once it has carried out what it
