@@ -70,8 +70,9 @@ static bool cut_here(void)
 
 static void begin(void)
 {
-    uint8_t code = book.key ? 0x03 : asked_code();
-    struct command command = code ? (struct command){ .code = code } : some_command(book.is_plain);
+    struct command command;
+    if (!is_asked(book.key, &command))
+        command = some_command(book.is_plain);
     host_begin(&bench.host, &command, promises(&command, book.is_cached));
 }
 
@@ -315,7 +316,7 @@ static void open_book(void)
     book.is_unflushed = bench.device.count > 0;
     book.is_cached = true;
     book.is_settled = false;
-    forget_cache();
+    forget_last();
     book.is_plain = random_below(4) == 0;
     book.keeps_power = random_below(3) == 0;
     book.key = 6; /* the first command is told that the power was off */

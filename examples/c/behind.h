@@ -126,11 +126,20 @@ enum departure {
 /* It is seen. False where it is none of those that are known. */
 bool departs(enum departure departure);
 
-/* A MODE SELECT that fails leaves the write cache as it is noted here. Behind it a host asks for
- * that by the MODE SENSE of this code, or of 0 where it need not. */
+/* Whether a command of which the device has done nothing yet may be pending that promises nothing:
+ * not as long as packets come again in place of that. */
+bool may_be_pending(const struct command *command);
+
+/* What was pending is dropped by a class reset. */
+void note_reset(const struct host *host);
+
+/* A MODE SELECT that fails leaves the write cache as it is noted here. */
 void note_cache(bool is_cached);
-void forget_cache(void);
-uint8_t asked_code(void);
+void forget_last(void);
+
+/* Whether a command has to come next, and which: for the sense; the WRITE again of which is not
+ * known whether a reset dropped it; or for the write cache behind a MODE SELECT that failed. */
+bool is_asked(bool has_sense, struct command *command);
 bool judge_cache(const struct host *host, bool *is_cached);
 
 /* A command failed as a write or a flush was refused; and its sense is that of such a call, by

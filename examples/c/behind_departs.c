@@ -29,25 +29,44 @@ bool departs(enum departure departure)
     return known[departure] || fails(names[departure]);
 }
 
-/* The write cache before the last MODE SELECT, whether that failed, and whether the last command
- * may fail by a refused write or flush. */
+bool may_be_pending(const struct command *command)
+{
+    return !known[COMES_AGAIN] && (reads(command) || writes(command));
+}
+
+/* The write cache before the last MODE SELECT, whether that failed, whether the last command may
+ * fail by a refused write or flush, and the WRITE that a reset may have dropped. */
 static struct {
     bool was_cached, asks, may_fail;
+    struct command again;
 } last;
+
+void note_reset(const struct host *host)
+{
+    if (host->stage == STATUS && writes(&host->command) && may_be_pending(&host->command))
+        last.again = host->command;
+}
 
 void note_cache(bool is_cached)
 {
     last.was_cached = is_cached;
 }
 
-void forget_cache(void)
+void forget_last(void)
 {
     last.asks = false;
+    last.again.code = 0;
 }
 
-uint8_t asked_code(void)
+bool is_asked(bool has_sense, struct command *command)
 {
-    return last.asks ? 0x1A : 0;
+    *command = (struct command){ .code = has_sense ? 0x03 : 0x1A };
+    if (!has_sense && last.again.code) {
+        *command = last.again;
+        last.again.code = 0;
+        return true;
+    }
+    return has_sense || last.asks;
 }
 
 bool judge_cache(const struct host *host, bool *is_cached)

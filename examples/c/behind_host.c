@@ -91,6 +91,7 @@ void host_begin(struct host *host, const struct command *command, bool promises)
 
 void host_reset(struct host *host)
 {
+    note_reset(host);
     host->stage = RESET;
     host->requests = 0;
     host->is_dropped |= host->waits;
@@ -256,7 +257,7 @@ static bool may_wait(const struct host *host)
     const struct command *command = &host->command;
     bool asks_none = command->code == 0x15 && command->cache;
     if (!host->waits)
-        return fails("an answer waits that promises nothing");
+        return may_be_pending(command) || fails("an answer waits that promises nothing");
     if (!host->promises && !reads(command) && !writes(command))
         return !host->is_dropped || departs(WAITS_FOR_DROPPED);
     return !asks_none || departs(GOOD_ANSWER_WAITS);

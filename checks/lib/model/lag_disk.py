@@ -4,7 +4,7 @@ on a device with a cache, which carries out one call at a time. Each fault that 
 import itertools
 import typing
 
-from lib.model.lag_rules import ACK, INTERNAL, NAK, READ_ERROR, WRITE_ERROR, Command
+from lib.model.lag_rules import ACK, INTERNAL, NAK, READ_ERROR, STALL, WRITE_ERROR, Command
 
 # What goes wrong where a fault is planted, by its name, and the world of lag_every.py in which it has to be found.
 FAULTS = {
@@ -19,6 +19,7 @@ FAULTS = {
     "late read": ("reads", "what a read brings that was in flight at a reset goes to the next READ"),
     "taken back": ("kinds", "a refused call turns a good status that is laid out into a failed one"),
     "cache off": ("three", "a MODE SELECT that failed has turned the write cache off"),
+    "early halt": ("halts", "an endpoint is halted before its command is done, and answers NAK until it is"),
     "comes again": ("kinds", "a packet that asks its device for something has to come again until that is done"),
     "no recovery": ("cuts", "a start looks at the blocks at home, and not at the record in the log"),
 }
@@ -53,6 +54,7 @@ class Disk(typing.NamedTuple):
     is_dead: bool = False
     answer: typing.Optional[tuple] = None
     pending: typing.Optional[Pending] = None
+    is_halted: bool = False
     # (wrong) A write, or a promise, that a reset dropped.
     dropped: typing.Optional[Command] = None
     is_late: bool = False
@@ -101,9 +103,13 @@ class Machine:
             return NAK, disk
         if self.fault == "comes again" and command.kind == "SYNC" and (disk.batch or disk.under) and not disk.is_dead:
             return NAK, self.begun(disk)
-        return ACK, self.gone_on(disk._replace(pending=Pending(command)))
+        is_early = self.fault == "early halt" and command.kind == "SYNC_IN"
+        return ACK, self.gone_on(disk._replace(pending=Pending(command), is_halted=disk.is_halted or is_early))
 
     def token(self, disk):
+        waits = disk.pending is not None and self.fault == "early halt"
+        if disk.is_halted and not waits:
+            return STALL, disk
         if disk.answer is None or disk.is_late:
             return NAK, disk
         return disk.answer, disk._replace(answer=None)
@@ -141,7 +147,7 @@ class Machine:
                 return disk
             disk = self.put(disk, command)
             disk = disk._replace(pending=disk.pending._replace(is_put=True))
-        is_promise = command.kind in ("FORCED", "SYNC") or disk.is_cached == (command.kind == "CACHE_OFF")
+        is_promise = command.kind in ("FORCED", "SYNC", "SYNC_IN") or disk.is_cached == (command.kind == "CACHE_OFF")
         if is_promise and self.owes(disk):
             return disk
         return self.done(disk._replace(is_cached=disk.is_cached and command.kind != "CACHE_OFF"), ("good", None))
@@ -157,7 +163,8 @@ class Machine:
         return self.done(disk, ("good", tuple(found[it] for it in sorted(found))))
 
     def done(self, disk, answer):
-        return disk._replace(answer=answer, pending=None)
+        is_halted = disk.is_halted or disk.pending.command.kind == "SYNC_IN"
+        return disk._replace(answer=answer, pending=None, is_halted=is_halted)
 
     def owes(self, disk):
         """Whether something that was accepted is not durable."""

@@ -18,6 +18,7 @@ WORLDS = {
     "three": (World(1, KINDS, 3, 1, 1, 0), 27512),
     "reads": (World(2, ("WRITE", "READ"), 3, 1, 0, 0), 12130),
     "room": (World(1, ("WRITE", "READ"), 5, 1, 0, 0), 22115),
+    "halts": (World(1, ("WRITE", "SYNC_IN", "SENSE"), 3, 1, 1, 0), 7803),
     "cuts": (World(2, ("WRITE", "SYNC", "READ"), 3, 0, 0, 1), 10707),
 }
 MORE_WORLDS = {
@@ -56,7 +57,7 @@ class EveryLag:
 
     def moves(self, state):
         """Each next state, with a name."""
-        for part in (self.packets, self.tokens, self.resets, self.calls, self.ends, self.refusals, self.background, self.cut):
+        for part in (self.packets, self.tokens, self.requests, self.resets, self.calls, self.ends, self.refusals, self.background, self.cut):
             yield from part(state)
 
     # The host.
@@ -85,6 +86,14 @@ class EveryLag:
         meant = Judge.token(state.meant, answer)
         if meant != state.meant or disk != state.disk:
             yield f"token: {answer}", State(disk, meant, state.left)
+
+    def requests(self, state):
+        """GET_STATUS of the endpoint, and CLEAR_FEATURE where it is halted."""
+        meant = Judge.status(state.meant, state.disk.is_halted) if "SYNC_IN" in self.world.kinds else state.meant
+        if meant != state.meant:
+            yield f"halted: {state.disk.is_halted}", state._replace(meant=meant)
+        if state.disk.is_halted:
+            yield "clears the halt", state._replace(disk=state.disk._replace(is_halted=False), meant=Judge.clear(state.meant))
 
     def resets(self, state):
         if state.left.resets:

@@ -4,12 +4,13 @@ command, and its answer one packet to the host. When a pending packet is acted o
 import collections
 import typing
 
-# A command: WRITE, FORCED (a WRITE with FUA), SYNC, CACHE_OFF (a MODE SELECT), READ (of all blocks) or SENSE (a MODE SENSE, which needs no device).
+# A command: WRITE, FORCED (a WRITE with FUA), SYNC, SYNC_IN (which the host expects to send data, so that the endpoint is halted), CACHE_OFF (a MODE
+# SELECT), READ (of all blocks) or SENSE (a MODE SENSE, which needs no device).
 Command = collections.namedtuple("Command", "kind block value", defaults=(None, None))
 # What the table says where no call was refused; and what a refused call may do to a command that writes, or to one that reads.
 GOOD, FAULTS, FAULTS_ACCEPTING, UNREAD = "good", "faults", "faults, accepting", "unread"
 WRITE_ERROR, READ_ERROR, INTERNAL = ("failed", "write error"), ("failed", "read error"), ("failed", "internal failure")
-ACK, NAK = "ACK", "NAK"
+ACK, NAK, STALL = "ACK", "NAK", "STALL"
 
 
 class Unit(typing.NamedTuple):
@@ -22,11 +23,12 @@ class Unit(typing.NamedTuple):
 
 
 class Lagging(typing.NamedTuple):
-    """A unit, the answer that is to be sent, and the command that was acknowledged and is not yet acted on."""
+    """A unit, the answer that is to be sent, the command that was acknowledged and is not yet acted on, and whether the endpoint is halted."""
 
     unit: Unit
     answer: typing.Optional[tuple] = None
     pending: typing.Optional[Command] = None
+    is_halted: bool = False
 
 
 def first(array):
@@ -48,7 +50,7 @@ def writes(command):
 
 
 def promises(unit, command):
-    return command.kind in ("FORCED", "SYNC") or command.kind == "CACHE_OFF" and unit.is_cached or command.kind == "WRITE" and not unit.is_cached
+    return command.kind in ("FORCED", "SYNC", "SYNC_IN", "CACHE_OFF" if unit.is_cached else "WRITE")
 
 
 def asks(unit, command):
@@ -86,21 +88,26 @@ def carried_out(unit, command, luck):
 def completed(it, luck=GOOD):
     """The disks whose pending command is done, by this luck: one or none."""
     done = carried_out(it.unit, it.pending, luck) if it.pending else None
-    return [Lagging(*done)] if done else []
+    return [answering(it, it.pending, *done)] if done else []
+
+
+def answering(it, command, unit, answer):
+    """The answer of a command is laid out, with the halt behind it."""
+    return Lagging(unit, answer, None, it.is_halted or command.kind == "SYNC_IN")
 
 
 def taken(it, command):
     """A packet to Bulk-Out comes that is acknowledged: it is acted on, or is pending."""
     if it.answer is not None:
         return []
-    acted = Lagging(*carried_out(it.unit, command, GOOD))
+    acted = answering(it, command, *carried_out(it.unit, command, GOOD))
     return [acted, it._replace(pending=command)] if asks(it.unit, command) else [acted]
 
 
 def dropped(it):
     """A class reset: the answer goes, and a pending command, whose write may stay."""
-    left = Lagging(it.unit)
-    return [left, Lagging(with_write(it.unit, it.pending))] if it.pending and writes(it.pending) and not it.unit.is_faulted else [left]
+    left = it._replace(answer=None, pending=None)
+    return [left, left._replace(unit=with_write(it.unit, it.pending))] if it.pending and writes(it.pending) and not it.unit.is_faulted else [left]
 
 
 def with_pending_done(disks):
@@ -120,8 +127,19 @@ class Judge:
     @staticmethod
     def token(disks, answer):
         if answer == NAK:
-            return frozenset(it for it in disks if it.pending or it.answer is None)
-        return frozenset(it._replace(answer=None) for it in with_pending_done(disks) if it.answer == answer)
+            return frozenset(it for it in disks if not it.is_halted and (it.pending or it.answer is None))
+        if answer == STALL:
+            return frozenset(it for it in with_pending_done(disks) if it.is_halted)
+        return frozenset(it._replace(answer=None) for it in with_pending_done(disks) if not it.is_halted and it.answer == answer)
+
+    @staticmethod
+    def status(disks, is_halted):
+        """GET_STATUS tells whether the endpoint is halted."""
+        return frozenset(it for it in with_pending_done(disks) if it.is_halted == is_halted)
+
+    @staticmethod
+    def clear(disks):
+        return frozenset(it._replace(is_halted=False) for it in with_pending_done(disks))
 
     @staticmethod
     def reset(disks):
