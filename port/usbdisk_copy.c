@@ -43,24 +43,40 @@ PLAIN static void copy_bytes(uint8_t *to, const uint8_t *from, size_t size)
         *to++ = *from++;
 }
 
-/* So many words from one place to another, both at words: eight are read before they are written.
- */
+/* Eight words, and both places go on behind them. Each word is read before one at its place or
+ * higher is written. */
+PLAIN static inline void copy_round(word **to, const word **from)
+{
+#if defined __thumb__ && defined __GNUC__
+    __asm__ volatile("ldmia %1!, {r3, r4, r5, r6}\n\t"
+                     "stmia %0!, {r3, r4, r5, r6}\n\t"
+                     "ldmia %1!, {r3, r4, r5, r6}\n\t"
+                     "stmia %0!, {r3, r4, r5, r6}"
+                     : "+l"(*to), "+l"(*from)
+                     :
+                     : "r3", "r4", "r5", "r6", "memory");
+#else
+    const word *at = *from;
+    word a = at[0], b = at[1], c = at[2], d = at[3];
+    word e = at[4], f = at[5], g = at[6], h = at[7];
+    (*to)[0] = a;
+    (*to)[1] = b;
+    (*to)[2] = c;
+    (*to)[3] = d;
+    (*to)[4] = e;
+    (*to)[5] = f;
+    (*to)[6] = g;
+    (*to)[7] = h;
+    *to += ROUND;
+    *from += ROUND;
+#endif
+}
+
+/* So many words from one place to another, both at words. */
 PLAIN static void copy_words(word *to, const word *from, size_t words)
 {
-    for (; words >= ROUND; words -= ROUND) {
-        word a = from[0], b = from[1], c = from[2], d = from[3];
-        word e = from[4], f = from[5], g = from[6], h = from[7];
-        to[0] = a;
-        to[1] = b;
-        to[2] = c;
-        to[3] = d;
-        to[4] = e;
-        to[5] = f;
-        to[6] = g;
-        to[7] = h;
-        to += ROUND;
-        from += ROUND;
-    }
+    for (; words >= ROUND; words -= ROUND)
+        copy_round(&to, &from);
     while (words--)
         *to++ = *from++;
 }
