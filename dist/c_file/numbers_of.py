@@ -1,5 +1,5 @@
-"""The module with each address in memory as the number that it is: read as a number, of which an address is made, and written as one. So no pass moves
-other bytes by way of an address, which has four bytes in a register of 32 bits: what a place holds is not known to who copies it."""
+"""The module with each address in memory as the number that it is: read as a number, of which an address is made, and written as one. So no pass
+moves other bytes by way of an address, which has four bytes in a register of 32 bits: what a place holds is not known to who copies it."""
 
 import itertools
 import re

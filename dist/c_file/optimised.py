@@ -1,7 +1,7 @@
 """The module as LLVM's -Os leaves it, and what is understood of it: the forms of forms.py at every width up to 64 bits, and those below.
 
-The compiler keeps what the module means on a processor of 64 bits. That of RISC-V has no vectors and no forms of its own. Words that promise more than
-the plain instruction does are taken off; the alignment of what is copied or filled stays."""
+The compiler keeps what the module means on a processor of 64 bits. That of RISC-V has no vectors and no forms of its own. Words that promise more
+than the plain instruction does are taken off; the alignment of what is copied or filled stays."""
 
 import itertools
 import re
@@ -24,7 +24,8 @@ MORE = tuple(forms.form(*it) for it in (
     ("load", r"TO = load <type:INTEGER), ptr <at:VALUE), align <align:\d+)", "type", "ptr at"),
     ("store", r"store <type:INTEGER) <value:VALUE), ptr <at:VALUE), align <align:\d+)", "", "type value, ptr at"),
     ("phi", r"TO = phi <type:TYPE) <incoming:\[ .+ \])", "type"),
-    ("select", r"TO = select i1 <test:VALUE), <type:TYPE) <one:VALUE|undef|poison), TYPE <two:VALUE|undef|poison)", "type", "i1 test, type one, type two"),
+    ("select", r"TO = select i1 <test:VALUE), <type:TYPE) <one:VALUE|undef|poison), TYPE <two:VALUE|undef|poison)", "type",
+     "i1 test, type one, type two"),
     ("insert", rf"TO = insertvalue <type:TYPE) <base:{CONSTANT}), <part:INTEGER|ptr) <given:VALUE), <place:[01])", "type", "part given"),
     ("return", rf"ret <type:TYPE) <base:{CONSTANT})", "type"),
     ("freeze", r"TO = freeze <type:TYPE) <value:VALUE)", "type", "type value"),
@@ -34,10 +35,10 @@ MORE = tuple(forms.form(*it) for it in (
     ("lifetime", r"(?:tail )?call void @llvm\.lifetime\.<what:start|end)\.p0\(ptr <at:VALUE)\)(?: #\d+)?", "", "ptr at"),
     ("copy", rf"(?:tail )?call void @llvm\.<what:memcpy|memmove)\.p0\.p0\.i64\(ptr{ALIGN.format('to_align')} <at:VALUE), "
      rf"ptr{ALIGN.format('align')} <source:VALUE), i64 <size:VALUE), i1 false\)(?: #\d+)?", "", "ptr at, ptr source, i64 size"),
-    ("fill", rf"(?:tail )?call void @llvm\.memset\.p0\.i64\(ptr{ALIGN.format('align')} <at:VALUE), i8 <byte:VALUE), i64 <size:VALUE), i1 false\)(?: #\d+)?",
-     "", "ptr at, i8 byte, i64 size"),
-    ("funnel", r"TO = (?:tail )?call INTEGER @llvm\.fsh<way:l|r)\.i\d+\(<type:INTEGER) <one:VALUE), INTEGER <two:VALUE), INTEGER <three:[1-9]\d*)\)(?: #\d+)?",
-     "type", "type one, type two, type three"),
+    ("fill", rf"(?:tail )?call void @llvm\.memset\.p0\.i64\(ptr{ALIGN.format('align')} <at:VALUE), i8 <byte:VALUE), "
+     r"i64 <size:VALUE), i1 false\)(?: #\d+)?", "", "ptr at, i8 byte, i64 size"),
+    ("funnel", r"TO = (?:tail )?call INTEGER @llvm\.fsh<way:l|r)\.i\d+\(<type:INTEGER) <one:VALUE), INTEGER <two:VALUE), "
+     r"INTEGER <three:[1-9]\d*)\)(?: #\d+)?", "type", "type one, type two, type three"),
 ))
 
 

@@ -53,7 +53,7 @@ def function_of(function, names):
 
 def shortened(text):
     """Without a way to the next line, and without labels that nobody goes to."""
-    text = [it for n, it in enumerate(text) if not (n + 1 < len(text) and re.fullmatch(r" *goto (l\d+);", it) and f"{it.strip()[5:-1]}:;" == text[n + 1])]
+    text = [it for it, after in zip(text, [*text[1:], ""]) if not (re.fullmatch(r" *goto l\d+;", it) and f"{it.strip()[5:-1]}:;" == after)]
     used = set(re.findall(r"goto (l\d+);", "\n".join(text)))
     return [it for it in text if not re.fullmatch(r"l\d+:;", it) or it[:-2] in used]
 

@@ -1,4 +1,5 @@
-"""Faults that are planted in dist/to_c, each of which its tests have to find: what it is, the file, a text that stands there once, and another in its place."""
+"""Faults that are planted in dist/to_c, each of which its tests have to find: what it is, the file, a text that stands there once, and another in its
+place."""
 
 PLANTED = (
     ("a sign that is not looked at", "lines.py", 'made = self.flipped if test[0] == "s" else self.value', "made = self.value"),
@@ -11,13 +12,16 @@ PLANTED = (
     ("an alignment that a copy has not", "lines.py", '''aligns = [p["to_align"] or "1", p["align"] or "1"]''', 'aligns = ["8", "8"]'),
     ("a copy in place of a move", "lines.py", "'MOVE' if p['what'] == 'memmove' else 'COPY'", "'COPY'"),
     ("the second half of a pair behind the first", "numbers_of.py", "i64 {pair.second_at}", "i64 {forms.BYTES_OF[pair.first]}"),
-    ("the halves of a pair the other way", "lines.py", "f\"{self.value(p['type'], p['value'])}.{'ab'[int(p['place'])]}\"", "f\"{self.value(p['type'], p['value'])}.{'ba'[int(p['place'])]}\""),
+    ("the halves of a pair the other way", "lines.py", ".{'ab'[int(p['place'])]}\"", ".{'ba'[int(p['place'])]}\""),
     ("phis that are set one behind the other", "lines.py", "if any(it[2] in first for it in moves):", "if False:"),
-    ("a choice the other way", "lines.py", 'self.value(p["type"], p["one"]), self.value(p["type"], p["two"]))', 'self.value(p["type"], p["two"]), self.value(p["type"], p["one"]))'),
+    ("a choice the other way", "lines.py",
+     'self.value(p["type"], p["one"]), self.value(p["type"], p["two"]))', 'self.value(p["type"], p["two"]), self.value(p["type"], p["one"]))'),
     ("a difference that is not held at 0", "lines.py", 'f"{one} > {two}", f"{one} - {two}"', 'f"{one} != {two}", f"{one} - {two}"'),
     ("a funnel the other way", "lines.py", 'left = far if p["way"] == "l" else bits - far', 'left = far if p["way"] == "r" else bits - far'),
-    ("places that share bytes while both are alive", "places.py", "together.update(itertools.permutations(alive, 2))", "together.update(list(itertools.permutations(alive, 2))[2:])"),
-    ("a place that is forgotten where a block begins", "places.py", "begins[label] = always.union(*(ends[it] for it in blocks.before[label]))", "begins[label] = always"),
+    ("places that share bytes while both are alive", "places.py",
+     "together.update(itertools.permutations(alive, 2))", "together.update(list(itertools.permutations(alive, 2))[2:])"),
+    ("a place that is forgotten where a block begins", "places.py",
+     "begins[label] = always.union(*(ends[it] for it in blocks.before[label]))", "begins[label] = always"),
     ("a place without marks that may be shared", "places.py", "frozenset(set(sizes) - marked)", "frozenset()"),
     ("an address of four bytes in memory", "numbers_of.py", 'kind, value = "i64", self.new(f"ptrtoint ptr {value} to i64")',
      'kind, value = "i32", self.new("trunc i64 " + self.new(f"ptrtoint ptr {value} to i64") + " to i32")'),
