@@ -68,8 +68,11 @@ def alive_before(blocks, always):
 
 def places_of(blocks):
     """The distance of each place in the array, and how many bytes that has."""
+    first, *others = ([it for it in blocks.steps[label] if it.kind == "alloca"] for label in blocks.order)
+    for it in (it for steps in others for it in steps):
+        forms.refuse(it.text)
     steps = [it for label in blocks.order for it in blocks.steps[label]]
-    sizes = {it.parts["to"]: size_of(it) for it in steps if it.kind == "alloca"}
+    sizes = {it.parts["to"]: size_of(it) for it in first}
     marked = {it.parts["at"] for it in steps if it.kind == "lifetime"}
     begins = alive_before(blocks, frozenset(set(sizes) - marked))
     together = set()

@@ -46,6 +46,7 @@ LINES = {
     "an exchange": "%x = atomicrmw add ptr %room, i64 1 seq_cst, align 8",
     "assembly": 'call void asm sideeffect "nop", ""()',
     "a place of a size that is not known": "%x = alloca i8, i64 %a, align 1",
+    "a place that is made anew on a way": "br label %next\nnext:\n  %x = alloca i8, align 1\n  store i8 1, ptr %x, align 1",
     "a place of another type": "%x = alloca { i8, i64 }, align 8",
     "a place for a vector": "%x = alloca [32 x i8], align 16",
     "a number of another type": "%x = add i32 %a, 1",
