@@ -1,7 +1,9 @@
 """The machines that the firmware is built for: what each one needs here, and the words that build it and start it."""
 
 import dataclasses
+import os
 import shutil
+import subprocess
 
 from lib.bare import board, faults, machine
 
@@ -24,7 +26,14 @@ class Kind:
 
     def lacks(self):
         """The first program that is not here, or nothing."""
-        return next((it for it in (self.emulator[0], self.compiler) if not shutil.which(it)), "")
+        missing = next((it for it in (self.emulator[0], self.compiler) if not shutil.which(it)), "")
+        return missing or ("newlib" if self.compiler == CORTEX and not has_newlib() else "")
+
+
+def has_newlib():
+    """Whether the compiler for Arm knows where its C library is: it answers a bare name where it does not."""
+    words = [CORTEX, "-mcpu=cortex-m4", "-mthumb", "-print-file-name=libc.a"]
+    return os.path.isabs(subprocess.run(words, check=True, stdout=subprocess.PIPE, text=True).stdout.strip())
 
 
 AARCH64 = ("qemu-system-aarch64", "-M", "virt", "-cpu", "cortex-a53")
