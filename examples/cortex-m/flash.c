@@ -9,7 +9,7 @@
 #include "board.h"
 #include <machine.h>
 
-enum { PLACES = SECTORS + 1, MADE = 0x464C5348, SLOW = 4000 };
+enum { PLACES = SECTORS + 1, MADE = 0x464C5348, SLOW = 12000 };
 
 /* What a reset leaves: whether it was made, the chances of the cache, the place of each sector, and
  * the bytes of all places. */
