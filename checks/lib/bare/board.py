@@ -6,6 +6,7 @@ import json
 import os
 import select
 import socket
+import statistics
 import subprocess
 import time
 
@@ -13,7 +14,7 @@ from lib.bare.machine import LIMIT, Line, PowerLoss, Wrong
 
 WORDS = "-nodefaults -display none -nic none -S".split()
 # The power goes at one of so many events of a life, and within so many seconds behind it.
-EVENTS, SPANS = 150, (0.0, 0.0003, 0.001, 0.003, 0.01)
+EVENTS, SPANS, WORK = 150, (0.0, 0.0003, 0.001, 0.003, 0.01), 0.005
 
 
 def connected(path):
@@ -103,12 +104,15 @@ class Powered(Line):
     def __init__(self, board, delay=None):
         super().__init__()
         self.board, self.is_cut, self.left, self.delay = board, False, None, 0
+        self.times, self.begun, self.is_at_work = [], 0, False
         self.connection = board.connect()
         board.say("cont")
         self.at = None if delay is None else time.monotonic() + delay
 
     def cut_soon(self, chance):
-        self.left, self.delay = chance.randint(1, EVENTS), chance.random() * chance.choice(SPANS)
+        """Half of the cuts come at any moment, and half while a packet takes longer than most do, since the firmware has its device at work."""
+        self.left, self.is_at_work = chance.randint(1, EVENTS), chance.random() < 0.5
+        self.delay = chance.random() * (WORK if self.is_at_work else chance.choice(SPANS))
 
     def more(self, until):
         if self.is_cut:
@@ -128,13 +132,23 @@ class Powered(Line):
             found += more
         return found
 
+    def ask(self, frame):
+        """The same, and how long it took. A cut that was to come at work, and for which there was too little of it, comes in a later event."""
+        self.begun = time.monotonic()
+        found = super().ask(frame)
+        self.times.append(time.monotonic() - self.begun)
+        if self.is_at_work and not self.is_cut:
+            self.at = None
+        return found
+
     def send(self, frame):
         if self.is_cut:
             raise PowerLoss
         if self.left is not None and self.at is None:
             self.left -= 1
-            if self.left == 0:
-                self.at = time.monotonic() + self.delay
+            if self.left <= 0:
+                mostly = statistics.quantiles(self.times, n=10)[8] if self.is_at_work else 0
+                self.at = self.begun + mostly + self.delay
         self.connection.sendall(frame)
 
     def loss(self):
