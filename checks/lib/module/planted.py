@@ -40,3 +40,19 @@ PLANTED = (
     ("an exception", "  call void @llvm.trap()\n  unreachable", "  invoke void @llvm.trap() to label %some unwind label %none"),
     ("a parameter that is handed over by its bytes", "define noundef signext i32 @usbdisk_small(ptr noundef %a0", "define noundef signext i32 @usbdisk_small(ptr byval(i64) %a0"),
 )
+
+# Faults of what makes the module for 32 bits: the file of dist/, a text of it, and what stands in its place.
+FAULTS = (
+    ("to_ll32", "i32 {pair.second_at}", "i32 4"),
+    ("to_ll32", "inttoptr i64 {number}", "inttoptr i32 {number}"),
+    ("to_ll32", "store i64 {self.add(f'ptrtoint", "store i32 {self.add(f'ptrtoint"),
+    ("to_ll32", "0xFFFFFFFF", "0xFFFF"),
+    ("to_ll32", "lshr i64 {got}, 32", "lshr i64 {got}, 31"),
+    ("to_ll32", "pair.second, self.beyond(at, pair), min(align, forms.BYTES_OF[pair.second]))", "pair.second, self.beyond(at, pair), align)"),
+    ("to_ll32", "alloca i64, align", "alloca i32, align"),
+    ("to_ll32", "halves.second} {two}, 1", "halves.second} {one}, 1"),
+    ("alignment.py", "min(known, distance & -distance) if distance else known", "known"),
+    ("alignment.py", "            return\n", "            pass\n"),
+    ("alignment.py", "else 1 for name", "else MOST for name"),
+    ("forms.py", "-(-BYTES_OF[self.first] // size) * size", "BYTES_OF[self.first]"),
+)

@@ -43,6 +43,25 @@ start:
   ret void
 }
 
+define internal void @"small::far"(ptr noundef %a0, i64 noundef %a1) #0 {
+start:
+  %r0 = alloca [70016 x i8], align 8
+  %r1 = getelementptr i8, ptr %r0, i64 70004
+  call void @llvm.memmove.p0.p0.i64(ptr %r1, ptr %a0, i64 8, i1 false)
+  %r2 = getelementptr i8, ptr %r0, i64 16
+  %r3 = load { i64, i32 }, ptr %r2, align 8
+  store { i64, i32 } %r3, ptr %r0, align 8
+  %r4 = icmp eq i64 %a1, 0
+  br i1 %r4, label %one, label %two
+
+one:                                              ; preds = %start
+  store i64 7, ptr %a0, align 8
+  br label %two
+
+two:                                              ; preds = %one, %start
+  ret void
+}
+
 define noundef signext i32 @usbdisk_small(ptr noundef %a0, i64 noundef %a1) #0 {
 start:
   %r0 = alloca [16 x i8], align 8
@@ -58,6 +77,7 @@ some:                                             ; preds = %start
   %r7 = load i8, ptr %r4, align 1
   %r8 = zext i8 %r7 to i32
   %r9 = add nuw i32 %r8, 5
+  call void @"small::far"(ptr %a0, i64 %a1)
   %r10 = call [2 x i64] @rattle_alloc(i64 16, i64 8)
   %r11 = extractvalue [2 x i64] %r10, 0
   store [2 x i64] %r10, ptr %r0, align 8

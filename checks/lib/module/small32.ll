@@ -41,6 +41,31 @@ start:
   ret void
 }
 
+define internal void @"small::far"(ptr noundef %a0, i64 noundef %a1) #0 {
+start:
+  %r0 = alloca [70016 x i8], align 8
+  %r1 = getelementptr i8, ptr %r0, i32 70004
+  call void @llvm.memmove.p0.p0.i32(ptr align 4 %r1, ptr align 1 %a0, i32 8, i1 false)
+  %r2 = getelementptr i8, ptr %r0, i32 16
+  %w1 = load i64, ptr %r2, align 8
+  %w2 = getelementptr i8, ptr %r2, i32 8
+  %w3 = load i32, ptr %w2, align 4
+  %w4 = insertvalue { i64, i32 } poison, i64 %w1, 0
+  %r3 = insertvalue { i64, i32 } %w4, i32 %w3, 1
+  %w5 = extractvalue { i64, i32 } %r3, 0
+  store i64 %w5, ptr %r0, align 8
+  %w6 = extractvalue { i64, i32 } %r3, 1
+  %w7 = getelementptr i8, ptr %r0, i32 8
+  store i32 %w6, ptr %w7, align 4
+  %r4 = icmp eq i64 %a1, 0
+  br i1 %r4, label %one, label %two
+one:
+  store i64 7, ptr %a0, align 8
+  br label %two
+two:
+  ret void
+}
+
 define noundef signext i32 @usbdisk_small_(ptr noundef %a0, i64 noundef %a1) #0 {
 start:
   %r0 = alloca [16 x i8], align 8
@@ -55,6 +80,7 @@ some:
   %r7 = load i8, ptr %r4, align 1
   %r8 = zext i8 %r7 to i32
   %r9 = add nuw i32 %r8, 5
+  call void @"small::far"(ptr %a0, i64 %a1)
   %w1 = call i64 @usbdisk_alloc(i64 16, i64 8)
   %w2 = and i64 %w1, 4294967295
   %w3 = lshr i64 %w1, 32
