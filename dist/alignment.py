@@ -1,8 +1,8 @@
 """What is known of the alignment of each place that the module moves memory from or to: its moves tell none, and a processor that reads no word at
 any address would move byte by byte.
 
-A place is a base and a distance from it. What the base is aligned to is known of an alloca; of a parameter of an inner function, as the least that any
-of its callers hands over; and of what a function reads or writes by a larger alignment in its first block, which each call of it runs through."""
+A place is a base and a distance from it. What the base is aligned to is known of an alloca; of a parameter of an inner function, as the least that
+any of its callers hands over; and of what a function reads or writes by a larger alignment in its first block, which each call of it runs through."""
 
 import collections
 

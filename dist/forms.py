@@ -75,11 +75,13 @@ FORMS = tuple(form(*it) for it in (
     ("call", r"(?:TO = )?(?:tail )?callPROMISES <type:void|TYPE) <name:NAME)\(<given:.*)\)(?: #\d+)?".replace("PROMISES", PROMISES), "type"),
     ("goto", r"br label <label:%[\w.]+)"),
     ("if", r"br i1 <value:VALUE), label <yes:%[\w.]+), label <no:%[\w.]+)", "", "i1 value"),
-    ("switch", r"switch <type:INTEGER) <value:VALUE), label <otherwise:%[\w.]+) \[<arms:(?:\s+INTEGER -?\d+, label %[\w.]+)*)\s*\]", "", "type value"),
+    ("switch", r"switch <type:INTEGER) <value:VALUE), label <otherwise:%[\w.]+) \[<arms:(?:\s+INTEGER -?\d+, label %[\w.]+)*)\s*\]",
+     "", "type value"),
     ("ret", r"ret (?:void|<type:TYPE) <value:VALUE))", "", "type value"),
     ("unreachable", r"unreachable"),
 ))
-DEFINE = re.compile(rf"define ((?:internal |dso_local |hidden )*)(?:noundef )?(?:signext |zeroext )?(void|{TYPE}) ({NAME})\((.*)\)(?: unnamed_addr)?(?: #\d+)? \{{")
+LINKAGE = r"((?:internal |dso_local |hidden )*)(?:noundef )?(?:signext |zeroext )?"
+DEFINE = re.compile(rf"define {LINKAGE}(void|{TYPE}) ({NAME})\((.*)\)(?: unnamed_addr)?(?: #\d+)? \{{")
 PARAMETER = re.compile(rf"({TYPE}){PROMISES} (%[\w.]+)")
 STATIC = re.compile(r'(@static\.\d+) = private unnamed_addr constant \[(\d+) x i8\] (?:c"(.*)"|zeroinitializer), align (\d+)')
 # Lines that say nothing of what the program does, but for what they promise of it.
