@@ -10,3 +10,4 @@ pub mod EmptyBatches
 pub mod LogSteps
 pub mod TurnsJoined
 pub mod StoreRuns
+pub mod StageSteps

@@ -15,6 +15,7 @@ pub mod Reads
 pub mod Running
 pub mod Sent
 pub mod Settled
+pub mod Stages
 pub mod Started
 pub mod Stopping
 pub mod StoreValue

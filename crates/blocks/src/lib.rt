@@ -8,9 +8,11 @@
 
 mod ahead;
 mod background;
+mod commit;
 mod fault;
 mod laws;
 mod read;
+mod stage;
 mod start;
 mod start_error;
 mod stop;
@@ -19,10 +21,12 @@ mod sync;
 mod work;
 mod write;
 mod write_back;
+mod write_step;
 
 pub use fault::StoreFault;
 pub use laws::{flush_laws, run_laws};
 pub use recovery::StartFault;
+pub use stage::Stage;
 pub use start::Keeping;
 pub use start_error::StartError;
 pub use store::Store;
