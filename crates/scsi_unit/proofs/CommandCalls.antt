@@ -24,7 +24,7 @@ no_calls count read promising Quiet m unit =
     let looks = no_looks (ReadsBackOr unit (home_sectors_of (first_home_of unit) read)) m m refl in grind (arith, looks)
 
 -- the log alone was read
-log_looked : {M : Type 0} (before after : State) (unit : UnitValue M) (read : Option Transfer)
+pub log_looked : {M : Type 0} (before after : State) (unit : UnitValue M) (read : Option Transfer)
     → LooksAtLog before after unit.store.cached → LooksToRead before after unit read
 log_looked before after unit read looks = looks_wider (ReadsBack unit) _ before after (λ x low. inl low) looks
 

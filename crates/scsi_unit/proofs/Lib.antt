@@ -8,3 +8,7 @@ pub mod Intentions
 pub mod StartedUnit
 pub mod UnitLaws
 pub mod UnitRuns
+pub mod WantedCommands
+pub mod PendingSteps
+pub mod PendingReads
+pub mod PendingBegun

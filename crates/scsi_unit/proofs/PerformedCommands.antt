@@ -79,14 +79,14 @@ take-capacity_10 n = refl
 -- ---- commands that make accepted writes durable
 
 -- the write of a WRITE of some blocks
-some_is : (transfer : Transfer) (taken : List ℕ) → transfer.count ≢ 0 → some_write transfer taken ≡ Some (write_by transfer taken)
+pub some_is : (transfer : Transfer) (taken : List ℕ) → transfer.count ≢ 0 → some_write transfer taken ≡ Some (write_by transfer taken)
 some_is transfer taken some = grind (arith, nat_tests)
 
 some_wanted : (transfer : Transfer) → transfer.count ≢ 0 → moves_blocks transfer ≡ true
 some_wanted transfer some = grind (arith, nat_tests)
 
 -- a command that faulted the unit
-faults : {M : Type 0} (before after : State) (old : UnitValue M) (last : StoreValue M) (command : Command) (taken : List ℕ)
+pub faults : {M : Type 0} (before after : State) (old : UnitValue M) (last : StoreValue M) (command : Command) (taken : List ℕ)
     {sense : Sense} (book next : Book) → layout_of last.cached ≡ layout_of old.store.cached
     → MayFault (has_refused before after) (with_progress book (write_of_command command taken))
     → wants_writing command taken old.write_cache ≡ true → TellsDeath (Err sense) last.cached

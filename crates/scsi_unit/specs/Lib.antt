@@ -14,3 +14,4 @@ pub mod Performing
 pub mod StoreCalls
 pub mod Reading
 pub mod Promising
+pub mod Pending

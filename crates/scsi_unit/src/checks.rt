@@ -40,8 +40,8 @@ fn passes_attention(code: u8) -> bool
     code == INQUIRY || code == REQUEST_SENSE
 }
 
-// Whether a faulted unit refuses a command.
-fn needs_medium(command: &Command) -> bool
+/// Whether a faulted unit refuses a command.
+pub(crate) fn needs_medium(command: &Command) -> bool
     ensures { result ≡ needs_medium command.now }
 {
     match command {
@@ -53,7 +53,7 @@ fn needs_medium(command: &Command) -> bool
 impl<M: Medium> Unit<M> {
     /// The command of a command block, or the sense with which it is refused.
     #[tactic(auto, unfolding(scsi::specs::Rules::command_by))]
-    pub(crate) fn command(&self, block: &[u8]) -> Result<Command, Sense>
+    pub fn command(&self, block: &[u8]) -> Result<Command, Sense>
         ensures value { result ≡ command_for self.now block.now }
         ensures supported { IfOk result
             (IsSupported (blocks_of self.now.store.cached) (unit_limit self.now)) }

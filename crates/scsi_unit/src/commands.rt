@@ -88,9 +88,14 @@ impl<M: Medium> Unit<M> {
         self.perform(command, taken, out)
     }
 
-    // Performs a command.
+    /// Performs a command.
     #[tactic(auto, using(crate::proofs::CommandCalls::no_calls))]
-    fn perform(&mut self, command: Command, taken: &[u8], out: &mut [u8]) -> Result<usize, Sense>
+    pub(crate) fn perform(
+        &mut self,
+        command: Command,
+        taken: &[u8],
+        out: &mut [u8],
+    ) -> Result<usize, Sense>
         requires { CanPerform self.old command taken.now out.old }
         ensures performs { Performs (M.state self.old.store.medium)
             (M.state self.new.store.medium) (Ok command) taken.now self.old

@@ -10,19 +10,23 @@ mod checks;
 mod commands;
 mod fault;
 mod laws;
+mod pending;
+mod progress;
 mod promising;
 mod reading;
 mod retiring;
 mod start;
+mod steps;
 mod store_calls;
 mod transfers;
 mod unit;
 
 pub use blocks::{StartError, StartFault, Work};
 pub use laws::unit_laws;
+pub use progress::{Progress, Want};
 pub use reading::HomeSectors;
 pub use retiring::Retiring;
-pub use scsi_commands::{Identity, Sense};
+pub use scsi_commands::{Command, Identity, Sense};
 pub use unit::Unit;
 
 /// What a command is about to move, or the sense with which it is refused.

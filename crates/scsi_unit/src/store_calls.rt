@@ -1,12 +1,14 @@
 //! The calls of the store that the unit makes.
 ghost use Rattle.std.specs.Prelude.{◌≡◌, ◌≤◌, ◌*◌, false, length};
 ghost use Rattle.blocks.specs.Running.{ComesBy};
+ghost use Rattle.blocks.specs.Stages.{WriteStepPost};
 ghost use Rattle.blocks.specs.StoreValue.{is_dead};
+ghost use Rattle.scsi.specs.Rules.{write_by};
 ghost use Rattle.scsi_unit.specs.Asking.{CanTransfer};
 ghost use Rattle.scsi_unit.specs.StoreCalls.{MakesDurable, ReadsBlocks, WritesBlocks, StepsBehind};
 
 use crate::checks::BLOCK;
-use blocks::{Store, Work};
+use blocks::{Stage, Store, Work};
 use medium::Medium;
 use scsi_commands::{Sense, Transfer};
 
@@ -59,6 +61,19 @@ pub(crate) fn write_blocks<M: Medium>(
         Ok(()) => Ok(()),
         Err(_) => Err(Sense::WRITE_ERROR),
     }
+}
+
+/// Writes the blocks at the front of what was taken, or makes a step towards room for them.
+pub(crate) fn write_step<M: Medium>(store: &mut Store<M>, transfer: Transfer, taken: &[u8]) -> Stage
+    requires can { CanTransfer store.old.cached transfer }
+    requires taken { 512 * transfer.count ≤ length taken.now }
+    ensures { WriteStepPost M.state M.follows (write_by transfer taken.now) transfer.address
+        transfer.count result store.old store.new }
+{
+    store.write_step(
+        transfer.address,
+        &taken[..(BLOCK * transfer.count) as usize],
+    )
 }
 
 /// Makes a step in the background.

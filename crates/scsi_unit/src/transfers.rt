@@ -111,15 +111,15 @@ impl<M: Medium> Unit<M> {
     }
 }
 
-// Whether a WRITE is to be durable before it is good.
-fn goes_through(fua: bool, write_cache: bool) -> bool
+/// Whether a WRITE is to be durable before it is good.
+pub(crate) fn goes_through(fua: bool, write_cache: bool) -> bool
     ensures { result ≡ (fua || not write_cache) }
 {
     fua || !write_cache
 }
 
-// Whether a write cache is to be disabled that was enabled.
-fn is_disabled(was: bool, enabled: bool) -> bool
+/// Whether a write cache is to be disabled that was enabled.
+pub(crate) fn is_disabled(was: bool, enabled: bool) -> bool
     ensures { result ≡ (was && not enabled) }
 {
     was && !enabled

@@ -233,8 +233,8 @@ impl<M: Inlet> Unit<M> {
     }
 }
 
-// Keeps the sense of a command that failed, and drops that of an earlier one.
-fn settle(kept: &mut Kept, answer: &Result<usize, Sense>)
+/// Keeps the sense of a command that failed, and drops that of an earlier one.
+pub(crate) fn settle(kept: &mut Kept, answer: &Result<usize, Sense>)
     ensures { (out : List ℕ) → kept.new ≡ settled_kept (answer_of answer.now out) kept.old }
 {
     match answer {

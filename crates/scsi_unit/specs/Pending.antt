@@ -1,0 +1,240 @@
+-- A command that is not over: what it may want, which books the unit fits meanwhile, and how it
+-- comes to its end.
+use Rattle.std.specs.Prelude.{⊤, ◌≡◌, ◌<◌, ◌≤◌, ◌+◌, ℕ, Bool, true, false, List}
+use Rattle.std.specs.Prelude.{◌||◌, not, length, Option, Some, None, Result, Ok, Err, if◌then◌else◌}
+use Rattle.medium.specs.{Medium.State, Moments.{LeavesOnly, IsUnchanged}, Sent.SendsUpTo}
+use Rattle.logical_blocks.specs.Book.{Book, with_progress}
+use Rattle.scsi.specs.{Sense.Sense, declared.command.Command.Command, Waiting.Waiting}
+use Rattle.scsi.specs.{declared.command.Transfer.Transfer, Rules.{forces_reading, moves_blocks}}
+use Rattle.scsi.specs.Rules.{reads_blocks, selected_by, clears, moves, write_of_command}
+use Rattle.scsi.specs.Rules.{checked_for_fault, IsOutcome}
+use Rattle.blocks.specs.{Finding.FoundWith, Prepared.IsTakenAtOnce, Running.ComesBy}
+use Rattle.blocks.specs.{Turns.GoesOn, Written.IsWritten}
+use Rattle.blocks.specs.StoreValue.{blocks_of, is_dead, steps_left}
+use Rattle.scsi_commands.specs.Supported.{IsSupported}
+use Rattle.scsi_unit.specs.UnitValue.{UnitValue, unit_limit, state_of, answer_of, FitsUnit}
+use Rattle.scsi_unit.specs.{Calls.SendsAsMeant, Promising.forces_writing}
+use Rattle.scsi_unit.specs.{Reading.{read_of, LooksToRead}, Serving.has_refused}
+use Rattle.scsi_unit.specs.declared.progress.{Progress.Progress, Want.Want}
+use Rattle.scsi_unit.specs.declared.progress.Progress.TheVariants.{Done, Wants}
+use Rattle.scsi.specs.declared.command.Command.TheVariants as command
+use Rattle.scsi.specs.declared.intent.Intent.TheVariants as intent
+use Rattle.scsi_unit.specs.declared.progress.Want.TheVariants as want
+
+-- ---- what a command may want
+
+-- what a READ or a WRITE moves; any other command moves no blocks
+abbrev pub transfer_of : Command → Transfer
+transfer_of (command.Read10 transfer) = transfer
+transfer_of (command.Read16 transfer) = transfer
+transfer_of (command.Write10 transfer) = transfer
+transfer_of (command.Write16 transfer) = transfer
+transfer_of command = record { address = 0; count = 0; fua = false }
+
+-- it is a WRITE of some blocks
+abbrev pub writes_blocks : Command → Bool
+writes_blocks (command.Write10 transfer) = moves_blocks transfer
+writes_blocks (command.Write16 transfer) = moves_blocks transfer
+writes_blocks command = false
+
+-- its good answer promises all accepted writes
+abbrev pub commits : Command → List ℕ → Bool → Bool
+commits (command.Read10 transfer) taken write_cache = forces_reading transfer
+commits (command.Read16 transfer) taken write_cache = forces_reading transfer
+commits (command.Write10 transfer) taken write_cache = forces_writing transfer write_cache
+commits (command.Write16 transfer) taken write_cache = forces_writing transfer write_cache
+commits (command.SynchronizeCache10 range) taken write_cache = true
+commits (command.SynchronizeCache16 range) taken write_cache = true
+commits (command.ModeSelect length) taken write_cache =
+    clears write_cache (selected_by length taken write_cache)
+commits command taken write_cache = false
+
+-- what it may want: a WRITE room, one that promises a commit, a READ its blocks
+abbrev pub may_want : Want → Command → List ℕ → Bool → Bool
+may_want want.Room command taken write_cache = writes_blocks command
+may_want want.Commit command taken write_cache = commits command taken write_cache
+may_want want.Read command taken write_cache = reads_blocks command
+
+-- what it wants first, if it wants something
+abbrev pub first_want : Command → List ℕ → Bool → Option Want
+first_want command taken write_cache =
+    if writes_blocks command then Some want.Room
+    else if commits command taken write_cache then Some want.Commit
+    else if reads_blocks command then Some want.Read
+    else None
+
+-- ---- the books that the unit fits meanwhile
+
+-- A commit is wanted: a WRITE is accepted by then, and its store lives.
+pub record FitsCommit {M : Type 0} (m : State) (unit : UnitValue M) (command : Command)
+    (taken : List ℕ) (book : Book) : Type 0 where
+  pub fits : FitsUnit m unit (with_progress book (write_of_command command taken))
+  pub live : writes_blocks command ≡ true → is_dead unit.store.cached ≡ false
+
+-- Blocks are wanted: a READ that promises has made all accepted writes durable by then.
+pub record FitsRead {M : Type 0} (m : State) (unit : UnitValue M) (command : Command)
+    (taken : List ℕ) (book : Book) : Type 0 where
+  pub fits : FitsUnit m unit book
+  pub written : commits command taken unit.write_cache ≡ true → IsWritten unit.store.cached
+
+-- the book is the one before the command
+abbrev pub FitsPending : {M : Type 0} → State → UnitValue M → Command → List ℕ → Want → Book
+    → Type 0
+FitsPending m unit command taken want.Room book = FitsUnit m unit book
+FitsPending m unit command taken want.Commit book = FitsCommit m unit command taken book
+FitsPending m unit command taken want.Read book = FitsRead m unit command taken book
+
+-- ---- how it comes to its end
+
+-- It is over: one line of the rules, of the unit as it was before this step. The check for a fault
+-- is made anew, since a step in the background may have faulted the unit.
+abbrev pub HasEnded : {M : Type 0} → State → State → Result Command Sense → List ℕ → UnitValue M
+    → Result (List ℕ) Sense → UnitValue M → Book → Type 0
+HasEnded before after told taken old answer new book =
+    (next : Book)
+    × IsOutcome (has_refused before after) (checked_for_fault (is_dead old.store.cached) told) taken
+    (state_of old book) answer (state_of new next)
+    × FitsUnit after new next
+
+-- it is not over, and by the rules the unit is as it was
+pub record IsPending {M : Type 0} (after : State) (command : Command) (taken : List ℕ)
+    (want : Want) (old new : UnitValue M) (book : Book) : Type 0 where
+  pub stays : state_of new book ≡ state_of old book
+  pub fits : FitsPending after new command taken want book
+  pub wanted : may_want want command taken new.write_cache ≡ true
+
+-- one of both; a command that was refused is over
+abbrev pub HasProgressed : {M : Type 0} → State → State → Result Command Sense → List ℕ
+    → UnitValue M → Progress → List ℕ → UnitValue M → Book → Type 0
+HasProgressed before after told taken old (Done result) out new book =
+    HasEnded before after told taken old (answer_of result out) new book
+HasProgressed before after (Ok command) taken old (Wants want) out new book =
+    IsPending after command taken want old new book
+HasProgressed before after (Err sense) taken old (Wants want) out new book = ⊥
+
+-- how many bytes it sends
+abbrev pub SendsWhenDone : Result Command Sense → ℕ → Progress → Type 0
+SendsWhenDone (Ok command) limit (Done result) = SendsAsMeant (moves command) limit result
+SendsWhenDone told limit progress = ⊤
+
+-- ---- a step of it
+
+-- the bytes taken for a command
+abbrev pub TakesAll : Command → List ℕ → Type 0
+TakesAll command taken = (n : ℕ) → moves command ≡ intent.Out n → length taken ≡ n
+
+-- a command that the unit may carry out, the bytes taken for it, and what it may want
+pub record CanWant {M : Type 0} (unit : UnitValue M) (command : Command) (want : Want)
+    (taken : List ℕ) : Type 0 where
+  pub supported : IsSupported (blocks_of unit.store.cached) (unit_limit unit) command
+  pub taken_all : TakesAll command taken
+  pub wanted : may_want want command taken unit.write_cache ≡ true
+
+-- a command that the unit may carry out, the bytes taken for it, and room for what it sends
+pub record CanServe {M : Type 0} (unit : UnitValue M) (command : Command) (taken out : List ℕ)
+    : Type 0 where
+  pub supported : IsSupported (blocks_of unit.store.cached) (unit_limit unit) command
+  pub taken_all : TakesAll command taken
+  pub room : (n : ℕ) → moves command ≡ intent.In n → n ≤ length out
+
+-- the same, and what it may want
+pub record CanGoOn {M : Type 0} (unit : UnitValue M) (command : Command) (want : Want)
+    (taken out : List ℕ) : Type 0 where
+  pub wants : CanWant unit command want taken
+  pub room : (n : ℕ) → moves command ≡ intent.In n → n ≤ length out
+
+-- a command that was parsed, or its refusal, begins: the same
+abbrev pub CanBegin : {M : Type 0} → UnitValue M → Result Command Sense → List ℕ → List ℕ → Type 0
+CanBegin unit (Ok command) taken out = CanServe unit command taken out
+CanBegin unit (Err sense) taken out = ⊤
+
+-- how many calls it makes at most, and how many writes and flushes among them
+abbrev pub calls_for : Want → Command → ℕ
+calls_for want.Read command = (transfer_of command).count
+calls_for want command = 2
+
+abbrev pub sends_for : Want → ℕ
+sends_for want.Read = 0
+sends_for want = 2
+
+-- the home sectors that it reads
+abbrev pub read_for : Want → Command → Option Transfer
+read_for want.Read command = read_of (Ok command)
+read_for want command = None
+
+pub record StepCalls {M : Type 0} (before after : State) (command : Command) (want : Want)
+    (old : UnitValue M) : Type 0 where
+  pub calls : after.calls ≤ before.calls + calls_for want command
+  pub sent : SendsUpTo (sends_for want) before after
+  pub looks : LooksToRead before after old (read_for want command)
+
+-- what no step changes
+pub record StepKeeps {M : Type 0} (state : M → State) (Follows : M → M → Type 0)
+    (old new : UnitValue M) : Type 0 where
+  pub goes_on : GoesOn (state old.store.medium) (state new.store.medium)
+      old.store.cached new.store.cached
+  pub identity : new.identity ≡ old.identity
+  pub policy : new.store.goes_ahead ≡ old.store.goes_ahead
+  pub follows : ComesBy state Follows old.store new.store
+
+-- what it wants can be had by no call of the medium
+abbrev pub IsHadAtOnce : {M : Type 0} → UnitValue M → Command → Want → Type 0
+IsHadAtOnce unit command want.Room =
+    IsTakenAtOnce unit.store.cached (transfer_of command).address (transfer_of command).count
+IsHadAtOnce unit command want.Commit = IsWritten unit.store.cached
+IsHadAtOnce unit command want.Read = ⊥
+
+-- One step of a command that wants this. At each moment of it a loss of power leaves what may be
+-- found of the book before the command, perhaps with its write, whole.
+pub record GoOnPost {M : Type 0} (state : M → State) (Follows : M → M → Type 0)
+    (command : Command) (want : Want) (taken : List ℕ) (old : UnitValue M) (progress : Progress)
+    (out : List ℕ) (new : UnitValue M) : Type 0 where
+  pub line : (book : Book) → FitsPending (state old.store.medium) old command taken want book
+      → HasProgressed (state old.store.medium) (state new.store.medium) (Ok command) taken old
+      progress out new book
+  pub cuts : (book : Book) → FitsPending (state old.store.medium) old command taken want book
+      → book.ours ≡ true
+      → LeavesOnly (FoundWith (state old.store.medium).size book (write_of_command command taken))
+      (state old.store.medium) (state new.store.medium)
+  -- where it wants the same again, fewer steps are left
+  pub fewer : progress ≡ Wants want → steps_left new.store.cached < steps_left old.store.cached
+  pub at_once : IsHadAtOnce old command want
+      → IsUnchanged (state old.store.medium) (state new.store.medium)
+  pub makes : StepCalls (state old.store.medium) (state new.store.medium) command want old
+  pub sends : SendsWhenDone (Ok command) (unit_limit old) progress
+  pub keeps : StepKeeps state Follows old new
+
+-- A command that was parsed, or its refusal, begins: by no call of the medium.
+pub record BeginPost {M : Type 0} (state : M → State) (Follows : M → M → Type 0)
+    (told : Result Command Sense) (taken : List ℕ) (old : UnitValue M) (progress : Progress)
+    (out : List ℕ) (new : UnitValue M) : Type 0 where
+  pub line : (book : Book) → FitsUnit (state old.store.medium) old book
+      → HasProgressed (state old.store.medium) (state new.store.medium) told taken old
+      progress out new book
+  pub unchanged : IsUnchanged (state old.store.medium) (state new.store.medium)
+  pub sends : SendsWhenDone told (unit_limit old) progress
+  pub keeps : StepKeeps state Follows old new
+
+-- What becomes of the unit where a commit is done: the command is over, and MODE SELECT has disabled
+-- the write cache; but a READ wants its blocks.
+abbrev pub cache_after : Command → Bool → Bool
+cache_after (command.ModeSelect length) write_cache = false
+cache_after command write_cache = write_cache
+
+abbrev pub progress_after : Command → Progress
+progress_after (command.Read10 transfer) = Wants want.Read
+progress_after (command.Read16 transfer) = Wants want.Read
+progress_after command = Done (Ok 0)
+
+-- the sense of an earlier command is dropped where the command is over
+abbrev pub kept_after : Progress → Waiting → Waiting
+kept_after (Done result) kept = record kept { sense = None }
+kept_after (Wants want) kept = kept
+
+-- where a batch has the write of a WRITE: it is over, or wants a commit
+abbrev pub goes_through : Transfer → Bool → Bool
+goes_through transfer write_cache = transfer.fua || not write_cache
+
+abbrev pub progress_accepted : Transfer → Bool → Progress
+progress_accepted transfer write_cache =
+    if goes_through transfer write_cache then Wants want.Commit else Done (Ok 0)
