@@ -28,8 +28,8 @@ abbrev pub is_failed : Stage → Bool
 is_failed Failed = true
 is_failed stage = false
 
--- One step, from one stage to another. At each moment of it a loss of power leaves what may be found
--- of the book before the write, perhaps with the write, whole.
+-- One step, from one stage to another. At each moment of it a loss of power leaves what may be
+-- found of the book before the write, perhaps with the write, whole.
 pub record StageAdvanced {M : Type 0} (state : M → State) (Follows : M → M → Type 0)
     (write : Option Write) (from to : Stage) (old new : StoreValue M) : Type 0 where
   pub fits : (book : Book) → StageFits from (state old.medium) old.cached write book

@@ -12,3 +12,4 @@ pub mod WantedCommands
 pub mod PendingSteps
 pub mod PendingReads
 pub mod PendingBegun
+pub mod PendingLaws

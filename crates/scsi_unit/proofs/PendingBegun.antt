@@ -9,8 +9,10 @@ use Rattle.scsi.specs.{Sense.Sense, SenseCodes.internal_target_failure, Waiting.
 use Rattle.scsi.specs.Rules.{IsOutcome, checked_for_fault, needs_medium, write_of_command, moves}
 use Rattle.blocks.specs.{Finding.FoundWith, Turns.IsTurn, StoreValue.{FitsBook, is_dead}}
 use Rattle.blocks.proofs.{TurnsJoined.stays, StoreRuns.comes_itself, StageSteps.without}
-use Rattle.scsi_unit.specs.{UnitValue.{UnitValue, state_of, answer_of, unit_limit}, Serving.has_refused, Performing.{Performs, Spares, settled_kept}}
-use Rattle.scsi_unit.specs.Pending.{FitsPending, HasEnded, GoOnPost, BeginPost, StepCalls, StepKeeps, may_want, first_want, writes_blocks}
+use Rattle.scsi_unit.specs.{UnitValue.{UnitValue, state_of, answer_of, unit_limit}, Serving.has_refused}
+use Rattle.scsi_unit.specs.Performing.{Performs, Spares, settled_kept}
+use Rattle.scsi_unit.specs.Pending.{FitsPending, HasEnded, GoOnPost, BeginPost, StepCalls, StepKeeps, may_want}
+use Rattle.scsi_unit.specs.Pending.{first_want, writes_blocks}
 use Rattle.scsi_unit.specs.Pending.{read_for, SendsWhenDone, IsHadAtOnce}
 use Rattle.scsi_unit.specs.Reading.{ReadsBackOr, first_home_of, home_sectors_of}
 use Rattle.scsi_unit.specs.{Calls.SendsAsMeant, declared.progress.{Progress.Progress, Want.Want}}
@@ -166,7 +168,8 @@ module _ {M : Type 0} {state : M → State} {Follows : M → M → Type 0} (old 
             let found = performs.line book f in (
               found.0,
               subst (λ (told : Result Command Sense). IsOutcome (has_refused (state old.store.medium) (state mid.store.medium)) told taken
-                  (state_of old book) (answer_of result out) (state_of (record mid { kept = settled_kept (answer_of result out) mid.kept }) found.0))
+                  (state_of old book) (answer_of result out)
+                  (state_of (record mid { kept = settled_kept (answer_of result out) mid.kept }) found.0))
                   (sym (carried_by (is_dead old.store.cached) command free)) found.1,
               found.2,
             );

@@ -14,12 +14,17 @@ use Rattle.scsi_unit.specs.declared.progress.Want.TheVariants as want
 use Rattle.scsi_unit.proofs.{UnitTurns.{refused_so, limit_stays}, Intentions.meant_to_send, PendingSteps.over}
 use Rattle.scsi_unit.proofs.WantedCommands.{read_effect, read_writes, read_some, read_within, read_moves, read_commits, read_is}
 
+-- the unit over this store, behind an answer
+abbrev answered : {M : Type 0} → UnitValue M → StoreValue M → List ℕ → Result ℕ Sense → UnitValue M
+answered old store out result = record old { store = store; kept = settled_kept (answer_of result out) old.kept }
+
 module _ {M : Type 0} {state : M → State} {Follows : M → M → Type 0} (old : UnitValue M) (store : StoreValue M) (command : Command)
     (taken out : List ℕ) (live : is_dead old.store.cached ≡ false) (can : CanWant old command want.Read taken) where
   line : (result : Result ℕ Sense)
       → ReadsBlocks (ComesBy state Follows) (transfer_of command) (state old.store.medium) (state store.medium) old.store store out result
       → (book : Book) → FitsRead (state old.store.medium) old command taken book
-      → HasEnded (state old.store.medium) (state store.medium) (Ok command) taken old (answer_of result out) (record old { store = store; kept = settled_kept (answer_of result out) old.kept }) book
+      → HasEnded (state old.store.medium) (state store.medium) (Ok command) taken old (answer_of result out)
+      (answered old store out result) book
   line (Ok sent) reads book f =
       let limit = limit_stays old.store.cached store.cached reads.turn.goes_on.layout_stays in
       let effect = read_effect command taken can.wanted (state_of old book) in
@@ -29,19 +34,22 @@ module _ {M : Type 0} {state : M → State} {Follows : M → M → Type 0} (old 
       elim (cases_Bool (commits command taken old.write_cache)) [
         | inl promises ↦
             let both = both_empty old.store.cached live (f.written promises) in
-            over (state old.store.medium) (state store.medium) old store live command taken (answer_of (Ok sent) out) (record old { store = store; kept = settled_kept (answer_of (Ok sent) out) old.kept })
+            over (state old.store.medium) (state store.medium) old store live command taken (answer_of (Ok sent) out)
+            (answered old store out (Ok sent))
             book (promised book)
             (inl (grind (arith, nat_tests, limit, effect, commits_by, promises, some, blocks, reads.sent_all, live, reads.stays)))
             (reads.turn.fits (promised book) (settles both.0 both.1 f.fits))
         | inr plain ↦
-            over (state old.store.medium) (state store.medium) old store live command taken (answer_of (Ok sent) out) (record old { store = store; kept = settled_kept (answer_of (Ok sent) out) old.kept })
+            over (state old.store.medium) (state store.medium) old store live command taken (answer_of (Ok sent) out)
+            (answered old store out (Ok sent))
             book book
             (inl (grind (arith, nat_tests, limit, effect, commits_by, plain, some, blocks, reads.sent_all, live, reads.stays)))
             (reads.turn.fits book f.fits)
       ]
   line (Err sense) reads book f =
       let limit = limit_stays old.store.cached store.cached reads.turn.goes_on.layout_stays in
-      over (state old.store.medium) (state store.medium) old store live command taken (Err sense) (record old { store = store; kept = settled_kept (Err sense) old.kept }) book book
+      over (state old.store.medium) (state store.medium) old store live command taken (Err sense)
+      (answered old store out (Err sense)) book book
       (inr (inl (grind (
         arith,
         nat_tests,
@@ -56,7 +64,7 @@ module _ {M : Type 0} {state : M → State} {Follows : M → M → Type 0} (old 
 
   pub reads_now : (result : Result ℕ Sense)
       → ReadsBlocks (ComesBy state Follows) (transfer_of command) (state old.store.medium) (state store.medium) old.store store out result
-      → GoOnPost state Follows command want.Read taken old (Done result) out (record old { store = store; kept = settled_kept (answer_of result out) old.kept })
+      → GoOnPost state Follows command want.Read taken old (Done result) out (answered old store out result)
   reads_now result reads =
       let t = transfer_of command in
       let few = (read_within command taken can.wanted _ _ can.supported).few in

@@ -1,5 +1,6 @@
 -- The steps of a command that is not over, from those of its store, as lines of the rules.
-use Rattle.std.proofs.Common.{◌≡◌, ◌⊎◌, ◌<◌, inl, inr, ℕ, Bool, true, false, List, [], ◌∷◌, Some, None, Option, Result, Ok, Err, arith, refl, sym, subst}
+use Rattle.std.proofs.Common.{◌≡◌, ◌⊎◌, ◌<◌, inl, inr, ℕ, Bool, true, false, List, [], ◌∷◌, Some, None, Option}
+use Rattle.std.proofs.Common.{Result, Ok, Err, arith, refl, sym, subst}
 use Rattle.std.proofs.{Common.length-append, lemmas.Bool.Decides.nat_tests}
 use Rattle.medium.specs.{Medium.State, Moments.{LeavesOnly, IsUnchanged}}
 use Rattle.medium.proofs.Moments.{weaker, unchanged}
@@ -53,7 +54,8 @@ module _ {M : Type 0} (before after : State) (old : UnitValue M) (store : StoreV
         → FitsBook after new.store.cached next → HasEnded before after (Ok command) taken old answer new book
     over answer new book next outcome fits = (
       next,
-      subst (λ (told : Result Command Sense). IsOutcome (has_refused before after) told taken (state_of old book) answer (state_of new next))
+      subst
+          (λ (told : Result Command Sense). IsOutcome (has_refused before after) told taken (state_of old book) answer (state_of new next))
           (sym (served (is_dead old.store.cached) command live)) outcome,
       fits,
     )
@@ -141,7 +143,8 @@ module _ {M : Type 0} {state : M → State} {Follows : M → M → Type 0} (old 
   room_fails is out =
       let advanced = rw is at step.advanced in
       let on = advanced.passes.turn in
-      let died = fails (state old.store.medium) (state store.medium) old store live command taken on advanced.life (write_wants command taken can.wanted old.write_cache) in
+      let died = fails (state old.store.medium) (state store.medium) old store live command taken on advanced.life
+      (write_wants command taken can.wanted old.write_cache) in
       posts old store (after_failure write_error old.kept) old.write_cache command want.Room taken out (Done (Err write_error))
       advanced.passes refl refl refl
       (λ book f.
@@ -173,13 +176,15 @@ module _ {M : Type 0} {state : M → State} {Follows : M → M → Type 0} (old 
       (record old { store = store; kept = settled_kept (Ok []) old.kept })
   room_ends is plain out =
       let advanced = rw is at step.advanced in
-      posts old store (settled_kept (Ok []) old.kept) old.write_cache command want.Room taken out (Done (Ok 0)) advanced.passes refl refl refl
+      posts old store (settled_kept (Ok []) old.kept) old.write_cache command want.Room taken out (Done (Ok 0))
+      advanced.passes refl refl refl
       (λ book f.
       let limit = limit_stays old.store.cached store.cached advanced.passes.turn.layout_stays in
       let effect = write_effect command taken can.wanted (state_of old book) in
       let some = write_some command taken can.wanted in
       let lives = advanced.life in
-      over (state old.store.medium) (state store.medium) old store live command taken (Ok []) (record old { store = store; kept = settled_kept (Ok []) old.kept }) book
+      over (state old.store.medium) (state store.medium) old store live command taken (Ok [])
+      (record old { store = store; kept = settled_kept (Ok []) old.kept }) book
       (with_write book (write_by (transfer_of command) taken)) (inl (grind (arith, nat_tests, limit, effect, some, plain, live, lives)))
       (advanced.fits book f))
       cuts_room (λ same. absurd (let e = same in cc)) quiet_room
@@ -269,7 +274,11 @@ module _ {M : Type 0} {state : M → State} {Follows : M → M → Type 0} (old 
       (record old { store = store; kept = kept; write_cache = cache }) book (promised next)
       (inl (grind (arith, limit, effect, live, lives))) (promises next f.fits))
       cuts_commit (λ same. absurd (let e = same in cc)) quiet_commit
-      (record { sent = λ n sent. absurd (commit_moves command taken old.write_cache is plain n sent); none = λ not. refl; most = omega arith })
+      (record {
+        sent = λ n sent. absurd (commit_moves command taken old.write_cache is plain n sent);
+        none = λ not. refl;
+        most = omega arith;
+      })
 
   -- all is promised, and a READ wants its blocks
   pub commit_reads_on : stage ≡ Promised → reads_blocks command ≡ true → (out : List ℕ)

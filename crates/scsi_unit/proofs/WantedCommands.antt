@@ -1,13 +1,15 @@
 -- What a command does and moves, by what it may want.
 use Rattle.std.{proofs.lemmas.List.{length-take}, specs.Prelude.{◌&&◌}}
-use Rattle.std.proofs.{Common.{◌≡◌, ◌≢◌, ◌≤◌, ◌*◌, ◌/◌, ◌+◌, take, ℕ, Bool, true, false, List, [], length, Some, None, Ok, arith}, lemmas.Bool.Decides.nat_tests}
+use Rattle.std.proofs.{Common.{◌≡◌, ◌≢◌, ◌≤◌, ◌*◌, ◌/◌, ◌+◌, take, ℕ, Bool, true, false, List, [], length}, lemmas.Bool.Decides.nat_tests}
+use Rattle.std.proofs.Common.{Some, None, Ok, arith}
 use Rattle.logical_blocks.specs.Book.{promised, with_progress}
 use Rattle.scsi.specs.{declared.command.{Command.Command, Transfer.Transfer}, Rules.{UnitState, effect_of, writes, reads, gives}}
 use Rattle.scsi.specs.Rules.{write_of_command, write_by, wants_writing, reads_blocks, needs_medium, moves, sends}
 use Rattle.scsi_commands.specs.Supported.{IsSupported, IsWithin}
 use Rattle.scsi.specs.declared.command.Command.TheVariants as variant
 use Rattle.scsi.specs.declared.intent.Intent.TheVariants as intent
-use Rattle.scsi_unit.specs.Pending.{transfer_of, writes_blocks, commits, goes_through, TakesAll, cache_after, progress_after, may_want, first_want}
+use Rattle.scsi_unit.specs.Pending.{transfer_of, writes_blocks, commits, goes_through, TakesAll, cache_after, progress_after}
+use Rattle.scsi_unit.specs.Pending.{may_want, first_want}
 use Rattle.scsi_unit.specs.{Serving.wants_medium, declared.progress.Want.Want}
 use Rattle.scsi_unit.specs.Reading.{read_of}
 use Rattle.scsi_unit.specs.declared.progress.Progress.TheVariants.{Done, Wants}

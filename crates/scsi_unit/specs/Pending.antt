@@ -1,13 +1,14 @@
 -- A command that is not over: what it may want, which books the unit fits meanwhile, and how it
 -- comes to its end.
-use Rattle.std.specs.Prelude.{⊤, ◌≡◌, ◌<◌, ◌≤◌, ◌+◌, ℕ, Bool, true, false, List}
+use Rattle.std.specs.Prelude.{⊤, ◌≡◌, ◌⊎◌, ◌<◌, ◌≤◌, ◌+◌, ℕ, Bool, true, false, List}
 use Rattle.std.specs.Prelude.{◌||◌, not, length, Option, Some, None, Result, Ok, Err, if◌then◌else◌}
 use Rattle.medium.specs.{Medium.State, Moments.{LeavesOnly, IsUnchanged}, Sent.SendsUpTo}
 use Rattle.logical_blocks.specs.Book.{Book, with_progress}
 use Rattle.scsi.specs.{Sense.Sense, declared.command.Command.Command, Waiting.Waiting}
 use Rattle.scsi.specs.{declared.command.Transfer.Transfer, Rules.{forces_reading, moves_blocks}}
 use Rattle.scsi.specs.Rules.{reads_blocks, selected_by, clears, moves, write_of_command}
-use Rattle.scsi.specs.Rules.{checked_for_fault, IsOutcome}
+use Rattle.scsi.specs.Rules.{checked_for_fault, IsOutcome, command_by, wants_writing}
+use Rattle.scsi.specs.SenseCodes.{write_error}
 use Rattle.blocks.specs.{Finding.FoundWith, Prepared.IsTakenAtOnce, Running.ComesBy}
 use Rattle.blocks.specs.{Turns.GoesOn, Written.IsWritten}
 use Rattle.blocks.specs.StoreValue.{blocks_of, is_dead, steps_left}
@@ -215,8 +216,8 @@ pub record BeginPost {M : Type 0} (state : M → State) (Follows : M → M → T
   pub sends : SendsWhenDone told (unit_limit old) progress
   pub keeps : StepKeeps state Follows old new
 
--- What becomes of the unit where a commit is done: the command is over, and MODE SELECT has disabled
--- the write cache; but a READ wants its blocks.
+-- What becomes of the unit where a commit is done: the command is over, and MODE SELECT has
+-- disabled the write cache; but a READ wants its blocks.
 abbrev pub cache_after : Command → Bool → Bool
 cache_after (command.ModeSelect length) write_cache = false
 cache_after command write_cache = write_cache
@@ -238,3 +239,37 @@ goes_through transfer write_cache = transfer.fua || not write_cache
 abbrev pub progress_accepted : Transfer → Bool → Progress
 progress_accepted transfer write_cache =
     if goes_through transfer write_cache then Wants want.Commit else Done (Ok 0)
+
+-- ---- what ends a command from outside
+
+-- It is dropped: the unit fits the book before it, or that with its write last, whole and
+-- unpromised.
+abbrev pub HasDropped : {M : Type 0} → State → UnitValue M → Command → List ℕ → Book → Type 0
+HasDropped m unit command taken book =
+    (next : Book)
+    × ((next ≡ book) ⊎ (next ≡ with_progress book (write_of_command command taken)))
+    × FitsUnit m unit next
+
+-- whatever it wanted
+abbrev pub EachIsDropped : {M : Type 0} → (M → State) → Type 0
+EachIsDropped {M} state = (unit : UnitValue M) (command : Command) (taken : List ℕ) (wanted : Want)
+    (book : Book) → FitsPending (state unit.store.medium) unit command taken wanted book
+    → HasDropped (state unit.store.medium) unit command taken book
+
+-- The device refused a call of it: by the rules it ends with a write error, and its write is the
+-- last one accepted, or is not accepted.
+abbrev pub EachIsRefused : {M : Type 0} → (M → State) → UnitValue M → UnitValue M → Type 0
+EachIsRefused state old new = (command : Command) (taken : List ℕ) (wanted : Want) (book : Book)
+    → wants_writing command taken old.write_cache ≡ true
+    → FitsPending (state old.store.medium) old command taken wanted book
+    → (next : Book)
+    × IsOutcome true (Ok command) taken (state_of old book) (Err write_error) (state_of new next)
+    × FitsUnit (state new.store.medium) new next
+
+-- A command is parsed once: with the check for a fault made anew it is what its block is later,
+-- where the unit was faulted in between, or was not.
+abbrev pub IsParsedOnce : Type 0
+IsParsedOnce = (blocks limit : ℕ) (attention before later : Bool) (block : List ℕ)
+    → (before ≡ true → later ≡ true)
+    → command_by blocks limit attention later block
+    ≡ checked_for_fault later (command_by blocks limit attention before block)

@@ -1,10 +1,13 @@
 //! A unit is told that the device behind its medium refused a call.
-ghost use Rattle.std.specs.Prelude.{◌≡◌};
+ghost use Rattle.std.specs.Prelude.{◌≡◌, true, Err};
 ghost use Rattle.logical_blocks.specs.Book.{Book};
 ghost use Rattle.scsi_unit.specs.UnitValue.{state_of, FitsUnit};
+ghost use Rattle.scsi.specs.SenseCodes.{write_error};
+ghost use Rattle.scsi_unit.specs.Pending.{EachIsRefused};
+ghost use Rattle.scsi_unit.specs.declared.progress.Progress.TheVariants.{Done};
 ghost use Rattle.scsi_unit.specs.Faulting.{faulted_unit, faulted_state, IsSteady};
 
-use crate::Unit;
+use crate::{Progress, Unit};
 use medium::Medium;
 use scsi_commands::Sense;
 
@@ -25,5 +28,16 @@ impl<M: Medium> Unit<M> {
         if taken_back {
             self.kept.fail(Sense::WRITE_ERROR);
         }
+    }
+    /// The device behind the medium refused a call of a command that is not over, and that writes
+    /// or makes writes durable: the unit is faulted, and the command ends with a write error.
+    pub fn refuse(&mut self) -> Progress
+        ensures told { result ≡ Done (Err write_error) }
+        ensures unit { self.new ≡ faulted_unit true self.old }
+        ensures ends { EachIsRefused M.state self.old self.new }
+        ensures steady { IsSteady self.old self.new }
+    {
+        self.fault(true);
+        Progress::Done(Err(Sense::WRITE_ERROR))
     }
 }

@@ -1,6 +1,9 @@
 //! What follows from the rules of the logical unit.
 ghost use Rattle.scsi_unit.specs.Costs.{AreCostLaws};
+ghost use Rattle.scsi_unit.specs.Pending.{EachIsDropped, IsParsedOnce};
 ghost use Rattle.scsi_unit.specs.Laws.{AreCommandLaws, TicksOnly, KeepsLimit, KnowsImages};
+
+use medium::Medium;
 
 /// Does nothing: its contract says what holds of each command and of each step in the background,
 /// whatever the state of the unit, what books tell of an image, what a record costs in a ring that
@@ -11,4 +14,11 @@ pub fn unit_laws()
     ensures limit { KeepsLimit }
     ensures images { KnowsImages }
     ensures costs { AreCostLaws }
+{}
+
+/// Does nothing: its contract says what a unit fits where a command that is not over is dropped, as
+/// by a class reset, and that a command is parsed once.
+pub fn pending_laws<M: Medium>()
+    ensures dropped { EachIsDropped M.state }
+    ensures parsed { IsParsedOnce }
 {}

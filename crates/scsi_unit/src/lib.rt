@@ -10,6 +10,7 @@ mod checks;
 mod commands;
 mod fault;
 mod laws;
+mod parsed;
 mod pending;
 mod progress;
 mod promising;
@@ -22,7 +23,7 @@ mod transfers;
 mod unit;
 
 pub use blocks::{StartError, StartFault, Work};
-pub use laws::unit_laws;
+pub use laws::{pending_laws, unit_laws};
 pub use progress::{Progress, Want};
 pub use reading::HomeSectors;
 pub use retiring::Retiring;

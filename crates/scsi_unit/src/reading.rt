@@ -32,8 +32,8 @@ impl<M: Medium> Unit<M> {
     }
 }
 
-// What a READ of some blocks moves.
-fn read_of(command: Command) -> Option<Transfer>
+/// What a READ of some blocks moves.
+pub(crate) fn read_of(command: Command) -> Option<Transfer>
     ensures { result ≡ read_of (Ok command) }
 {
     match command {

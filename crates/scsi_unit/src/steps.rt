@@ -6,7 +6,8 @@ ghost use Rattle.scsi_unit.specs.Asking.{CanTransfer};
 ghost use Rattle.scsi_unit.specs.UnitValue.{answer_of};
 ghost use Rattle.scsi_unit.specs.Performing.{settled_kept};
 ghost use Rattle.scsi_unit.specs.Pending.{CanWant, GoOnPost, transfer_of, IsHadAtOnce};
-ghost use Rattle.scsi_unit.specs.Pending.{kept_after, cache_after, progress_after, progress_accepted};
+ghost use Rattle.scsi_unit.specs.Pending.{kept_after, cache_after, progress_after};
+ghost use Rattle.scsi_unit.specs.Pending.{progress_accepted};
 ghost use Rattle.scsi_unit.specs.declared.progress.Progress.TheVariants.{Done};
 ghost use Rattle.scsi_unit.specs.declared.progress.Want.TheVariants as want;
 
