@@ -52,6 +52,10 @@ pub(crate) fn needs_medium(command: &Command) -> bool
 
 impl<M: Medium> Unit<M> {
     /// The command of a command block, or the sense with which it is refused.
+    ///
+    /// # Errors
+    ///
+    /// The sense of the first check that the block does not pass. It is not kept.
     #[tactic(auto, unfolding(scsi::specs::Rules::command_by))]
     pub fn command(&self, block: &[u8]) -> Result<Command, Sense>
         ensures value { result ≡ command_for self.now block.now }
