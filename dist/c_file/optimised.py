@@ -76,8 +76,8 @@ def apart(line, names):
 
 
 def plain(text):
-    """The text of a module without promises, its names without quotes."""
-    text, known = re.sub(r" ; (?:preds = .*|No predecessors!)$", "", text, flags=re.M), {}
+    """The text of a module without promises, its names without quotes. (What is called is looked up where it is called: `outside`.)"""
+    text, known = re.sub(r" ; (?:preds = .*|No predecessors!)$|^(?:declare|attributes) .*$", "", text, flags=re.M), {}
     text = re.sub(r'%(?:"[^"]*"|[\w.]+-[\w.-]+)', lambda it: known.setdefault(it[0], f"%q{len(known)}"), text)
     text = re.sub(r'^(?:"[^"]*"|[\w.]+-[\w.-]+)(?=: *$)', lambda it: known.setdefault(f"%{it[0]}", f"%q{len(known)}")[1:], text, flags=re.M)
     names = itertools.count()
