@@ -21,6 +21,10 @@ LIMIT, AT_ONCE = 120, 10
 # Builds a library that is loaded before a program, from its source, by the toolchain's own compiler.
 LIBRARY = '. "$1/checks/common"; build_library "$2" "$1/checks/$3"'
 
+# The word by which a check tries what was built without a proof, and what it says first then.
+UNPROVED = "--unproved"
+NOTHING_PROVED = "*** NOTHING IS PROVED: what is tried here was built WITHOUT A PROOF. ***"
+
 # How a program ended: its exit status, and what it wrote to its two streams.
 Ran = collections.namedtuple("Ran", "status out err")
 # The same, and the bytes of the image file behind it.
@@ -131,11 +135,36 @@ def run(words, **how):
     return Ran(status, contents("out") if asked.out == "out" else b"", contents("err"))
 
 
+def is_unproved():
+    return UNPROVED in sys.argv[1:]
+
+
+def words_given():
+    """The words of the check, but for the one by which it tries what has no proof."""
+    return [it for it in sys.argv[1:] if it != UNPROVED]
+
+
 def built(name):
-    """A program, which is proved and built where it is not there or not of this text. A proof takes as long as it takes: this alone has no
-    limit."""
+    """A program, which is proved and built where it is not there or not of this text; or one that is built without a proof, and is told to be. A proof
+    takes as long as it takes: this alone has no limit."""
+    if is_unproved():
+        print(NOTHING_PROVED, flush=True)
+        words = [f"{ROOT}/scripts/unproved_program", "--only-build", name]
+        return subprocess.run(words, check=True, stdout=subprocess.PIPE, text=True).stdout.strip()
     subprocess.run([f"{ROOT}/scripts/proved_program", "--only-build", name], check=True, stdout=sys.stderr)
     return f"{ROOT}/crates/{name}/out/{name}"
+
+
+def builds(name):
+    """A program as each compiler builds it, with how that is called. Without a proof LLVM alone does, and Rattle's own where the gate left that."""
+    program = built(name)
+    yield program, "LLVM builds it"
+    if is_unproved():
+        return
+    if os.path.isfile(f"{program}.by-rattle"):
+        yield f"{program}.by-rattle", "Rattle builds it"
+    else:
+        print("what Rattle's own compiler builds is not here: the gate leaves it")
 
 
 def library(path, source):
