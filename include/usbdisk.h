@@ -27,7 +27,7 @@
  * with FUA or with the write cache off, a READ with FUA, a SYNCHRONIZE CACHE, a MODE SELECT while
  * the write cache is on) is handed out when the device has carried out all that waited. Until then
  * Bulk-In gives nothing at all: no halt, and not the answer to a command behind a class reset. With
- * no such status waiting, no answer waits for the device. docs/MAKERS.md tells what the device must
+ * no such status waiting, no answer waits for the device. docs/MAKERS.md says what the device must
  * promise.
  *
  * Link the program with libusbdisk_c.a, and define the two functions at the end of this file.
@@ -55,7 +55,7 @@ extern "C" {
 #endif
 
 /* The version, 1.13.0: two bytes hold the first number, and one byte each of the others. The
- * library tells its own. Where the two differ, header and library are not of one version. */
+ * library reports its own. Where the two differ, header and library are not of one version. */
 #define USBDISK_VERSION 0x010D00u
 
 uint32_t usbdisk_version(void);
@@ -163,7 +163,7 @@ uint64_t usbdisk_memory_to_format(uint32_t format, uint64_t slots);
  * slots. 0 where there is no such number of slots. */
 uint64_t usbdisk_memory_to_migrate(uint64_t slots);
 
-/* Who the disk is, as INQUIRY tells it: printable ASCII, padded with spaces, with no final 0. C++
+/* Who the disk is, as INQUIRY reports it: printable ASCII, padded with spaces, with no final 0. C++
  * takes no string literal of full length for such a field: usbdisk_identify fills it there too. */
 struct usbdisk_identity {
     char vendor[8];
@@ -274,7 +274,7 @@ uint32_t usbdisk_state(struct usbdisk *disk, uint32_t *fault);
 
 /* Bytes came to the Bulk-Out endpoint: a transfer of the host, or a part of one that ends where a
  * packet does. They are taken packet by packet, each as many bytes as a packet has, the last maybe
- * fewer; no bytes are one empty packet. `*taken` tells how many were taken, at NAK and STALL too.
+ * fewer; no bytes are one empty packet. `*taken` counts how many were taken, at NAK and STALL too.
  *
  * Answers ACK: all of them. NAK: the disk waits for its device (it starts, it reads, the packet is
  * a READ that lacks sectors, or it asks for writes: see below), or the host has not taken the
