@@ -5,6 +5,7 @@ import re
 from lib import sources
 
 WIDTH = 100
+LONG = 25
 CODE = re.compile(r" {4}")
 
 
@@ -34,13 +35,38 @@ def wide_code():
     return found
 
 
+def in_prose():
+    """The documents in which a bound on words holds. CHANGELOG.md grows with each version, and is left out. With its 4,322 words the documents of
+    commit 266acf9d had 61,536, the number by which the goal of 40,000 was set."""
+    return [it for it in documents() if it != "CHANGELOG.md"]
+
+
+def words_in_all():
+    return sum(words(it) for it in in_prose())
+
+
+def sentences_of(lines):
+    """The sentences of these lines of prose, as lists of words. An empty line ends one, and so does the next point of a list."""
+    text = "\n".join(re.sub(r"^ *(?:[-*]|\d+\.) +", "\n", line) for line in lines)
+    return [one.split() for part in re.split(r"\n\s*\n", text) for one in re.split(r"(?<=[.?!])[*\"')]*\s+", part)]
+
+
+def sentences(path):
+    """The sentences of a document of three words or more, those in the first cell of a table's row among them."""
+    rows = [it.split("|")[1] for it in sources.lines_of(path) if re.match(r"\| [^|]*\. \|", it)]
+    prose = [line for _, line in sources.prose(path)]
+    return [it for it in [*(one for row in rows for one in sentences_of([row])), *sentences_of(prose)] if len(it) > 2]
+
+
 def words_a_sentence(path):
-    """How many words a sentence of a document has in the mean, those in the first cell of a table's row among them."""
-    rows = [it.split("|")[1].strip() for it in sources.lines_of(path) if re.match(r"\| [^|]*\. \|", it)]
-    text = " ".join(line if line.strip() else "." for _, line in sources.prose(path))
-    sentences = [it.split() for it in [*rows, *re.split(r"(?<=[.?!])[*\"')]*\s+", text)]]
-    sizes = [len(it) for it in sentences if len(it) > 2]
+    """How many words a sentence of a document has in the mean."""
+    sizes = [len(it) for it in sentences(path)]
     return round(sum(sizes) / len(sizes), 1)
+
+
+def long_sentences():
+    """The sentences of more than 25 words."""
+    return [f"{path}: {len(it)} words: {' '.join(it[:8])} .." for path in in_prose() for it in sentences(path) if len(it) > LONG]
 
 
 # The places that tell the version. The library's number has a byte for each of the last two.

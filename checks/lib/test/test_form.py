@@ -1,9 +1,9 @@
-"""What checks/form counts in C, what it takes for a branch on the format, and which parameters it counts."""
+"""What checks/form counts in C, in names and in sentences, what it takes for a branch on the format, and which parameters it counts."""
 
 import unittest
 
 from lib import c_text
-from lib.form import borders, functions
+from lib.form import borders, documents, functions, names
 
 
 def lines(count, text):
@@ -71,3 +71,38 @@ class OnTheFormat(unittest.TestCase):
 
 if __name__ == "__main__":
     unittest.main()
+
+
+class OfNames(unittest.TestCase):
+    """Definitions that name no thing, and what a line declares."""
+
+    def test_words(self):
+        for name, words in (("IsToldAt", ["Is", "Told", "At"]), ("told_place", ["told", "place"]), ("USBDisk2", ["USB", "Disk2"]), ("next", ["next"])):
+            self.assertEqual(names.words_of(name), words)
+
+    def test_of_no_thing(self):
+        for name in ("SendsIn", "PlaysOut", "GoesOn", "Begins", "IsAt"):
+            self.assertTrue(names.names_no_thing(name, {"book"}), name)
+        for name in ("NextPost", "HasHeadroom", "Book", "BUSY", "begins", "IsReadAt"):
+            self.assertFalse(names.names_no_thing(name, {"book"}), name)
+
+    def test_declared(self):
+        spelled = {"pub told : Nat": "told", "  pub record Told (a : T)": "Told", "abbrev pub told_by (n : Nat)": "told_by", "    told : IsTrue": "told"}
+        for line, name in spelled.items():
+            found = names.DECLARES.match(line)
+            self.assertEqual(found[1] or found[2], name, line)
+        for line in ("use Rattle.a.specs.Told.{told}", "pub use Rattle.a.specs.Told.{told}", "-- told : T", "pub open told use *"):
+            self.assertIsNone(names.DECLARES.match(line), line)
+
+
+class OfSentences(unittest.TestCase):
+    """Where a sentence of a document ends."""
+
+    def test_ends(self):
+        for lines, sizes in (
+            (["One two", "three. Four five."], [3, 2]),
+            (["One two", "", "three four"], [2, 2]),
+            (["One:", "- two three", "- four. Five"], [1, 2, 1, 1]),
+            (["Is it? (It is.) So `a.b` stays."], [2, 2, 3]),
+        ):
+            self.assertEqual([len(it) for it in documents.sentences_of(lines)], sizes, lines)
