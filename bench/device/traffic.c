@@ -12,8 +12,8 @@
 enum { PAGE_BLOCKS = 8, PERCENT = 100 };
 
 static const struct device_costs devices[] = {
-    { "SD card, 40 and 20 MB/s", 100, 1000, 512 / 40.0, 512 / 20.0 },
-    { "eMMC, 150 and 80 MB/s", 40, 300, 512 / 150.0, 512 / 80.0 },
+    { "SD card", 100, 1000, 512 / 40.0, 512 / 20.0 },
+    { "eMMC", 40, 300, 512 / 150.0, 512 / 80.0 },
 };
 
 static const struct traffic traffics[] = {
