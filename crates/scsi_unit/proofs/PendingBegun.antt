@@ -72,7 +72,7 @@ module _ {M : Type 0} (m : State) (old : UnitValue M) where
         → (book : Book) → FitsPending m old command taken wanted book → book.ours ≡ true
         → LeavesOnly (FoundWith m.size book (write_of_command command taken)) m m
     cuts_before want.Room turn book f ours = without m.size book (write_of_command command taken) m m (turn.cuts book f ours)
-    cuts_before want.Commit turn book f ours = within_progress (write_of_command command taken) turn book f.fits ours
+    cuts_before want.Commit turn book f ours = within_progress (write_of_command command taken) m m book (turn.cuts _ f.fits) ours
     cuts_before want.Read turn book f ours = without m.size book (write_of_command command taken) m m (turn.cuts book f.fits ours)
 
     -- what a unit fits when a command begins
@@ -85,6 +85,15 @@ module _ {M : Type 0} (m : State) (old : UnitValue M) where
     fits_first want.Read first book f =
         let none = first_read command taken old.write_cache first in
         record { fits = f; written = λ promises. absurd (grind (arith, none, promises)) }
+
+-- what a unit waits for is what the command wants first
+had_by : {M : Type 0} (old : UnitValue M) (command other : Command) (wanted want : Want) → command ≡ other → Wants wanted ≡ Wants want
+    → IsHadAtOnce old other want → IsHadAtOnce old command wanted
+had_by old command other wanted want is same had = let two : wanted ≡ want = cc in rw (is, two) had
+
+wanted_by : (command other : Command) (wanted want : Want) (taken : List ℕ) (write_cache : Bool) → command ≡ other
+    → first_want command taken write_cache ≡ Some wanted → first_want other taken write_cache ≡ Some want → wanted ≡ want
+wanted_by command other wanted want taken write_cache is first some = let a = rw is at first in cc
 
 module _ {M : Type 0} {state : M → State} {Follows : M → M → Type 0} (old : UnitValue M) (itself : (m : M) → Follows m m)
     (sound : (m : M) → IsSound (state m)) where
@@ -110,6 +119,7 @@ module _ {M : Type 0} {state : M → State} {Follows : M → M → Type 0} (old 
         cuts = cuts_before m old command taken wanted (stays m old.store.cached (sound old.store.medium));
         fewer = λ same. absurd (let e = same in cc);
         at_once = λ had. unchanged m;
+        not_again = λ had same. absurd (let e = same in cc);
         makes = none_made_for m old command wanted;
         sends = grind (arith, nat_tests);
         keeps = keeps_all;
@@ -122,21 +132,23 @@ module _ {M : Type 0} {state : M → State} {Follows : M → M → Type 0} (old 
   refused_begins told sense taken out is = record {
     line = λ book f. refused_line (state old.store.medium) old told sense is taken book f;
     unchanged = unchanged (state old.store.medium);
+    at_once = λ command want some first had same. absurd (let e = same in cc);
     sends = refused_sends told sense (unit_limit old);
     keeps = keeps_all;
   }
 
-  -- one begins that wants something first
+  -- one begins that wants something first, which no call of the store alone gives
   pub wants_first : (command : Command) (wanted : Want) (taken out : List ℕ)
-      → first_want command taken old.write_cache ≡ Some wanted
+      → first_want command taken old.write_cache ≡ Some wanted → ¬ IsHadAtOnce old command wanted
       → BeginPost state Follows (Ok command) taken old (Wants wanted) out old
-  wants_first command wanted taken out first = record {
+  wants_first command wanted taken out first not = record {
     line = λ book f. record {
       stays = refl;
       fits = fits_first (state old.store.medium) old command taken wanted first book f;
       wanted = first_may wanted command taken old.write_cache first;
     };
     unchanged = unchanged (state old.store.medium);
+    at_once = λ other want is some had same. let one : command ≡ other = cc in not (had_by old command other wanted want one same had);
     sends = tt;
     keeps = keeps_all;
   }
@@ -149,6 +161,8 @@ module _ {M : Type 0} {state : M → State} {Follows : M → M → Type 0} (old 
   had_first command wanted taken out first had goes = record {
     line = λ book f. goes.line book (fits_first (state old.store.medium) old command taken wanted first book f);
     unchanged = goes.at_once had;
+    at_once = λ other want is some now same. let one : command ≡ other = cc in
+        let two = wanted_by command other wanted want taken old.write_cache one first some in goes.not_again had (rw two same);
     sends = goes.sends;
     keeps = goes.keeps;
   }
@@ -174,6 +188,7 @@ module _ {M : Type 0} {state : M → State} {Follows : M → M → Type 0} (old 
               found.2,
             );
         unchanged = rw same (unchanged (state old.store.medium));
+        at_once = λ other want is some had same. absurd (let e = same in cc);
         sends = sends;
         keeps = record {
           goes_on = rw same (stays (state old.store.medium) old.store.cached (sound old.store.medium)).goes_on;

@@ -73,6 +73,7 @@ module _ {M : Type 0} {state : M → State} {Follows : M → M → Type 0} (old 
         cuts = λ book f ours. rw (read_writes command taken can.wanted) (reads.turn.cuts book f.fits ours);
         fewer = λ same. absurd (let e = same in cc);
         at_once = λ had. absurd had;
+        not_again = λ had. absurd had;
         makes = record {
           calls = omega (arith, reads.calls, reads_few old.store.cached t.address t.count);
           sent = reads.sent;

@@ -1,5 +1,5 @@
 -- The steps of a command that is not over, from those of its store, as lines of the rules.
-use Rattle.std.proofs.Common.{◌≡◌, ◌⊎◌, ◌<◌, inl, inr, ℕ, Bool, true, false, List, [], ◌∷◌, Some, None, Option}
+use Rattle.std.proofs.Common.{◌≡◌, ◌≢◌, ◌⊎◌, ◌<◌, inl, inr, ℕ, Bool, true, false, List, [], ◌∷◌, Some, None, Option}
 use Rattle.std.proofs.Common.{Result, Ok, Err, arith, refl, sym, subst}
 use Rattle.std.proofs.{Common.length-append, lemmas.Bool.Decides.nat_tests}
 use Rattle.medium.specs.{Medium.State, Moments.{LeavesOnly, IsUnchanged}}
@@ -8,7 +8,7 @@ use Rattle.logical_blocks.specs.{Blocks.Write, Book.{Book, promised, with_write,
 use Rattle.scsi.specs.{Sense.Sense, Waiting.{Waiting, after_failure}, SenseCodes.write_error, declared.command.Command.Command}
 use Rattle.scsi.specs.Rules.{IsOutcome, MayFault, write_by, write_of_command, wants_writing, checked_for_fault, reads_blocks}
 use Rattle.blocks.specs.{Finding.{MayFind, Found, FoundWith}, Passing.PassesOn, Turns.{GoesOn, IsTurn}}
-use Rattle.blocks.specs.{StoreValue.{Cached, StoreValue, FitsBook, is_dead, steps_left}, declared.stage.Stage.Stage}
+use Rattle.blocks.specs.{StoreValue.{StoreValue, FitsBook, is_dead, steps_left}, declared.stage.Stage.Stage}
 use Rattle.blocks.specs.Stages.{WriteStepPost, CommitStepPost, is_failed}
 use Rattle.blocks.specs.declared.stage.Stage.TheVariants.{Waits, Accepted, Promised, Failed}
 use Rattle.scsi_unit.specs.{UnitValue.{UnitValue, state_of, unit_limit}, Serving.has_refused, Performing.settled_kept}
@@ -28,13 +28,12 @@ more_stamps refused book None may = may
 more_stamps refused book (Some w) may = grind (arith, may, length-append book.writes (w ∷ []))
 
 -- what may be found of a book with a write may be found with that in progress
-pub within_progress : (write : Option Write) {before after : State} {old new : Cached} → IsTurn before after old new
-    → (book : Book) → FitsBook before old (with_progress book write) → book.ours ≡ true
-    → LeavesOnly (FoundWith before.size book write) before after
-within_progress None turn book f ours = turn.cuts book f ours
-within_progress (Some w) {before} {after} turn book f ours =
-    weaker (MayFind before.size (with_write book w)) (Found before.size book w) before after (λ image found. inr found)
-    (turn.cuts (with_write book w) f ours)
+pub within_progress : (write : Option Write) (before after : State) (book : Book)
+    → ((with_progress book write).ours ≡ true → LeavesOnly (MayFind before.size (with_progress book write)) before after)
+    → book.ours ≡ true → LeavesOnly (FoundWith before.size book write) before after
+within_progress None before after book leaves ours = leaves ours
+within_progress (Some w) before after book leaves ours =
+    weaker (MayFind before.size (with_write book w)) (Found before.size book w) before after (λ image found. inr found) (leaves ours)
 
 -- a command that the unit carries out is told as before where it is not faulted
 served : (faulted : Bool) (command : Command) → faulted ≡ false → checked_for_fault faulted (Ok command) ≡ Ok command
@@ -84,14 +83,16 @@ module _ {M : Type 0} {state : M → State} {Follows : M → M → Type 0} (old 
       (state store.medium))
       → (progress ≡ Wants wanted → steps_left store.cached < steps_left old.store.cached)
       → (IsHadAtOnce old command wanted → IsUnchanged (state old.store.medium) (state store.medium))
+      → (IsHadAtOnce old command wanted → progress ≢ Wants wanted)
       → SendsWhenDone (Ok command) (unit_limit old) progress
       → GoOnPost state Follows command wanted taken old progress out
       (record old { store = store; kept = kept; write_cache = cache })
-  posts passes two sent none line cuts fewer at_once sends = record {
+  posts passes two sent none line cuts fewer at_once not_again sends = record {
     line = line;
     cuts = cuts;
     fewer = fewer;
     at_once = at_once;
+    not_again = not_again;
     makes = record {
       calls = rw two passes.calls;
       sent = rw sent passes.sent;
@@ -134,7 +135,8 @@ module _ {M : Type 0} {state : M → State} {Follows : M → M → Type 0} (old 
         fits = advanced.fits book f;
         wanted = can.wanted;
       })
-      cuts_room (λ same. advanced.fewer refl) quiet_room tt
+      cuts_room (λ same. advanced.fewer refl) quiet_room
+      (λ had. absurd (let a = (step.takes live had).0 in let b = is in cc)) tt
 
   -- the store died
   pub room_fails : stage ≡ Failed → (out : List ℕ)
@@ -154,7 +156,7 @@ module _ {M : Type 0} {state : M → State} {Follows : M → M → Type 0} (old 
         | inl none ↦ died book book cause (inl refl) none
         | inr all ↦ died book (with_write book (write_by (transfer_of command) taken)) cause (inr (rw write refl)) all
       ])
-      cuts_room (λ same. absurd (let e = same in cc)) quiet_room (grind (arith, nat_tests))
+      cuts_room (λ same. absurd (let e = same in cc)) quiet_room (λ had same. absurd (let e = same in cc)) (grind (arith, nat_tests))
 
   -- a batch has it, and it wants a commit
   pub room_commits : stage ≡ Accepted → goes_through (transfer_of command) old.write_cache ≡ true → (out : List ℕ)
@@ -168,7 +170,7 @@ module _ {M : Type 0} {state : M → State} {Follows : M → M → Type 0} (old 
         fits = record { fits = rw write (advanced.fits book f); live = λ is. advanced.life };
         wanted = grind (arith, commits, through);
       })
-      cuts_room (λ same. absurd (let e = same in cc)) quiet_room tt
+      cuts_room (λ same. absurd (let e = same in cc)) quiet_room (λ had same. absurd (let e = same in cc)) tt
 
   -- and it is over
   pub room_ends : stage ≡ Accepted → goes_through (transfer_of command) old.write_cache ≡ false → (out : List ℕ)
@@ -187,7 +189,7 @@ module _ {M : Type 0} {state : M → State} {Follows : M → M → Type 0} (old 
       (record old { store = store; kept = settled_kept (Ok []) old.kept }) book
       (with_write book (write_by (transfer_of command) taken)) (inl (grind (arith, nat_tests, limit, effect, some, plain, live, lives)))
       (advanced.fits book f))
-      cuts_room (λ same. absurd (let e = same in cc)) quiet_room
+      cuts_room (λ same. absurd (let e = same in cc)) quiet_room (λ had same. absurd (let e = same in cc))
       (record { sent = λ n is. absurd (write_moves command taken can.wanted n is); none = λ not. refl; most = omega arith })
 
   -- a step of a write promises nothing
@@ -217,7 +219,7 @@ module _ {M : Type 0} {state : M → State} {Follows : M → M → Type 0} (old 
   cuts_commit : (book : Book) → FitsCommit (state old.store.medium) old command taken book → book.ours ≡ true
       → LeavesOnly (FoundWith (state old.store.medium).size book (write_of_command command taken)) (state old.store.medium)
       (state store.medium)
-  cuts_commit book f ours = within_progress (write_of_command command taken) turn book f.fits ours
+  cuts_commit book f = within_progress (write_of_command command taken) _ _ book (turn.cuts _ f.fits)
 
   quiet_commit : IsHadAtOnce old command want.Commit → IsUnchanged (state old.store.medium) (state store.medium)
   quiet_commit written = (step.works.order.written written).1
@@ -238,7 +240,7 @@ module _ {M : Type 0} {state : M → State} {Follows : M → M → Type 0} (old 
         | inl written ↦ absurd (promised (step.promised.1 (live, written)))
         | inr few ↦ few
       ])
-      quiet_commit tt
+      quiet_commit (λ had. absurd (promised (step.promised.1 (live, had)))) tt
 
   -- the store died
   pub commit_fails : stage ≡ Failed → (out : List ℕ)
@@ -254,7 +256,7 @@ module _ {M : Type 0} {state : M → State} {Follows : M → M → Type 0} (old 
       (commit_wants command taken old.write_cache is) book next
       (may_fault (state old.store.medium) (state store.medium) old.store.cached next (turn.goes_on.cause live dead) f.fits)
       (inr refl) (turn.fits next f.fits))
-      cuts_commit (λ same. absurd (let e = same in cc)) quiet_commit (grind (arith, nat_tests))
+      cuts_commit (λ same. absurd (let e = same in cc)) quiet_commit (λ had same. absurd (let e = same in cc)) (grind (arith, nat_tests))
 
   -- all is promised, and the command is over
   pub commit_ends_it : stage ≡ Promised → reads_blocks command ≡ false → (out : List ℕ)
@@ -273,7 +275,7 @@ module _ {M : Type 0} {state : M → State} {Follows : M → M → Type 0} (old 
       over (state old.store.medium) (state store.medium) old store live command taken (Ok [])
       (record old { store = store; kept = kept; write_cache = cache }) book (promised next)
       (inl (grind (arith, limit, effect, live, lives))) (promises next f.fits))
-      cuts_commit (λ same. absurd (let e = same in cc)) quiet_commit
+      cuts_commit (λ same. absurd (let e = same in cc)) quiet_commit (λ had same. absurd (let e = same in cc))
       (record {
         sent = λ n sent. absurd (commit_moves command taken old.write_cache is plain n sent);
         none = λ not. refl;
@@ -296,4 +298,4 @@ module _ {M : Type 0} {state : M → State} {Follows : M → M → Type 0} (old 
         };
         wanted = reads;
       })
-      cuts_commit (λ same. absurd (let e = same in cc)) quiet_commit tt
+      cuts_commit (λ same. absurd (let e = same in cc)) quiet_commit (λ had same. absurd (let e = same in cc)) tt

@@ -1,6 +1,6 @@
 -- A command that is not over: what it may want, which books the unit fits meanwhile, and how it
 -- comes to its end.
-use Rattle.std.specs.Prelude.{⊤, ◌≡◌, ◌⊎◌, ◌<◌, ◌≤◌, ◌+◌, ℕ, Bool, true, false, List}
+use Rattle.std.specs.Prelude.{⊤, ◌≡◌, ◌≢◌, ◌⊎◌, ◌<◌, ◌≤◌, ◌+◌, ℕ, Bool, true, false, List}
 use Rattle.std.specs.Prelude.{◌||◌, not, length, Option, Some, None, Result, Ok, Err, if◌then◌else◌}
 use Rattle.medium.specs.{Medium.State, Moments.{LeavesOnly, IsUnchanged}, Sent.SendsUpTo}
 use Rattle.logical_blocks.specs.Book.{Book, with_progress}
@@ -199,13 +199,16 @@ pub record GoOnPost {M : Type 0} (state : M → State) (Follows : M → M → Ty
       (state old.store.medium) (state new.store.medium)
   -- where it wants the same again, fewer steps are left
   pub fewer : progress ≡ Wants want → steps_left new.store.cached < steps_left old.store.cached
+  -- what can be had by no call is had so, and is not wanted again
   pub at_once : IsHadAtOnce old command want
       → IsUnchanged (state old.store.medium) (state new.store.medium)
+  pub not_again : IsHadAtOnce old command want → progress ≢ Wants want
   pub makes : StepCalls (state old.store.medium) (state new.store.medium) command want old
   pub sends : SendsWhenDone (Ok command) (unit_limit old) progress
   pub keeps : StepKeeps state Follows old new
 
--- A command that was parsed, or its refusal, begins: by no call of the medium.
+-- A command that was parsed, or its refusal, begins: by no call of the medium. It waits for nothing
+-- that it can have so.
 pub record BeginPost {M : Type 0} (state : M → State) (Follows : M → M → Type 0)
     (told : Result Command Sense) (taken : List ℕ) (old : UnitValue M) (progress : Progress)
     (out : List ℕ) (new : UnitValue M) : Type 0 where
@@ -213,6 +216,9 @@ pub record BeginPost {M : Type 0} (state : M → State) (Follows : M → M → T
       → HasProgressed (state old.store.medium) (state new.store.medium) told taken old
       progress out new book
   pub unchanged : IsUnchanged (state old.store.medium) (state new.store.medium)
+  pub at_once : (command : Command) (want : Want) → told ≡ Ok command
+      → first_want command taken old.write_cache ≡ Some want → IsHadAtOnce old command want
+      → progress ≢ Wants want
   pub sends : SendsWhenDone told (unit_limit old) progress
   pub keeps : StepKeeps state Follows old new
 
