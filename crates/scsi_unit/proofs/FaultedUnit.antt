@@ -1,6 +1,5 @@
 -- A unit that is told of a refusal of the device, and a faulted one.
-use Rattle.std.proofs.{Common.{◌≡◌, ℕ, Bool, true, false, List, arith}, lemmas.Bool.Decides.nat_tests}
-use Rattle.std.specs.Prelude.{◌&&◌, IfOk}
+use Rattle.std.{proofs.{Common.{◌≡◌, ℕ, Bool, true, false, List, arith}, lemmas.Bool.Decides.nat_tests}, specs.Prelude.{◌&&◌, IfOk}}
 use Rattle.blocks.specs.StoreValue.{is_dead}
 use Rattle.scsi.specs.Rules.{needs_medium, intention_by, command_by}
 use Rattle.scsi_unit.specs.{Serving.{command_for, wants_medium}, UnitValue.UnitValue, Faulting.{faulted_unit, IsSteady}}

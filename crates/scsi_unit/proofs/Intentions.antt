@@ -1,22 +1,19 @@
 -- A command moves what it intended to, and a write that it appends is one.
 use Rattle.std.proofs.Common.{◌≡◌, ◌≢◌, ◌<◌, ◌≤◌, ◌*◌, ◌+◌, ◌/◌, ℕ, zero, suc, Bool, List, [], length, take, drop, Some, None, Option}
-use Rattle.std.proofs.{Common.{Result, Err, refl, arith, length-append}, lemmas.Bool.Decides.nat_tests}
-use Rattle.std.proofs.{lemmas.List.{length-take, length-drop}, lemmas.List.Elements.{All-nil, All-cons}}
-use Rattle.std.specs.Prelude.{All, IfOk, min, unwrap_or}
+use Rattle.std.proofs.{Common.{Result, Err, refl, arith, length-append}, lemmas.{Bool.Decides.nat_tests, List.{length-take, length-drop}}}
+use Rattle.std.{proofs.lemmas.List.Elements.{All-nil, All-cons}, specs.Prelude.{All, IfOk, min, unwrap_or}}
 use Rattle.logical_blocks.specs.{Blocks.{Array, Write, IsWrite, chunks}, Book.{array_of, blocks_at}}
 use Rattle.scsi.specs.{Sense.Sense, FixedSense.fixed_sense, Identification.Identification, Inquiry.{inquiry_data, inquiry_size}}
 use Rattle.scsi.specs.Inquiry.{standard_data, supported_pages, unit_serial_number, device_identification, block_limits}
 use Rattle.scsi.specs.{ModePage.caching_page, Capacity.{capacity_10, capacity_16}, declared.command.{Command.Command, Transfer.Transfer}}
 use Rattle.scsi.specs.Rules.{Intention, sends, UnitState, checked, command_by, intention_by, moves, moves_after, effect_of, write_after}
 use Rattle.scsi.specs.Rules.{write_by, IsOutcome}
+use Rattle.scsi_commands.{proofs.RowLaws.supported, specs.Supported.{IsSupported, IsWithin}}
+use Rattle.scsi_unit.specs.{Laws.{IsSized, KeepsIntentions, WritesAreWrites}, UnitValue.{UnitValue, unit_limit}, Calls.SendsAsMeant}
+use Rattle.scsi_unit.specs.Calls.{SendsOver}
+use Rattle.blocks.{proofs.Limits.limit_least, specs.StoreValue.{StoreValue, layout_of}}
 use Rattle.scsi.specs.declared.command.Command.TheVariants as command
 use Rattle.scsi.specs.declared.intent.Intent.TheVariants as intent
-use Rattle.scsi_commands.specs.Supported.{IsSupported, IsWithin}
-use Rattle.scsi_commands.proofs.RowLaws.{supported}
-use Rattle.scsi_unit.specs.{Laws.{IsSized, KeepsIntentions, WritesAreWrites}, UnitValue.{UnitValue, unit_limit}}
-use Rattle.scsi_unit.specs.Calls.{SendsAsMeant, SendsOver}
-use Rattle.blocks.specs.StoreValue.{StoreValue, layout_of}
-use Rattle.blocks.proofs.Limits.{limit_least}
 
 -- ---- how many bytes are moved
 

@@ -1,15 +1,13 @@
 -- What comes of a command, by the way that it went.
 use Rattle.std.proofs.Common.{◌≡◌, ◌⊎◌, inl, ℕ, Bool, true, false, List, [], ◌∷◌, ◌++◌, length, Some, None, Option, Result, Ok, Err, refl}
-use Rattle.std.proofs.{Common.arith, lemmas.Bool.Decides.nat_tests}
-use Rattle.std.specs.Prelude.{if◌then◌else◌, ◌&&◌, IfOk}
+use Rattle.std.{proofs.{Common.arith, lemmas.Bool.Decides.nat_tests}, specs.Prelude.{if◌then◌else◌, ◌&&◌, IfOk}}
 use Rattle.logical_blocks.specs.{Blocks.Write, Book.{Book, StampsOut, with_progress}}
 use Rattle.scsi.specs.{Sense.Sense, declared.command.Command.Command, Rules.{Ticks, intention, intention_by, command_by, UnitState}}
 use Rattle.scsi.specs.Rules.{fails_with, effect_of, checked, write_after, write_of_command, IsOutcome, needs_medium, reads_blocks}
 use Rattle.scsi.specs.Rules.{wants_writing}
-use Rattle.scsi_unit.specs.Laws.{IsFunction, IsSameLife, KeepsLimit, KeepsWrites, StaysFaulted, TicksOnly, is_promising}
-use Rattle.scsi_unit.specs.Promising.{promises, promises_for}
+use Rattle.scsi_unit.{proofs.FaultedUnit.passed, specs.Laws.{IsFunction, IsSameLife, KeepsLimit, KeepsWrites, StaysFaulted, TicksOnly}}
+use Rattle.scsi_unit.specs.{Laws.is_promising, Promising.{promises, promises_for}}
 use Rattle.scsi.specs.declared.intent.Intent.TheVariants as intent
-use Rattle.scsi_unit.proofs.FaultedUnit.{passed}
 
 -- the writes of a book are those of before, or have one more
 abbrev pub IsAppended : Option Write → Book → Book → Type 0

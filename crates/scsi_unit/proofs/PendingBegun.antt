@@ -1,25 +1,19 @@
 -- How a command begins, and how it ends on a unit that is faulted.
 use Rattle.std.proofs.Common.{◌≡◌, inl, inr, ℕ, Bool, true, false, List, Some, None, Ok, Err, Result, arith, refl, sym, subst}
-use Rattle.std.proofs.lemmas.Bool.{Decides.nat_tests, cases_Bool}
-use Rattle.std.specs.Prelude.{◌&&◌}
-use Rattle.medium.specs.{Medium.{State, IsSound}, Moments.LeavesOnly}
-use Rattle.medium.proofs.{Moments.unchanged, SectorsRead.no_looks}
+use Rattle.std.{proofs.lemmas.Bool.{Decides.nat_tests, cases_Bool}, specs.Prelude.◌&&◌}
+use Rattle.medium.{proofs.{Moments.unchanged, SectorsRead.no_looks}, specs.{Medium.{State, IsSound}, Moments.LeavesOnly}}
 use Rattle.logical_blocks.specs.Book.{Book}
 use Rattle.scsi.specs.{Sense.Sense, SenseCodes.internal_target_failure, Waiting.after_failure, declared.command.Command.Command}
 use Rattle.scsi.specs.Rules.{IsOutcome, checked_for_fault, needs_medium, write_of_command, moves}
-use Rattle.blocks.specs.{Finding.FoundWith, Turns.IsTurn, StoreValue.{FitsBook, is_dead}}
-use Rattle.blocks.proofs.{TurnsJoined.stays, StoreRuns.comes_itself, StageSteps.without}
-use Rattle.scsi_unit.specs.{UnitValue.{UnitValue, state_of, answer_of, unit_limit}, Serving.has_refused}
-use Rattle.scsi_unit.specs.Performing.{Performs, Spares, settled_kept}
-use Rattle.scsi_unit.specs.Pending.{FitsPending, HasEnded, GoOnPost, BeginPost, StepCalls, StepKeeps, may_want}
-use Rattle.scsi_unit.specs.Pending.{first_want, writes_blocks}
-use Rattle.scsi_unit.specs.Pending.{read_for, SendsWhenDone, IsHadAtOnce}
-use Rattle.scsi_unit.specs.Reading.{ReadsBackOr, first_home_of, home_sectors_of}
-use Rattle.scsi_unit.specs.{Calls.SendsAsMeant, declared.progress.{Progress.Progress, Want.Want}}
-use Rattle.scsi_unit.specs.declared.progress.Progress.TheVariants.{Done, Wants}
+use Rattle.blocks.{proofs.{TurnsJoined.stays, StoreRuns.comes_itself, StageSteps.without}, specs.{Finding.FoundWith, Turns.IsTurn}}
+use Rattle.blocks.specs.StoreValue.{FitsBook, is_dead}
+use Rattle.scsi_unit.proofs.{PendingSteps.within_progress, WantedCommands.{wants_need, write_none, first_may, first_none, first_commit}}
+use Rattle.scsi_unit.{proofs.WantedCommands.first_read, specs.{UnitValue.{UnitValue, state_of, answer_of, unit_limit}, Serving.has_refused}}
+use Rattle.scsi_unit.specs.{Performing.{Performs, Spares, settled_kept}, Pending.{FitsPending, HasEnded, GoOnPost, BeginPost, StepCalls}}
+use Rattle.scsi_unit.specs.Pending.{StepKeeps, may_want, first_want, writes_blocks, read_for, SendsWhenDone, IsHadAtOnce}
+use Rattle.scsi_unit.specs.{Reading.{ReadsBackOr, first_home_of, home_sectors_of}, Calls.SendsAsMeant, declared.progress.Progress.Progress}
+use Rattle.scsi_unit.specs.declared.progress.{Want.Want, Progress.TheVariants.{Done, Wants}}
 use Rattle.scsi_unit.specs.declared.progress.Want.TheVariants as want
-use Rattle.scsi_unit.proofs.PendingSteps.{within_progress}
-use Rattle.scsi_unit.proofs.WantedCommands.{wants_need, write_none, first_may, first_none, first_commit, first_read}
 
 -- a command that is refused sends nothing
 refused_sends : (told : Result Command Sense) (sense : Sense) (limit : ℕ) → SendsWhenDone told limit (Done (Err sense))
@@ -86,15 +80,6 @@ module _ {M : Type 0} (m : State) (old : UnitValue M) where
         let none = first_read command taken old.write_cache first in
         record { fits = f; written = λ promises. absurd (grind (arith, none, promises)) }
 
--- what a unit waits for is what the command wants first
-had_by : {M : Type 0} (old : UnitValue M) (command other : Command) (wanted want : Want) → command ≡ other → Wants wanted ≡ Wants want
-    → IsHadAtOnce old other want → IsHadAtOnce old command wanted
-had_by old command other wanted want is same had = let two : wanted ≡ want = cc in rw (is, two) had
-
-wanted_by : (command other : Command) (wanted want : Want) (taken : List ℕ) (write_cache : Bool) → command ≡ other
-    → first_want command taken write_cache ≡ Some wanted → first_want other taken write_cache ≡ Some want → wanted ≡ want
-wanted_by command other wanted want taken write_cache is first some = let a = rw is at first in cc
-
 module _ {M : Type 0} {state : M → State} {Follows : M → M → Type 0} (old : UnitValue M) (itself : (m : M) → Follows m m)
     (sound : (m : M) → IsSound (state m)) where
   keeps_all : {kept : _} → StepKeeps state Follows old (record old { kept = kept })
@@ -148,7 +133,7 @@ module _ {M : Type 0} {state : M → State} {Follows : M → M → Type 0} (old 
       wanted = first_may wanted command taken old.write_cache first;
     };
     unchanged = unchanged (state old.store.medium);
-    at_once = λ other want is some had same. let one : command ≡ other = cc in not (had_by old command other wanted want one same had);
+    at_once = λ other want is some had same. let one : command ≡ other = cc in let two : wanted ≡ want = cc in not (rw (one, two) had);
     sends = tt;
     keeps = keeps_all;
   }
@@ -161,8 +146,7 @@ module _ {M : Type 0} {state : M → State} {Follows : M → M → Type 0} (old 
   had_first command wanted taken out first had goes = record {
     line = λ book f. goes.line book (fits_first (state old.store.medium) old command taken wanted first book f);
     unchanged = goes.at_once had;
-    at_once = λ other want is some now same. let one : command ≡ other = cc in
-        let two = wanted_by command other wanted want taken old.write_cache one first some in goes.not_again had (rw two same);
+    at_once = λ other want is some now same. let one : command ≡ other = cc in let by = rw one at first in goes.not_again had (cc);
     sends = goes.sends;
     keeps = goes.keeps;
   }

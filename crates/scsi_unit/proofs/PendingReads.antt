@@ -1,18 +1,17 @@
 -- The blocks of a READ, as a line of the rules.
-use Rattle.std.proofs.Common.{◌≡◌, inl, inr, ℕ, false, List, Ok, Err, Result, arith, refl, ◌*◌}
-use Rattle.std.proofs.lemmas.Bool.{Decides.nat_tests, cases_Bool}
-use Rattle.medium.specs.{Medium.State}
-use Rattle.medium.proofs.SectorsRead.{looks_wider}
+use Rattle.std.proofs.{Common.{◌≡◌, inl, inr, ℕ, false, List, Ok, Err, Result, arith, refl, ◌*◌}, lemmas.Bool.Decides.nat_tests}
+use Rattle.std.proofs.lemmas.Bool.{cases_Bool}
+use Rattle.medium.{proofs.SectorsRead.looks_wider, specs.Medium.State}
 use Rattle.logical_blocks.specs.Book.{Book, promised}
 use Rattle.scsi.specs.{Sense.Sense, declared.command.Command.Command}
-use Rattle.blocks.specs.{Looks.IsReadFor, Running.ComesBy, StoreValue.{StoreValue, is_dead}}
-use Rattle.blocks.proofs.{BookTurns.settles, EmptyBatches.both_empty, ReadCalls.reads_few}
-use Rattle.scsi_unit.specs.{UnitValue.{UnitValue, state_of, answer_of, unit_limit}, Performing.settled_kept}
-use Rattle.scsi_unit.specs.{StoreCalls.ReadsBlocks, Pending.{FitsRead, HasEnded, GoOnPost, CanWant, commits, transfer_of}}
+use Rattle.blocks.{proofs.{BookTurns.settles, EmptyBatches.both_empty, ReadCalls.reads_few}, specs.{Looks.IsReadFor, Running.ComesBy}}
+use Rattle.blocks.specs.StoreValue.{StoreValue, is_dead}
+use Rattle.scsi_unit.proofs.{UnitTurns.{refused_so, limit_stays}, Intentions.meant_to_send, PendingSteps.over, WantedCommands.read_effect}
+use Rattle.scsi_unit.proofs.WantedCommands.{read_writes, read_some, read_within, read_moves, read_commits, read_is}
+use Rattle.scsi_unit.specs.{UnitValue.{UnitValue, state_of, answer_of, unit_limit}, Performing.settled_kept, StoreCalls.ReadsBlocks}
+use Rattle.scsi_unit.specs.Pending.{FitsRead, HasEnded, GoOnPost, CanWant, commits, transfer_of}
 use Rattle.scsi_unit.specs.declared.progress.Progress.TheVariants.{Done}
 use Rattle.scsi_unit.specs.declared.progress.Want.TheVariants as want
-use Rattle.scsi_unit.proofs.{UnitTurns.{refused_so, limit_stays}, Intentions.meant_to_send, PendingSteps.over}
-use Rattle.scsi_unit.proofs.WantedCommands.{read_effect, read_writes, read_some, read_within, read_moves, read_commits, read_is}
 
 -- the unit over this store, behind an answer
 abbrev answered : {M : Type 0} → UnitValue M → StoreValue M → List ℕ → Result ℕ Sense → UnitValue M

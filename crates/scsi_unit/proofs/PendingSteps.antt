@@ -1,26 +1,21 @@
 -- The steps of a command that is not over, from those of its store, as lines of the rules.
-use Rattle.std.proofs.Common.{◌≡◌, ◌≢◌, ◌⊎◌, ◌<◌, inl, inr, ℕ, Bool, true, false, List, [], ◌∷◌, Some, None, Option}
-use Rattle.std.proofs.Common.{Result, Ok, Err, arith, refl, sym, subst}
-use Rattle.std.proofs.{Common.length-append, lemmas.Bool.Decides.nat_tests}
-use Rattle.medium.specs.{Medium.State, Moments.{LeavesOnly, IsUnchanged}}
-use Rattle.medium.proofs.Moments.{weaker, unchanged}
+use Rattle.std.proofs.Common.{◌≡◌, ◌≢◌, ◌⊎◌, ◌<◌, inl, inr, ℕ, Bool, true, false, List, [], ◌∷◌, Some, None, Option, Result, Ok, Err, arith}
+use Rattle.std.proofs.{Common.{refl, sym, subst, length-append}, lemmas.Bool.Decides.nat_tests}
+use Rattle.medium.{proofs.Moments.{weaker, unchanged}, specs.{Medium.State, Moments.{LeavesOnly, IsUnchanged}}}
 use Rattle.logical_blocks.specs.{Blocks.Write, Book.{Book, promised, with_write, with_progress}}
 use Rattle.scsi.specs.{Sense.Sense, Waiting.{Waiting, after_failure}, SenseCodes.write_error, declared.command.Command.Command}
 use Rattle.scsi.specs.Rules.{IsOutcome, MayFault, write_by, write_of_command, wants_writing, checked_for_fault, reads_blocks}
-use Rattle.blocks.specs.{Finding.{MayFind, Found, FoundWith}, Passing.PassesOn, Turns.{GoesOn, IsTurn}}
-use Rattle.blocks.specs.{StoreValue.{StoreValue, FitsBook, is_dead, steps_left}, declared.stage.Stage.Stage}
-use Rattle.blocks.specs.Stages.{WriteStepPost, CommitStepPost, is_failed}
+use Rattle.blocks.specs.{Finding.{MayFind, Found, FoundWith}, Passing.PassesOn, Turns.{GoesOn, IsTurn}, StoreValue.{StoreValue, FitsBook}}
+use Rattle.blocks.specs.{StoreValue.{is_dead, steps_left}, declared.stage.Stage.Stage, Stages.{WriteStepPost, CommitStepPost}}
 use Rattle.blocks.specs.declared.stage.Stage.TheVariants.{Waits, Accepted, Promised, Failed}
-use Rattle.scsi_unit.specs.{UnitValue.{UnitValue, state_of, unit_limit}, Serving.has_refused, Performing.settled_kept}
-use Rattle.scsi_unit.specs.Pending.{FitsCommit, FitsPending, HasEnded, HasProgressed, GoOnPost, CanWant}
-use Rattle.scsi_unit.specs.Pending.{commits, transfer_of, calls_for, sends_for, read_for, IsHadAtOnce, SendsWhenDone, goes_through}
-use Rattle.scsi_unit.specs.Pending.{cache_after}
-use Rattle.scsi_unit.specs.declared.progress.{Progress.Progress, Want.Want}
-use Rattle.scsi_unit.specs.declared.progress.Progress.TheVariants.{Done, Wants}
+use Rattle.scsi_unit.proofs.{UnitTurns.{may_fault, limit_stays}, CommandCalls.log_looked, PerformedCommands.faults}
+use Rattle.scsi_unit.proofs.WantedCommands.{write_effect, write_is, write_wants, write_commits, write_some, write_moves, commit_wants}
+use Rattle.scsi_unit.{proofs.WantedCommands.{commit_effect, commit_moves, read_writes}, specs.UnitValue.{UnitValue, state_of, unit_limit}}
+use Rattle.scsi_unit.specs.{Serving.has_refused, Performing.settled_kept, Pending.{FitsCommit, FitsPending, HasEnded, HasProgressed}}
+use Rattle.scsi_unit.specs.Pending.{GoOnPost, CanWant, commits, transfer_of, calls_for, sends_for, read_for, IsHadAtOnce, SendsWhenDone}
+use Rattle.scsi_unit.specs.{Pending.{goes_through, cache_after}, declared.progress.{Progress.{Progress, TheVariants.Done}, Want.Want}}
+use Rattle.scsi_unit.specs.declared.progress.Progress.TheVariants.{Wants}
 use Rattle.scsi_unit.specs.declared.progress.Want.TheVariants as want
-use Rattle.scsi_unit.proofs.{UnitTurns.{may_fault, limit_stays}, CommandCalls.log_looked, PerformedCommands.{faults}}
-use Rattle.scsi_unit.proofs.WantedCommands.{write_effect, write_is, write_wants, write_commits, write_some, write_moves}
-use Rattle.scsi_unit.proofs.WantedCommands.{commit_wants, commit_effect, commit_moves, read_writes}
 
 -- a write that is accepted leaves no more stamps
 more_stamps : (refused : Bool) (book : Book) (write : Option Write) → MayFault refused book → MayFault refused (with_progress book write)
@@ -200,13 +195,6 @@ module _ {M : Type 0} {state : M → State} {Follows : M → M → Type 0} (old 
 
 -- ---- a commit is wanted
 
--- the store is live at each stage but one
-lives_at : (stage : Stage) {dead : Bool} → dead ≡ is_failed stage → ¬ (stage ≡ Failed) → dead ≡ false
-lives_at Waits life not = life
-lives_at Accepted life not = life
-lives_at Promised life not = life
-lives_at Failed life not = absurd (not refl)
-
 module _ {M : Type 0} {state : M → State} {Follows : M → M → Type 0} (old : UnitValue M) (store : StoreValue M) (command : Command)
     (taken : List ℕ) (live : is_dead old.store.cached ≡ false) (is : commits command taken old.write_cache ≡ true) (stage : Stage)
     (step : CommitStepPost state Follows stage old.store store) where
@@ -225,10 +213,12 @@ module _ {M : Type 0} {state : M → State} {Follows : M → M → Type 0} (old 
   quiet_commit written = (step.works.order.written written).1
 
   -- records are left to write
-  pub commit_waits : ¬ (stage ≡ Failed) → ¬ (stage ≡ Promised) → (out : List ℕ)
+  pub commit_waits : (stage ≡ Waits) ⊎ (stage ≡ Accepted) → (out : List ℕ)
       → GoOnPost state Follows command want.Commit taken old (Wants want.Commit) out (record old { store = store })
-  commit_waits failed promised out =
-      let lives : is_dead store.cached ≡ false = lives_at stage (step.advanced None).life failed in
+  commit_waits at out =
+      let life = (step.advanced None).life in
+      let lives : is_dead store.cached ≡ false = grind (arith, at, life) in
+      let promised : ¬ (stage ≡ Promised) = grind (arith, at) in
       posts old store old.kept old.write_cache command want.Commit taken out (Wants want.Commit) passes refl refl refl
       (λ book f. record {
         stays = stays_so (state old.store.medium) (state store.medium) old store live turn.goes_on lives book;

@@ -1,21 +1,17 @@
 -- Commands performed by a unit: what its store did, as a line of the rules.
 use Rattle.std.proofs.Common.{◌≡◌, ◌≢◌, ◌⊎◌, ◌≤◌, inl, inr, ℕ, Bool, true, false, List, [], ◌∷◌, Some, None, Result, Ok, Err, arith, refl}
-use Rattle.std.proofs.{Common.length-append, lemmas.Bool.Decides.nat_tests}
-use Rattle.std.specs.Prelude.{◌||◌, ◌&&◌, not, if◌then◌else◌, take}
-use Rattle.medium.specs.{Medium.{State, IsSound}, Moments.LeavesOnly}
-use Rattle.medium.proofs.Moments.{weaker, joined_same}
+use Rattle.std.{proofs.{Common.length-append, lemmas.Bool.Decides.nat_tests}, specs.Prelude.{◌||◌, ◌&&◌, not, if◌then◌else◌, take}}
+use Rattle.medium.{proofs.Moments.{weaker, joined_same}, specs.{Medium.{State, IsSound}, Moments.LeavesOnly}}
 use Rattle.logical_blocks.specs.Book.{Book, promised, with_write, with_progress}
 use Rattle.scsi.specs.{Sense.Sense, declared.command.{Command.Command, Transfer.Transfer, BlockRange.BlockRange}, Rules.effect_of}
 use Rattle.scsi.specs.Rules.{write_of_command, write_after, wants_writing, write_by, some_write, moves_blocks, MayFault, IsOutcome}
 use Rattle.scsi.specs.{Rules.{IsByTable, selected_by}, Capacity.capacity_10}
-use Rattle.blocks.specs.{Finding.{MayFind, Found, FoundWith}, StoreValue.{Cached, StoreValue, FitsBook, is_dead, layout_of, blocks_of}}
-use Rattle.blocks.specs.Turns.{IsTurn}
-use Rattle.blocks.proofs.TurnsJoined.{stays, turns}
-use Rattle.scsi.specs.declared.command.Command.TheVariants as command
-use Rattle.scsi_unit.specs.{UnitValue.{UnitValue, state_of, answer_of}, Serving.{has_refused, command_for, Serves}}
-use Rattle.scsi_unit.specs.Performing.{settled, silent, Performs, settled_kept}
+use Rattle.blocks.{proofs.TurnsJoined.{stays, turns}, specs.{Finding.{MayFind, Found, FoundWith}, StoreValue.{Cached, StoreValue}}}
+use Rattle.blocks.specs.{StoreValue.{FitsBook, is_dead, layout_of, blocks_of}, Turns.IsTurn}
+use Rattle.scsi_unit.{proofs.UnitTurns.{may_fault, refused_so, limit_stays}, specs.UnitValue.{UnitValue, state_of, answer_of}}
+use Rattle.scsi_unit.specs.{Serving.{has_refused, command_for, Serves}, Performing.{settled, silent, Performs, settled_kept}}
 use Rattle.scsi_unit.specs.StoreCalls.{TellsDeath, MakesDurable, ReadsBlocks, WritesBlocks}
-use Rattle.scsi_unit.proofs.UnitTurns.{may_fault, refused_so, limit_stays}
+use Rattle.scsi.specs.declared.command.Command.TheVariants as command
 
 -- what a unit answers behind a turn of its store, for each book
 abbrev Lines : {M : Type 0} → State → State → Result Command Sense → List ℕ → UnitValue M → Result (List ℕ) Sense → UnitValue M → Type 0

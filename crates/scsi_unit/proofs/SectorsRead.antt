@@ -1,9 +1,8 @@
 -- A command that is not about to send anything reads no blocks.
 use Rattle.std.proofs.{Common.{◌≡◌, ◌≢◌, ℕ, List, None, Result, arith}, lemmas.Bool.Decides.nat_tests}
 use Rattle.scsi.specs.{Sense.Sense, declared.command.Command.Command, Rules.{moves_after, intention_by}}
+use Rattle.scsi_unit.{proofs.Intentions.size_of, specs.{Reading.read_of, Serving.command_for, UnitValue.{UnitValue, intention_of}}}
 use Rattle.scsi.specs.declared.intent.Intent.TheVariants as intent
-use Rattle.scsi_unit.specs.{Reading.read_of, Serving.command_for, UnitValue.{UnitValue, intention_of}}
-use Rattle.scsi_unit.proofs.Intentions.{size_of}
 
 read_none : (told : Result Command Sense) → ((n : ℕ) → moves_after told ≢ intent.In n) → read_of told ≡ None
 read_none told never = grind (arith, nat_tests, never (size_of (moves_after told)))

@@ -1,10 +1,7 @@
 -- What a start leaves of a medium, and what a start tells that answers all at once.
-use Rattle.std.proofs.Common.{Result, arith}
-use Rattle.std.specs.Prelude.{IfOk, IfErr, MatchResult}
+use Rattle.std.{proofs.Common.{Result, arith}, specs.Prelude.{IfOk, IfErr, MatchResult}}
 use Rattle.medium.specs.Medium.{State, IsSound}
-use Rattle.blocks.specs.Started.{StartLeaves, LeavesMedium}
-use Rattle.blocks.proofs.ImageLimit.{start_keeps_limit}
-use Rattle.blocks.proofs.KnownImages.{each_ours, finds}
+use Rattle.blocks.{proofs.{ImageLimit.start_keeps_limit, KnownImages.{each_ours, finds}}, specs.Started.{StartLeaves, LeavesMedium}}
 use Rattle.scsi_unit.specs.Starting.{LeavesStarted}
 
 pub leaves_started : {M : Type 0} (state : M → State) (Follows : M → M → Type 0) (old new : M) → IsSound (state new)

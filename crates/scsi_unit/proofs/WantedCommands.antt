@@ -1,18 +1,15 @@
 -- What a command does and moves, by what it may want.
-use Rattle.std.{proofs.lemmas.List.{length-take}, specs.Prelude.{◌&&◌}}
-use Rattle.std.proofs.{Common.{◌≡◌, ◌≢◌, ◌≤◌, ◌*◌, ◌/◌, ◌+◌, take, ℕ, Bool, true, false, List, [], length}, lemmas.Bool.Decides.nat_tests}
-use Rattle.std.proofs.Common.{Some, None, Ok, arith}
+use Rattle.std.proofs.{lemmas.List.length-take, Common.{◌≡◌, ◌≢◌, ◌≤◌, ◌*◌, ◌/◌, ◌+◌, take, ℕ, Bool, true, false, List, [], length, Some}}
+use Rattle.std.{proofs.{Common.{None, Ok, arith}, lemmas.Bool.Decides.nat_tests}, specs.Prelude.◌&&◌}
 use Rattle.logical_blocks.specs.Book.{promised, with_progress}
 use Rattle.scsi.specs.{declared.command.{Command.Command, Transfer.Transfer}, Rules.{UnitState, effect_of, writes, reads, gives}}
 use Rattle.scsi.specs.Rules.{write_of_command, write_by, wants_writing, reads_blocks, needs_medium, moves, sends}
 use Rattle.scsi_commands.specs.Supported.{IsSupported, IsWithin}
+use Rattle.scsi_unit.specs.Pending.{transfer_of, writes_blocks, commits, goes_through, TakesAll, cache_after, progress_after, may_want}
+use Rattle.scsi_unit.specs.{Pending.first_want, Serving.wants_medium, declared.progress.Want.Want, Reading.read_of}
+use Rattle.scsi_unit.specs.declared.progress.Progress.TheVariants.{Done, Wants}
 use Rattle.scsi.specs.declared.command.Command.TheVariants as variant
 use Rattle.scsi.specs.declared.intent.Intent.TheVariants as intent
-use Rattle.scsi_unit.specs.Pending.{transfer_of, writes_blocks, commits, goes_through, TakesAll, cache_after, progress_after}
-use Rattle.scsi_unit.specs.Pending.{may_want, first_want}
-use Rattle.scsi_unit.specs.{Serving.wants_medium, declared.progress.Want.Want}
-use Rattle.scsi_unit.specs.Reading.{read_of}
-use Rattle.scsi_unit.specs.declared.progress.Progress.TheVariants.{Done, Wants}
 use Rattle.scsi_unit.specs.declared.progress.Want.TheVariants as want
 
 -- ---- a WRITE of some blocks
@@ -42,17 +39,11 @@ module _ (command : Command) (taken : List ℕ) (is : writes_blocks command ≡ 
   pub write_moves : (n : ℕ) → moves command ≢ intent.In n
   write_moves n = grind (arith, nat_tests)
 
-  pub write_needs : needs_medium command ≡ true
-  write_needs = grind (arith, nat_tests)
-
 -- ---- a command that promises
 
 module _ (command : Command) (taken : List ℕ) (write_cache : Bool) (is : commits command taken write_cache ≡ true) where
   pub commit_wants : wants_writing command taken write_cache ≡ true
   commit_wants = grind (arith, nat_tests)
-
-  pub commit_needs : needs_medium command ≡ true
-  commit_needs = grind (arith, nat_tests)
 
   -- one that is no READ is over with it
   pub commit_effect : reads_blocks command ≡ false → (unit : UnitState) → unit.write_cache ≡ write_cache
@@ -100,9 +91,6 @@ module _ (command : Command) (taken : List ℕ) (is : reads_blocks command ≡ t
   pub read_is : read_of (Ok command) ≡ Some (transfer_of command)
   read_is = grind (arith, nat_tests)
 
-  pub read_needs : needs_medium command ≡ true
-  read_needs = grind (arith, nat_tests)
-
 -- the bytes that are written are as many blocks as the transfer has
 pub whole : (count : ℕ) (taken : List ℕ) → 512 * count ≤ length taken → length (take (512 * count) taken) / 512 ≡ count
 whole count taken enough = omega (arith, enough, length-take (512 * count) taken)
@@ -116,9 +104,7 @@ plain_after command write_cache no_read no_other no_select = grind (arith, nat_t
 -- one that wants something needs the medium
 pub wants_need : (wanted : Want) (command : Command) (taken : List ℕ) (write_cache : Bool)
     → may_want wanted command taken write_cache ≡ true → needs_medium command ≡ true
-wants_need want.Room command taken write_cache is = write_needs command taken is
-wants_need want.Commit command taken write_cache is = commit_needs command taken write_cache is
-wants_need want.Read command taken write_cache is = read_needs command taken is
+wants_need wanted command taken write_cache is = grind (arith, nat_tests)
 
 -- a command that writes no blocks appends no write
 pub write_none : (command : Command) (taken : List ℕ) → writes_blocks command ≡ false → write_of_command command taken ≡ None

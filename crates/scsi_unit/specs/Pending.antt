@@ -1,23 +1,23 @@
 -- A command that is not over: what it may want, which books the unit fits meanwhile, and how it
 -- comes to its end.
-use Rattle.std.specs.Prelude.{⊤, ◌≡◌, ◌≢◌, ◌⊎◌, ◌<◌, ◌≤◌, ◌+◌, ℕ, Bool, true, false, List}
-use Rattle.std.specs.Prelude.{◌||◌, not, length, Option, Some, None, Result, Ok, Err, if◌then◌else◌}
-use Rattle.medium.specs.{Medium.State, Moments.{LeavesOnly, IsUnchanged}, Sent.SendsUpTo}
+use Rattle.std.specs.Prelude.{⊤, ◌≡◌, ◌≢◌, ◌⊎◌, ◌<◌, ◌≤◌, ◌+◌, ℕ, Bool, true, false, List, ◌||◌}
+use Rattle.std.specs.Prelude.{not, length, Option, Some, None, Result, Ok, Err, if◌then◌else◌}
+use Rattle.medium.specs.{Medium.State, Moments.{EachCut, LeavesOnly, IsUnchanged}, Sent.SendsUpTo}
 use Rattle.logical_blocks.specs.Book.{Book, with_progress}
 use Rattle.scsi.specs.{Sense.Sense, declared.command.Command.Command, Waiting.Waiting}
 use Rattle.scsi.specs.{declared.command.Transfer.Transfer, Rules.{forces_reading, moves_blocks}}
 use Rattle.scsi.specs.Rules.{reads_blocks, selected_by, clears, moves, write_of_command}
 use Rattle.scsi.specs.Rules.{checked_for_fault, IsOutcome, command_by, wants_writing}
-use Rattle.scsi.specs.SenseCodes.{write_error}
-use Rattle.blocks.specs.{Finding.FoundWith, Prepared.IsTakenAtOnce, Running.ComesBy}
-use Rattle.blocks.specs.{Turns.GoesOn, Written.IsWritten}
-use Rattle.blocks.specs.StoreValue.{blocks_of, is_dead, steps_left}
+use Rattle.scsi.specs.{Rules.{Ticks}, SenseCodes.write_error}
+use Rattle.blocks.specs.{Finding.FoundWith, Prepared.IsTakenAtOnce, Running.ComesBy, Turns.GoesOn}
+use Rattle.blocks.specs.{Written.IsWritten, declared.work.Work.Work, StoreValue.blocks_of}
+use Rattle.blocks.specs.StoreValue.{is_dead, steps_left}
 use Rattle.scsi_commands.specs.Supported.{IsSupported}
 use Rattle.scsi_unit.specs.UnitValue.{UnitValue, unit_limit, state_of, answer_of, FitsUnit}
-use Rattle.scsi_unit.specs.{Calls.SendsAsMeant, Promising.forces_writing}
-use Rattle.scsi_unit.specs.{Reading.{read_of, LooksToRead}, Serving.has_refused}
-use Rattle.scsi_unit.specs.declared.progress.{Progress.Progress, Want.Want}
-use Rattle.scsi_unit.specs.declared.progress.Progress.TheVariants.{Done, Wants}
+use Rattle.scsi_unit.specs.{Calls.SendsAsMeant, Promising.forces_writing, Reading.read_of}
+use Rattle.scsi_unit.specs.{Reading.LooksToRead, Serving.{has_refused, WorksUnit}}
+use Rattle.scsi_unit.specs.declared.progress.{Progress.{Progress, TheVariants.Done}, Want.Want}
+use Rattle.scsi_unit.specs.declared.progress.Progress.TheVariants.{Wants}
 use Rattle.scsi.specs.declared.command.Command.TheVariants as command
 use Rattle.scsi.specs.declared.intent.Intent.TheVariants as intent
 use Rattle.scsi_unit.specs.declared.progress.Want.TheVariants as want
@@ -279,3 +279,38 @@ IsParsedOnce = (blocks limit : ℕ) (attention before later : Bool) (block : Lis
     → (before ≡ true → later ≡ true)
     → command_by blocks limit attention later block
     ≡ checked_for_fault later (command_by blocks limit attention before block)
+
+-- ---- what comes while a command is pending
+
+-- a batch has the write of the command already
+abbrev pub has_write : Want → Command → Bool
+has_write want.Commit command = writes_blocks command
+has_write want command = false
+
+-- A step in the background: by the rules it did nothing, or faulted the unit, and the command is
+-- pending still. At each moment of it a loss of power leaves what may be found of the book, perhaps
+-- with the write of the command, whole.
+pub record PendingTicked {M : Type 0} (before after : State) (command : Command) (taken : List ℕ)
+    (want : Want) (book : Book) (old new : UnitValue M) : Type 0 where
+  pub line : Ticks (has_refused before after) (state_of old book) (state_of new book)
+  pub fits : FitsPending after new command taken want book
+  pub cuts : book.ours ≡ true
+      → LeavesOnly (FoundWith before.size book (write_of_command command taken)) before after
+
+-- Each does so, whatever it works towards. A store that has the write has to live: the rules have
+-- no line for a faulted unit whose command is yet to promise its write.
+abbrev pub TicksWhilePending : {M : Type 0} → (M → State) → (M → M → Type 0) → Type 0
+TicksWhilePending {M} state Follows = (work : Work) (old new : UnitValue M) (command : Command)
+    (taken : List ℕ) (wanted : Want) (book : Book) → WorksUnit work state Follows old new
+    → FitsPending (state old.store.medium) old command taken wanted book
+    → (has_write wanted command ≡ true → is_dead new.store.cached ≡ false)
+    → PendingTicked (state old.store.medium) (state new.store.medium) command taken wanted book
+    old new
+
+-- between two calls a loss of power leaves what may be found of the book, perhaps with the write
+abbrev pub FoundWhilePending : {M : Type 0} → (M → State) → Type 0
+FoundWhilePending {M} state = (unit : UnitValue M) (command : Command) (taken : List ℕ)
+    (wanted : Want) (book : Book)
+    → FitsPending (state unit.store.medium) unit command taken wanted book → book.ours ≡ true
+    → EachCut (FoundWith (state unit.store.medium).size book (write_of_command command taken))
+    (state unit.store.medium)

@@ -1,8 +1,12 @@
-use Rattle.scsi_unit.proofs.PendingLaws.{dropped, parsed_once}
+use Rattle.scsi_unit.proofs.PendingLaws.{dropped, parsed_once, found, ticked}
 use Rattle.scsi_unit.proofs.laws.pending_laws.Goals as goal
 
 pub returns : goal.returns
-returns g c = record {
-  dropped = λ unit. dropped (g.M.Medium.state unit.store.medium) unit;
-  parsed = parsed_once;
-}
+returns g c =
+    let state = g.M.Medium.state in record {
+      dropped = λ unit. dropped (state unit.store.medium) unit;
+      parsed = parsed_once;
+      ticks = λ work old new command taken wanted book works. ticked work (state old.store.medium) (state new.store.medium) old new
+          works.ticks command taken wanted book;
+      found = λ unit. found (state unit.store.medium) unit;
+    }

@@ -1,7 +1,6 @@
 use Rattle.std.proofs.{Common.{[], arith, inl, inr}, lemmas.Bool.cases_Bool}
-use Rattle.scsi_unit.specs.Pending.{goes_through, transfer_of}
-use Rattle.scsi_unit.proofs.PendingSteps.{room_waits, room_fails, room_ends, room_commits, room_promises}
-use Rattle.scsi_unit.proofs.WantedCommands.{write_taken, write_within, write_some}
+use Rattle.scsi_unit.proofs.{PendingSteps.{room_waits, room_fails, room_ends, room_commits, room_promises}, WantedCommands.write_taken}
+use Rattle.scsi_unit.{proofs.WantedCommands.{write_within, write_some}, specs.Pending.{goes_through, transfer_of}}
 use Rattle.scsi_unit.proofs.unit.Unit.accept.Goals as goal
 
 pub write_step-requires-clause-taken : goal.write_step-requires-clause-taken

@@ -1,5 +1,4 @@
-use Rattle.std.proofs.Common.{[], ◌≡◌, ◌∙◌, Ok, true, false, arith, sym}
-use Rattle.std.specs.Prelude.{◌&&◌}
+use Rattle.std.{proofs.Common.{[], ◌≡◌, ◌∙◌, Ok, true, false, arith, sym}, specs.Prelude.◌&&◌}
 use Rattle.scsi.specs.{Rules.needs_medium, SenseCodes.internal_target_failure}
 use Rattle.blocks.specs.StoreValue.{is_dead}
 use Rattle.scsi_unit.proofs.{PendingBegun.{refused_begins, refused_by, plain_begins}, WantedCommands.first_may}

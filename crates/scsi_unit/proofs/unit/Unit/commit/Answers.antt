@@ -7,16 +7,7 @@ use Rattle.scsi_unit.proofs.unit.Unit.commit.Goals as goal
 pub returns-in-Waits : goal.returns-in-Waits
 returns-in-Waits g c taken out can =
     commit_waits c.args.self.now c.commit_step.new.self c.args.command.now taken c.requires.live can.wanted c.commit_step.result
-    c.commit_step.ensures
-    (λ failed. elim c.in-Waits.is [
-      | inl is ↦ absurd (let a = is in let b = failed in cc)
-      | inr is ↦ absurd (let a = is in let b = failed in cc)
-    ])
-    (λ promised. elim c.in-Waits.is [
-      | inl is ↦ absurd (let a = is in let b = promised in cc)
-      | inr is ↦ absurd (let a = is in let b = promised in cc)
-    ])
-    out
+    c.commit_step.ensures c.in-Waits.is out
 
 pub returns-in-Failed : goal.returns-in-Failed
 returns-in-Failed g c taken out can =

@@ -1,7 +1,6 @@
 use Rattle.std.proofs.Common.{[], ◌≡◌, ◌*◌, true, arith}
 use Rattle.blocks.specs.StoreValue.{is_dead}
-use Rattle.scsi_unit.specs.Pending.{transfer_of}
-use Rattle.scsi_unit.proofs.{PendingBegun.faulted_ends, WantedCommands.read_in}
+use Rattle.scsi_unit.{proofs.{PendingBegun.faulted_ends, WantedCommands.read_in}, specs.Pending.transfer_of}
 use Rattle.scsi_unit.proofs.unit.Unit.go_on.Goals as goal
 
 pub returns-then-is_dead : goal.returns-then-is_dead

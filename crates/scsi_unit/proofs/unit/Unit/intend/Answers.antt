@@ -1,5 +1,4 @@
-use Rattle.blocks.specs.StoreValue.{layout_of, blocks_of}
-use Rattle.blocks.proofs.Limits.{limit_most}
+use Rattle.blocks.{proofs.Limits.limit_most, specs.StoreValue.{layout_of, blocks_of}}
 use Rattle.scsi_unit.specs.UnitValue.{unit_limit}
 use Rattle.scsi_unit.proofs.unit.Unit.intend.Goals as goal
 

@@ -1,9 +1,8 @@
-use Rattle.std.proofs.{Common.{inl, inr, Ok, refl, rules, arith}, lemmas.Bool.Decides.nat_tests}
-use Rattle.std.specs.Prelude.{min, unwrap_or, ◌*◌}
+use Rattle.std.{proofs.{Common.{inl, inr, Ok, refl, rules, arith}, lemmas.Bool.Decides.nat_tests}, specs.Prelude.{min, unwrap_or, ◌*◌}}
 use Rattle.scsi_unit.proofs.{PerformedCommands.{by_table, take-capacity_10}, Intentions.{meant_to_send, data_sent, inquiry_most}}
+use Rattle.scsi_unit.specs.UnitValue.{unit_limit}
 use Rattle.scsi.specs.{declared.command.BlockRange.BlockRange, Inquiry.inquiry_size}
 use Rattle.blocks.proofs.StoreRuns.{comes_itself}
-use Rattle.scsi_unit.specs.UnitValue.{unit_limit}
 use Rattle.scsi_unit.proofs.unit.Unit.perform.Goals as goal
 
 pub report-requires : goal.report-requires

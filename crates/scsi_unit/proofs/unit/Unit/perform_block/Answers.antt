@@ -1,8 +1,7 @@
 use Rattle.std.proofs.{Common.{sym, ◌∙◌, arith}, lemmas.Result.err_from_is_err_and}
-use Rattle.scsi_unit.proofs.{FaultedUnit.passed, PerformedCommands.refuses}
+use Rattle.scsi_unit.{proofs.{FaultedUnit.passed, PerformedCommands.refuses}, specs.UnitValue.unit_limit}
 use Rattle.scsi.specs.Rules.{intention_by}
 use Rattle.blocks.specs.StoreValue.{blocks_of, is_dead}
-use Rattle.scsi_unit.specs.UnitValue.{unit_limit}
 use Rattle.scsi_unit.proofs.unit.Unit.perform_block.Goals as goal
 
 pub returns-in_err-command-clause-performs : goal.returns-in_err-command-clause-performs

@@ -1,5 +1,4 @@
-use Rattle.std.proofs.Common.{arith}
-use Rattle.std.proofs.lemmas.Result.{MatchResult-weaker}
+use Rattle.std.proofs.{Common.arith, lemmas.Result.MatchResult-weaker}
 use Rattle.scsi_unit.proofs.unit.Unit.start.Goals as goal
 
 pub returns-clause-ok : goal.returns-clause-ok

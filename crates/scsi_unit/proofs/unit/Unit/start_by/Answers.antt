@@ -1,7 +1,5 @@
-use Rattle.std.proofs.Common.{refl}
-use Rattle.blocks.specs.StoreValue.{layout_of}
-use Rattle.std.proofs.lemmas.Result.{err_from_is_err_and}
-use Rattle.blocks.proofs.KnownImages.{is_cause_for}
+use Rattle.std.proofs.{Common.refl, lemmas.Result.err_from_is_err_and}
+use Rattle.blocks.{proofs.KnownImages.is_cause_for, specs.StoreValue.layout_of}
 use Rattle.scsi_unit.proofs.StartedUnit.{leaves_started}
 use Rattle.scsi_unit.proofs.unit.Unit.start_by.Goals as goal
 
