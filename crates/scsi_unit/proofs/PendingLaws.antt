@@ -1,15 +1,15 @@
 -- What ends a command from outside, what comes while it is pending, and that it is parsed once.
-use Rattle.std.proofs.Common.{◌≡◌, ℕ, Bool, true, false, List, Some, None, Option, Result, inl, inr, arith, refl, ap}
+use Rattle.std.proofs.Common.{◌≡◌, ◌∙◌, ℕ, Bool, true, false, List, Some, None, Option, Result, inl, inr, arith, refl, sym, ap}
 use Rattle.std.proofs.{lemmas.Bool.{cases_lt, cases_Bool}}
 use Rattle.medium.specs.{Medium.State, Moments.EachCut}
 use Rattle.logical_blocks.specs.{Blocks.Write, Book.{Book, with_write, with_progress}}
-use Rattle.scsi.specs.{Sense.Sense, declared.command.Command.Command, Rules.{command_by, checked_for_fault}}
+use Rattle.scsi.specs.{Sense.Sense, declared.command.Command.Command, Rules.{command_by, checked_for_fault, UnitState, Ticks}}
 use Rattle.scsi.specs.{Rules.write_of_command, Commands.command_of}
 use Rattle.blocks.{proofs.{TurnsJoined.exits, EmptyBatches.both_empty, StageSteps.without}, specs.{Finding.FoundWith, Work.IsWork}}
-use Rattle.blocks.specs.{Written.IsWritten, StoreValue.{Cached, FitsBook, is_dead}, declared.work.Work.Work}
-use Rattle.scsi_unit.{proofs.{PendingSteps.within_progress, WantedCommands.write_none}, specs.UnitValue.{UnitValue}}
-use Rattle.scsi_unit.specs.Pending.{HasDropped, FitsPending, IsParsedOnce, PendingTicked, has_write, writes_blocks}
-use Rattle.scsi_unit.specs.{Serving.{TicksOver}, declared.progress.Want.Want}
+use Rattle.blocks.specs.{Written.IsWritten, StoreValue.{Cached, FitsBook, is_dead, blocks_of}, declared.work.Work.Work}
+use Rattle.scsi_unit.{proofs.{PendingSteps.within_progress, WantedCommands.write_none}, specs.UnitValue.{UnitValue, state_of, unit_limit}}
+use Rattle.scsi_unit.specs.Pending.{HasDropped, FitsPending, IsParsedOnce, ParsedCommand, PendingTicked, has_write, writes_blocks}
+use Rattle.scsi_unit.specs.{Serving.{TicksOver, command_for}, declared.progress.Want.Want}
 use Rattle.scsi_unit.specs.declared.progress.Want.TheVariants as want
 
 pub dropped : {M : Type 0} (m : State) (unit : UnitValue M) (command : Command) (taken : List ℕ) (wanted : Want) (book : Book)
@@ -29,6 +29,20 @@ pub parsed_once : IsParsedOnce
 unfolding command_by
 parsed_once blocks limit attention before later block on =
     let twice = anew before later (command_of blocks limit block) on in grind (arith, twice)
+
+pub parsed_now : {M : Type 0} (m : State) (unit : UnitValue M) (block : List ℕ) (book : Book) → FitsBook m unit.store.cached book
+    → ParsedCommand (state_of unit book) block (command_for unit block)
+parsed_now m unit block book f =
+    let dead = is_dead unit.store.cached in
+    rw (← f.blocks) (parsed_once (blocks_of unit.store.cached) (unit_limit unit) unit.kept.attention dead dead block (λ is. is))
+
+pub parsed_still : (refused : Bool) (old new : UnitState) (block : List ℕ) (told : Result Command Sense) → Ticks refused old new
+    → ParsedCommand old block told → ParsedCommand new block told
+parsed_still refused old new block told (inl same) is = rw same is
+parsed_still refused old new block told (inr faulted) is =
+    rw faulted.after
+    (parsed_once old.book.blocks old.limit old.kept.attention old.faulted true block (λ was. refl)
+    ∙ ap (checked_for_fault true) is ∙ sym (anew old.faulted true told (λ was. refl)))
 
 -- ---- a loss of power between two calls
 

@@ -7,15 +7,15 @@ use Rattle.logical_blocks.specs.Book.{Book, with_progress}
 use Rattle.scsi.specs.{Sense.Sense, declared.command.Command.Command, Waiting.Waiting}
 use Rattle.scsi.specs.{declared.command.Transfer.Transfer, Rules.{forces_reading, moves_blocks}}
 use Rattle.scsi.specs.Rules.{reads_blocks, selected_by, clears, moves, write_of_command}
-use Rattle.scsi.specs.Rules.{checked_for_fault, IsOutcome, command_by, wants_writing}
-use Rattle.scsi.specs.{Rules.{Ticks}, SenseCodes.write_error}
+use Rattle.scsi.specs.Rules.{checked_for_fault, IsOutcome, command_by, wants_writing, UnitState}
+use Rattle.scsi.specs.{Rules.{Ticks, checked}, SenseCodes.write_error}
 use Rattle.blocks.specs.{Finding.FoundWith, Prepared.IsTakenAtOnce, Running.ComesBy, Turns.GoesOn}
 use Rattle.blocks.specs.{Written.IsWritten, declared.work.Work.Work, StoreValue.blocks_of}
 use Rattle.blocks.specs.StoreValue.{is_dead, steps_left}
 use Rattle.scsi_commands.specs.Supported.{IsSupported}
 use Rattle.scsi_unit.specs.UnitValue.{UnitValue, unit_limit, state_of, answer_of, FitsUnit}
 use Rattle.scsi_unit.specs.{Calls.SendsAsMeant, Promising.forces_writing, Reading.read_of}
-use Rattle.scsi_unit.specs.{Reading.LooksToRead, Serving.{has_refused, WorksUnit}}
+use Rattle.scsi_unit.specs.{Reading.LooksToRead, Serving.{has_refused, WorksUnit, command_for}}
 use Rattle.scsi_unit.specs.declared.progress.{Progress.{Progress, TheVariants.Done}, Want.Want}
 use Rattle.scsi_unit.specs.declared.progress.Progress.TheVariants.{Wants}
 use Rattle.scsi.specs.declared.command.Command.TheVariants as command
@@ -279,6 +279,18 @@ IsParsedOnce = (blocks limit : ℕ) (attention before later : Bool) (block : Lis
     → (before ≡ true → later ≡ true)
     → command_by blocks limit attention later block
     ≡ checked_for_fault later (command_by blocks limit attention before block)
+
+-- what was parsed of a block is its command still, with the check for a fault made anew
+abbrev pub ParsedCommand : UnitState → List ℕ → Result Command Sense → Type 0
+ParsedCommand unit block told = checked unit block ≡ checked_for_fault unit.faulted told
+
+-- It is so when the block is parsed, and behind each step in the background.
+pub record KeepsParsedCommand {M : Type 0} (state : M → State) : Type 0 where
+  pub parsed : (unit : UnitValue M) (block : List ℕ) (book : Book)
+      → FitsUnit (state unit.store.medium) unit book
+      → ParsedCommand (state_of unit book) block (command_for unit block)
+  pub ticked : (refused : Bool) (old new : UnitState) (block : List ℕ) (told : Result Command Sense)
+      → Ticks refused old new → ParsedCommand old block told → ParsedCommand new block told
 
 -- ---- what comes while a command is pending
 

@@ -1,6 +1,6 @@
 //! What follows from the rules of the logical unit.
 ghost use Rattle.scsi_unit.specs.Costs.{AreCostLaws};
-ghost use Rattle.scsi_unit.specs.Pending.{EachIsDropped, IsParsedOnce};
+ghost use Rattle.scsi_unit.specs.Pending.{EachIsDropped, IsParsedOnce, KeepsParsedCommand};
 ghost use Rattle.scsi_unit.specs.Pending.{TicksWhilePending, FoundWhilePending};
 ghost use Rattle.scsi_unit.specs.Laws.{AreCommandLaws, TicksOnly, KeepsLimit, KnowsImages};
 
@@ -22,6 +22,7 @@ pub fn unit_laws()
 pub fn pending_laws<M: Medium>()
     ensures dropped { EachIsDropped M.state }
     ensures parsed { IsParsedOnce }
+    ensures command { KeepsParsedCommand M.state }
     ensures ticks { TicksWhilePending M.state M.follows }
     ensures found { FoundWhilePending M.state }
 {}
