@@ -102,6 +102,7 @@ module _ {M : Type 0} {state : M → State} {Follows : M → M → Type 0} (old 
         line = λ book f. refused_line m old (Ok command) internal_target_failure
             (refused_by (is_dead old.store.cached) command dead needs) taken book (fits_before m old command taken wanted dead is book f);
         cuts = cuts_before m old command taken wanted (stays m old.store.cached (sound old.store.medium));
+        onward = refl;
         fewer = λ same. absurd (let e = same in cc);
         at_once = λ had. unchanged m;
         not_again = λ had same. absurd (let e = same in cc);

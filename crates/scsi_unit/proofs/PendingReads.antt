@@ -70,6 +70,7 @@ module _ {M : Type 0} {state : M → State} {Follows : M → M → Type 0} (old 
       record {
         line = line result reads;
         cuts = λ book f ours. rw (read_writes command taken can.wanted) (reads.turn.cuts book f.fits ours);
+        onward = refl;
         fewer = λ same. absurd (let e = same in cc);
         at_once = λ had. absurd had;
         not_again = λ had. absurd had;

@@ -13,8 +13,8 @@ use Rattle.scsi_unit.proofs.WantedCommands.{write_effect, write_is, write_wants,
 use Rattle.scsi_unit.{proofs.WantedCommands.{commit_effect, commit_moves, read_writes}, specs.UnitValue.{UnitValue, state_of, unit_limit}}
 use Rattle.scsi_unit.specs.{Serving.has_refused, Performing.settled_kept, Pending.{FitsCommit, FitsPending, HasEnded, HasProgressed}}
 use Rattle.scsi_unit.specs.Pending.{GoOnPost, CanWant, commits, transfer_of, calls_for, sends_for, read_for, IsHadAtOnce, SendsWhenDone}
-use Rattle.scsi_unit.specs.{Pending.{goes_through, cache_after}, declared.progress.{Progress.{Progress, TheVariants.Done}, Want.Want}}
-use Rattle.scsi_unit.specs.declared.progress.Progress.TheVariants.{Wants}
+use Rattle.scsi_unit.specs.{Pending.{goes_through, cache_after, may_follow}, declared.progress.{Progress.Progress, Want.Want}}
+use Rattle.scsi_unit.specs.declared.progress.Progress.TheVariants.{Done, Wants}
 use Rattle.scsi_unit.specs.declared.progress.Want.TheVariants as want
 
 -- a write that is accepted leaves no more stamps
@@ -76,15 +76,16 @@ module _ {M : Type 0} {state : M → State} {Follows : M → M → Type 0} (old 
       → ((book : Book) → FitsPending (state old.store.medium) old command taken wanted book → book.ours ≡ true
       → LeavesOnly (FoundWith (state old.store.medium).size book (write_of_command command taken)) (state old.store.medium)
       (state store.medium))
-      → (progress ≡ Wants wanted → steps_left store.cached < steps_left old.store.cached)
+      → may_follow progress wanted ≡ true → (progress ≡ Wants wanted → steps_left store.cached < steps_left old.store.cached)
       → (IsHadAtOnce old command wanted → IsUnchanged (state old.store.medium) (state store.medium))
       → (IsHadAtOnce old command wanted → progress ≢ Wants wanted)
       → SendsWhenDone (Ok command) (unit_limit old) progress
       → GoOnPost state Follows command wanted taken old progress out
       (record old { store = store; kept = kept; write_cache = cache })
-  posts passes two sent none line cuts fewer at_once not_again sends = record {
+  posts passes two sent none line cuts onward fewer at_once not_again sends = record {
     line = line;
     cuts = cuts;
+    onward = onward;
     fewer = fewer;
     at_once = at_once;
     not_again = not_again;
@@ -130,7 +131,7 @@ module _ {M : Type 0} {state : M → State} {Follows : M → M → Type 0} (old 
         fits = advanced.fits book f;
         wanted = can.wanted;
       })
-      cuts_room (λ same. advanced.fewer refl) quiet_room
+      cuts_room refl (λ same. advanced.fewer refl) quiet_room
       (λ had. absurd (let a = (step.takes live had).0 in let b = is in cc)) tt
 
   -- the store died
@@ -151,7 +152,7 @@ module _ {M : Type 0} {state : M → State} {Follows : M → M → Type 0} (old 
         | inl none ↦ died book book cause (inl refl) none
         | inr all ↦ died book (with_write book (write_by (transfer_of command) taken)) cause (inr (rw write refl)) all
       ])
-      cuts_room (λ same. absurd (let e = same in cc)) quiet_room (λ had same. absurd (let e = same in cc)) (grind (arith, nat_tests))
+      cuts_room refl (λ same. absurd (let e = same in cc)) quiet_room (λ had same. absurd (let e = same in cc)) (grind (arith, nat_tests))
 
   -- a batch has it, and it wants a commit
   pub room_commits : stage ≡ Accepted → goes_through (transfer_of command) old.write_cache ≡ true → (out : List ℕ)
@@ -165,7 +166,7 @@ module _ {M : Type 0} {state : M → State} {Follows : M → M → Type 0} (old 
         fits = record { fits = rw write (advanced.fits book f); live = λ is. advanced.life };
         wanted = grind (arith, commits, through);
       })
-      cuts_room (λ same. absurd (let e = same in cc)) quiet_room (λ had same. absurd (let e = same in cc)) tt
+      cuts_room refl (λ same. absurd (let e = same in cc)) quiet_room (λ had same. absurd (let e = same in cc)) tt
 
   -- and it is over
   pub room_ends : stage ≡ Accepted → goes_through (transfer_of command) old.write_cache ≡ false → (out : List ℕ)
@@ -184,7 +185,7 @@ module _ {M : Type 0} {state : M → State} {Follows : M → M → Type 0} (old 
       (record old { store = store; kept = settled_kept (Ok []) old.kept }) book
       (with_write book (write_by (transfer_of command) taken)) (inl (grind (arith, nat_tests, limit, effect, some, plain, live, lives)))
       (advanced.fits book f))
-      cuts_room (λ same. absurd (let e = same in cc)) quiet_room (λ had same. absurd (let e = same in cc))
+      cuts_room refl (λ same. absurd (let e = same in cc)) quiet_room (λ had same. absurd (let e = same in cc))
       (record { sent = λ n is. absurd (write_moves command taken can.wanted n is); none = λ not. refl; most = omega arith })
 
   -- a step of a write promises nothing
@@ -225,7 +226,7 @@ module _ {M : Type 0} {state : M → State} {Follows : M → M → Type 0} (old 
         fits = record { fits = turn.fits _ f.fits; live = λ writes. lives };
         wanted = is;
       })
-      cuts_commit
+      cuts_commit refl
       (λ same. elim (step.works.steps.left lives) [
         | inl written ↦ absurd (promised (step.promised.1 (live, written)))
         | inr few ↦ few
@@ -246,7 +247,8 @@ module _ {M : Type 0} {state : M → State} {Follows : M → M → Type 0} (old 
       (commit_wants command taken old.write_cache is) book next
       (may_fault (state old.store.medium) (state store.medium) old.store.cached next (turn.goes_on.cause live dead) f.fits)
       (inr refl) (turn.fits next f.fits))
-      cuts_commit (λ same. absurd (let e = same in cc)) quiet_commit (λ had same. absurd (let e = same in cc)) (grind (arith, nat_tests))
+      cuts_commit refl (λ same. absurd (let e = same in cc)) quiet_commit (λ had same. absurd (let e = same in cc))
+      (grind (arith, nat_tests))
 
   -- all is promised, and the command is over
   pub commit_ends_it : stage ≡ Promised → reads_blocks command ≡ false → (out : List ℕ)
@@ -265,7 +267,7 @@ module _ {M : Type 0} {state : M → State} {Follows : M → M → Type 0} (old 
       over (state old.store.medium) (state store.medium) old store live command taken (Ok [])
       (record old { store = store; kept = kept; write_cache = cache }) book (promised next)
       (inl (grind (arith, limit, effect, live, lives))) (promises next f.fits))
-      cuts_commit (λ same. absurd (let e = same in cc)) quiet_commit (λ had same. absurd (let e = same in cc))
+      cuts_commit refl (λ same. absurd (let e = same in cc)) quiet_commit (λ had same. absurd (let e = same in cc))
       (record {
         sent = λ n sent. absurd (commit_moves command taken old.write_cache is plain n sent);
         none = λ not. refl;
@@ -288,4 +290,4 @@ module _ {M : Type 0} {state : M → State} {Follows : M → M → Type 0} (old 
         };
         wanted = reads;
       })
-      cuts_commit (λ same. absurd (let e = same in cc)) quiet_commit (λ had same. absurd (let e = same in cc)) tt
+      cuts_commit refl (λ same. absurd (let e = same in cc)) quiet_commit (λ had same. absurd (let e = same in cc)) tt

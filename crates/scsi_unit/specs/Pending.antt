@@ -185,6 +185,13 @@ IsHadAtOnce unit command want.Room =
 IsHadAtOnce unit command want.Commit = IsWritten unit.store.cached
 IsHadAtOnce unit command want.Read = ⊥
 
+-- What comes of a step: an end, the same again, or what is wanted behind it. A commit is wanted
+-- behind room, and blocks are wanted last.
+abbrev pub may_follow : Progress → Want → Bool
+may_follow (Wants want.Room) want.Commit = false
+may_follow (Wants next) want.Read = false
+may_follow progress want = true
+
 -- One step of a command that wants this. At each moment of it a loss of power leaves what may be
 -- found of the book before the command, perhaps with its write, whole.
 pub record GoOnPost {M : Type 0} (state : M → State) (Follows : M → M → Type 0)
@@ -197,6 +204,7 @@ pub record GoOnPost {M : Type 0} (state : M → State) (Follows : M → M → Ty
       → book.ours ≡ true
       → LeavesOnly (FoundWith (state old.store.medium).size book (write_of_command command taken))
       (state old.store.medium) (state new.store.medium)
+  pub onward : may_follow progress want ≡ true
   -- where it wants the same again, fewer steps are left
   pub fewer : progress ≡ Wants want → steps_left new.store.cached < steps_left old.store.cached
   -- what can be had by no call is had so, and is not wanted again

@@ -27,7 +27,8 @@ impl<M: Medium> Unit<M> {
 
     /// Makes one step of a command that is not over and wants this: at most two calls of the
     /// medium, or, for the blocks of a READ, those that read them. The command, and the data taken
-    /// for it, are those with which it began.
+    /// for it, are those with which it began. Where it wants the same again fewer steps are left.
+    /// Else it is over, or wants what comes behind: a WRITE its commit, a READ its blocks.
     ///
     /// A refused call of the step ends the command with its error. A unit that was faulted before
     /// ends it with an internal target failure.

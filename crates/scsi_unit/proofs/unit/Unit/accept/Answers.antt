@@ -9,14 +9,12 @@ write_step-requires-clause-taken g c =
 
 pub write_step-requires-clause-can : goal.write_step-requires-clause-can
 write_step-requires-clause-can g c =
-    let command = c.args.command.now in
-    let taken = c.args.taken.now in
     let can = c.requires.can in
-    let some = write_some command taken can.wanted in
+    let some = write_some c.args.command.now c.args.taken.now can.wanted in
     rw c.transfer_of-transfer.ensures (record {
       live = c.requires.live;
       some = grind (arith, some);
-      within = write_within command taken can.wanted _ _ can.supported;
+      within = write_within c.args.command.now c.args.taken.now can.wanted _ _ can.supported;
     })
 
 pub returns-in-Waits : goal.returns-in-Waits
@@ -37,14 +35,12 @@ returns-in-Accepted g c =
     let taken = c.args.taken.now in
     let store = c.write_step.new.store in
     let step = rw c.transfer_of-transfer.ensures at c.write_step.ensures in
-    let live = c.requires.live in
-    let can = c.requires.can in
     let stage = c.write_step.result in
     rw (c.accepted.ensures.is, c.accepted.ensures.told, c.transfer_of-transfer.ensures)
     (elim c.in-Accepted.is [
       | inl at ↦ elim (cases_Bool (goes_through (transfer_of command) old.write_cache)) [
-        | inl through ↦ rw through (room_commits old store command taken live can stage step at through)
-        | inr plain ↦ rw plain (room_ends old store command taken live can stage step at plain)
+        | inl through ↦ rw through (room_commits old store command taken c.requires.live c.requires.can stage step at through)
+        | inr plain ↦ rw plain (room_ends old store command taken c.requires.live c.requires.can stage step at plain)
       ]
-      | inr at ↦ absurd (room_promises old store command taken live can stage step at)
+      | inr at ↦ absurd (room_promises old store command taken c.requires.live c.requires.can stage step at)
     ])
