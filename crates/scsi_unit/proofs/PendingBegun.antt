@@ -14,6 +14,7 @@ use Rattle.scsi_unit.specs.Pending.{StepKeeps, may_want, first_want, writes_bloc
 use Rattle.scsi_unit.specs.{Reading.{ReadsBackOr, first_home_of, home_sectors_of}, Calls.SendsAsMeant, declared.progress.Progress.Progress}
 use Rattle.scsi_unit.specs.declared.progress.{Want.Want, Progress.TheVariants.{Done, Wants}}
 use Rattle.scsi_unit.specs.declared.progress.Want.TheVariants as want
+use Rattle.scsi_unit.proofs.PendingSteps.{wanting}
 
 -- a command that is refused sends nothing
 refused_sends : (told : Result Command Sense) (sense : Sense) (limit : ℕ) → SendsWhenDone told limit (Done (Err sense))
@@ -82,7 +83,7 @@ module _ {M : Type 0} (m : State) (old : UnitValue M) where
 
 module _ {M : Type 0} {state : M → State} {Follows : M → M → Type 0} (old : UnitValue M) (itself : (m : M) → Follows m m)
     (sound : (m : M) → IsSound (state m)) where
-  keeps_all : {kept : _} → StepKeeps state Follows old (record old { kept = kept })
+  pub keeps_all : {kept : _} → StepKeeps state Follows old (record old { kept = kept })
   keeps_all = record {
     goes_on = (stays (state old.store.medium) old.store.cached (sound old.store.medium)).goes_on;
     identity = refl;
@@ -106,6 +107,7 @@ module _ {M : Type 0} {state : M → State} {Follows : M → M → Type 0} (old 
         fewer = λ same. absurd (let e = same in cc);
         at_once = λ had. unchanged m;
         not_again = λ had same. absurd (let e = same in cc);
+        waits = λ next same. absurd (let e = same in cc);
         makes = none_made_for m old command wanted;
         sends = grind (arith, nat_tests);
         keeps = keeps_all;
@@ -119,15 +121,16 @@ module _ {M : Type 0} {state : M → State} {Follows : M → M → Type 0} (old 
     line = λ book f. refused_line (state old.store.medium) old told sense is taken book f;
     unchanged = unchanged (state old.store.medium);
     at_once = λ command want some first had same. absurd (let e = same in cc);
+    waits = λ next same. absurd (let e = same in cc);
     sends = refused_sends told sense (unit_limit old);
     keeps = keeps_all;
   }
 
   -- one begins that wants something first, which no call of the store alone gives
-  pub wants_first : (command : Command) (wanted : Want) (taken out : List ℕ)
+  pub wants_first : (command : Command) (wanted : Want) (taken out : List ℕ) → is_dead old.store.cached ≡ false
       → first_want command taken old.write_cache ≡ Some wanted → ¬ IsHadAtOnce old command wanted
       → BeginPost state Follows (Ok command) taken old (Wants wanted) out old
-  wants_first command wanted taken out first not = record {
+  wants_first command wanted taken out live first not = record {
     line = λ book f. record {
       stays = refl;
       fits = fits_first (state old.store.medium) old command taken wanted first book f;
@@ -135,6 +138,8 @@ module _ {M : Type 0} {state : M → State} {Follows : M → M → Type 0} (old 
     };
     unchanged = unchanged (state old.store.medium);
     at_once = λ other want is some had same. let one : command ≡ other = cc in let two : wanted ≡ want = cc in not (rw (one, two) had);
+    waits = λ next same. wanting command taken old old wanted next same
+        (record { live = live; others = refl; wanted = first_may wanted command taken old.write_cache first });
     sends = tt;
     keeps = keeps_all;
   }
@@ -148,6 +153,7 @@ module _ {M : Type 0} {state : M → State} {Follows : M → M → Type 0} (old 
     line = λ book f. goes.line book (fits_first (state old.store.medium) old command taken wanted first book f);
     unchanged = goes.at_once had;
     at_once = λ other want is some now same. let one : command ≡ other = cc in let by = rw one at first in goes.not_again had (cc);
+    waits = goes.waits;
     sends = goes.sends;
     keeps = goes.keeps;
   }
@@ -174,6 +180,7 @@ module _ {M : Type 0} {state : M → State} {Follows : M → M → Type 0} (old 
             );
         unchanged = rw same (unchanged (state old.store.medium));
         at_once = λ other want is some had same. absurd (let e = same in cc);
+        waits = λ next is. absurd (let e = is in cc);
         sends = sends;
         keeps = record {
           goes_on = rw same (stays (state old.store.medium) old.store.cached (sound old.store.medium)).goes_on;

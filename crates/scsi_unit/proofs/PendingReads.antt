@@ -74,6 +74,7 @@ module _ {M : Type 0} {state : M → State} {Follows : M → M → Type 0} (old 
         fewer = λ same. absurd (let e = same in cc);
         at_once = λ had. absurd had;
         not_again = λ had. absurd had;
+        waits = λ next same. absurd (let e = same in cc);
         makes = record {
           calls = omega (arith, reads.calls, reads_few old.store.cached t.address t.count);
           sent = reads.sent;

@@ -13,7 +13,7 @@ use Rattle.scsi_unit.proofs.WantedCommands.{write_effect, write_is, write_wants,
 use Rattle.scsi_unit.{proofs.WantedCommands.{commit_effect, commit_moves, read_writes}, specs.UnitValue.{UnitValue, state_of, unit_limit}}
 use Rattle.scsi_unit.specs.{Serving.has_refused, Performing.settled_kept, Pending.{FitsCommit, FitsPending, HasEnded, HasProgressed}}
 use Rattle.scsi_unit.specs.Pending.{GoOnPost, CanWant, commits, transfer_of, calls_for, sends_for, read_for, IsHadAtOnce, SendsWhenDone}
-use Rattle.scsi_unit.specs.{Pending.{goes_through, cache_after, may_follow}, declared.progress.{Progress.Progress, Want.Want}}
+use Rattle.scsi_unit.specs.{Pending.{goes_through, cache_after, may_follow, StaysWanting}, declared.progress.{Progress.Progress, Want.Want}}
 use Rattle.scsi_unit.specs.declared.progress.Progress.TheVariants.{Done, Wants}
 use Rattle.scsi_unit.specs.declared.progress.Want.TheVariants as want
 
@@ -65,10 +65,17 @@ module _ {M : Type 0} (before after : State) (old : UnitValue M) (store : StoreV
         over (Err write_error) (record old { store = store; kept = after_failure write_error old.kept }) book next
         (faults before after old store command taken book next on.layout_stays cause writes (refl, dead) accepted) fits
 
+-- what it wants next, and nothing else
+pub wanting : {M : Type 0} (command : Command) (taken : List ℕ) (old new : UnitValue M) (wanted next : Want) → Wants wanted ≡ Wants next
+    → StaysWanting command taken wanted old new → StaysWanting command taken next old new
+wanting command taken old new wanted next same stays = subst (λ w. StaysWanting command taken w old new) (let e = same in cc) stays
+
 -- what a step of two calls at most passes on
 module _ {M : Type 0} {state : M → State} {Follows : M → M → Type 0} (old : UnitValue M) (store : StoreValue M) (kept : Waiting)
     (cache : Bool) (command : Command) (wanted : Want) (taken out : List ℕ) (progress : Progress) where
-  pub posts : PassesOn state Follows GoesOn 2 2 old.store store → calls_for wanted command ≡ 2 → sends_for wanted ≡ 2
+  pub posts : ((next : Want) → progress ≡ Wants next
+      → StaysWanting command taken next old (record old { store = store; kept = kept; write_cache = cache }))
+      → PassesOn state Follows GoesOn 2 2 old.store store → calls_for wanted command ≡ 2 → sends_for wanted ≡ 2
       → read_for wanted command ≡ None
       → ((book : Book) → FitsPending (state old.store.medium) old command taken wanted book
       → HasProgressed (state old.store.medium) (state store.medium) (Ok command) taken old progress out
@@ -82,13 +89,14 @@ module _ {M : Type 0} {state : M → State} {Follows : M → M → Type 0} (old 
       → SendsWhenDone (Ok command) (unit_limit old) progress
       → GoOnPost state Follows command wanted taken old progress out
       (record old { store = store; kept = kept; write_cache = cache })
-  posts passes two sent none line cuts onward fewer at_once not_again sends = record {
+  posts waits passes two sent none line cuts onward fewer at_once not_again sends = record {
     line = line;
     cuts = cuts;
     onward = onward;
     fewer = fewer;
     at_once = at_once;
     not_again = not_again;
+    waits = waits;
     makes = record {
       calls = rw two passes.calls;
       sent = rw sent passes.sent;
@@ -125,7 +133,10 @@ module _ {M : Type 0} {state : M → State} {Follows : M → M → Type 0} (old 
       → GoOnPost state Follows command want.Room taken old (Wants want.Room) out (record old { store = store })
   room_waits is out =
       let advanced = rw is at step.advanced in
-      posts old store old.kept old.write_cache command want.Room taken out (Wants want.Room) advanced.passes refl refl refl
+      posts old store old.kept old.write_cache command want.Room taken out (Wants want.Room)
+      (λ next same. wanting command taken old (record old { store = store }) want.Room next same
+      (record { live = advanced.life; others = refl; wanted = can.wanted }))
+      advanced.passes refl refl refl
       (λ book f. record {
         stays = stays_so (state old.store.medium) (state store.medium) old store live advanced.passes.turn advanced.life book;
         fits = advanced.fits book f;
@@ -144,7 +155,7 @@ module _ {M : Type 0} {state : M → State} {Follows : M → M → Type 0} (old 
       let died = fails (state old.store.medium) (state store.medium) old store live command taken on advanced.life
       (write_wants command taken can.wanted old.write_cache) in
       posts old store (after_failure write_error old.kept) old.write_cache command want.Room taken out (Done (Err write_error))
-      advanced.passes refl refl refl
+      (λ next same. absurd (let e = same in cc)) advanced.passes refl refl refl
       (λ book f.
       let cause = more_stamps _ book (write_of_command command taken)
       (may_fault (state old.store.medium) (state store.medium) old.store.cached book (on.cause live advanced.life) f) in
@@ -160,7 +171,10 @@ module _ {M : Type 0} {state : M → State} {Follows : M → M → Type 0} (old 
   room_commits is through out =
       let advanced = rw is at step.advanced in
       let commits = write_commits command taken can.wanted old.write_cache in
-      posts old store old.kept old.write_cache command want.Room taken out (Wants want.Commit) advanced.passes refl refl refl
+      posts old store old.kept old.write_cache command want.Room taken out (Wants want.Commit)
+      (λ next same. wanting command taken old (record old { store = store }) want.Commit next same
+      (record { live = advanced.life; others = refl; wanted = grind (arith, commits, through) }))
+      advanced.passes refl refl refl
       (λ book f. record {
         stays = stays_so (state old.store.medium) (state store.medium) old store live advanced.passes.turn advanced.life book;
         fits = record { fits = rw write (advanced.fits book f); live = λ is. advanced.life };
@@ -175,7 +189,7 @@ module _ {M : Type 0} {state : M → State} {Follows : M → M → Type 0} (old 
   room_ends is plain out =
       let advanced = rw is at step.advanced in
       posts old store (settled_kept (Ok []) old.kept) old.write_cache command want.Room taken out (Done (Ok 0))
-      advanced.passes refl refl refl
+      (λ next same. absurd (let e = same in cc)) advanced.passes refl refl refl
       (λ book f.
       let limit = limit_stays old.store.cached store.cached advanced.passes.turn.layout_stays in
       let effect = write_effect command taken can.wanted (state_of old book) in
@@ -220,7 +234,10 @@ module _ {M : Type 0} {state : M → State} {Follows : M → M → Type 0} (old 
       let life = (step.advanced None).life in
       let lives : is_dead store.cached ≡ false = grind (arith, at, life) in
       let promised : ¬ (stage ≡ Promised) = grind (arith, at) in
-      posts old store old.kept old.write_cache command want.Commit taken out (Wants want.Commit) passes refl refl refl
+      posts old store old.kept old.write_cache command want.Commit taken out (Wants want.Commit)
+      (λ next same. wanting command taken old (record old { store = store }) want.Commit next same
+      (record { live = lives; others = refl; wanted = is }))
+      passes refl refl refl
       (λ book f. record {
         stays = stays_so (state old.store.medium) (state store.medium) old store live turn.goes_on lives book;
         fits = record { fits = turn.fits _ f.fits; live = λ writes. lives };
@@ -240,7 +257,7 @@ module _ {M : Type 0} {state : M → State} {Follows : M → M → Type 0} (old 
   commit_fails at out =
       let dead : is_dead store.cached ≡ true = rw at at (step.advanced None).life in
       posts old store (after_failure write_error old.kept) old.write_cache command want.Commit taken out (Done (Err write_error))
-      passes refl refl refl
+      (λ next same. absurd (let e = same in cc)) passes refl refl refl
       (λ book f.
       let next = with_progress book (write_of_command command taken) in
       fails (state old.store.medium) (state store.medium) old store live command taken turn.goes_on dead
@@ -259,7 +276,8 @@ module _ {M : Type 0} {state : M → State} {Follows : M → M → Type 0} (old 
       let promises = (rw at at (step.advanced None)).fits in
       let kept = settled_kept (Ok []) old.kept in
       let cache = cache_after command old.write_cache in
-      posts old store kept cache command want.Commit taken out (Done (Ok 0)) passes refl refl refl
+      posts old store kept cache command want.Commit taken out (Done (Ok 0))
+      (λ next same. absurd (let e = same in cc)) passes refl refl refl
       (λ book f.
       let limit = limit_stays old.store.cached store.cached turn.goes_on.layout_stays in
       let effect = commit_effect command taken old.write_cache is plain (state_of old book) refl in
@@ -281,7 +299,10 @@ module _ {M : Type 0} {state : M → State} {Follows : M → M → Type 0} (old 
       let lives : is_dead store.cached ≡ false = rw at at (step.advanced None).life in
       let written = (step.promised.0 at).1 in
       let same = (step.works.order.written written).0 in
-      posts old store old.kept old.write_cache command want.Commit taken out (Wants want.Read) passes refl refl refl
+      posts old store old.kept old.write_cache command want.Commit taken out (Wants want.Read)
+      (λ next same. wanting command taken old (record old { store = store }) want.Read next same
+      (record { live = lives; others = refl; wanted = reads }))
+      passes refl refl refl
       (λ book f. record {
         stays = stays_so (state old.store.medium) (state store.medium) old store live turn.goes_on lives book;
         fits = record {

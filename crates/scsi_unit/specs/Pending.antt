@@ -1,7 +1,7 @@
 -- A command that is not over: what it may want, which books the unit fits meanwhile, and how it
 -- comes to its end.
 use Rattle.std.specs.Prelude.{⊤, ◌≡◌, ◌≢◌, ◌⊎◌, ◌<◌, ◌≤◌, ◌+◌, ℕ, Bool, true, false, List, ◌||◌}
-use Rattle.std.specs.Prelude.{not, length, Option, Some, None, Result, Ok, Err, if◌then◌else◌}
+use Rattle.std.specs.Prelude.{not, length, Option, Some, None, Result, Ok, Err, IfOk, if◌then◌else◌}
 use Rattle.medium.specs.{Medium.State, Moments.{EachCut, LeavesOnly, IsUnchanged}, Sent.SendsUpTo}
 use Rattle.logical_blocks.specs.Book.{Book, with_progress}
 use Rattle.scsi.specs.{Sense.Sense, declared.command.Command.Command, Waiting.Waiting}
@@ -113,12 +113,17 @@ HasProgressed before after (Ok command) taken old (Wants want) out new book =
     IsPending after command taken want old new book
 HasProgressed before after (Err sense) taken old (Wants want) out new book = ⊥
 
--- how many bytes it sends
+-- how many bytes it sends; one that was refused sends none
 abbrev pub SendsWhenDone : Result Command Sense → ℕ → Progress → Type 0
 SendsWhenDone (Ok command) limit (Done result) = SendsAsMeant (moves command) limit result
-SendsWhenDone told limit progress = ⊤
+SendsWhenDone (Err sense) limit (Done result) = IfOk result (λ sent. sent ≡ 0)
+SendsWhenDone told limit (Wants want) = ⊤
 
 -- ---- a step of it
+
+-- the unit may carry out a command that was parsed; one that was refused it may always
+abbrev pub IsServable : {M : Type 0} → UnitValue M → Result Command Sense → Type 0
+IsServable unit parsed = IfOk parsed (IsSupported (blocks_of unit.store.cached) (unit_limit unit))
 
 -- the bytes taken for a command
 abbrev pub TakesAll : Command → List ℕ → Type 0
@@ -178,6 +183,19 @@ pub record StepKeeps {M : Type 0} (state : M → State) (Follows : M → M → T
   pub policy : new.store.goes_ahead ≡ old.store.goes_ahead
   pub follows : ComesBy state Follows old.store new.store
 
+-- It is not over: the unit lives, only its store has changed, and the command may want this next.
+pub record StaysWanting {M : Type 0} (command : Command) (taken : List ℕ) (next : Want)
+    (old new : UnitValue M) : Type 0 where
+  pub live : is_dead new.store.cached ≡ false
+  pub others : new ≡ record old { store = new.store }
+  pub wanted : may_want next command taken new.write_cache ≡ true
+
+-- a command that was refused wants nothing
+abbrev pub BeginsWanting : {M : Type 0} → Result Command Sense → List ℕ → Want → UnitValue M
+    → UnitValue M → Type 0
+BeginsWanting (Ok command) taken next old new = StaysWanting command taken next old new
+BeginsWanting (Err sense) taken next old new = ⊥
+
 -- what it wants can be had by no call of the medium
 abbrev pub IsHadAtOnce : {M : Type 0} → UnitValue M → Command → Want → Type 0
 IsHadAtOnce unit command want.Room =
@@ -211,6 +229,7 @@ pub record GoOnPost {M : Type 0} (state : M → State) (Follows : M → M → Ty
   pub at_once : IsHadAtOnce old command want
       → IsUnchanged (state old.store.medium) (state new.store.medium)
   pub not_again : IsHadAtOnce old command want → progress ≢ Wants want
+  pub waits : (next : Want) → progress ≡ Wants next → StaysWanting command taken next old new
   pub makes : StepCalls (state old.store.medium) (state new.store.medium) command want old
   pub sends : SendsWhenDone (Ok command) (unit_limit old) progress
   pub keeps : StepKeeps state Follows old new
@@ -227,6 +246,7 @@ pub record BeginPost {M : Type 0} (state : M → State) (Follows : M → M → T
   pub at_once : (command : Command) (want : Want) → told ≡ Ok command
       → first_want command taken old.write_cache ≡ Some want → IsHadAtOnce old command want
       → progress ≢ Wants want
+  pub waits : (next : Want) → progress ≡ Wants next → BeginsWanting told taken next old new
   pub sends : SendsWhenDone told (unit_limit old) progress
   pub keeps : StepKeeps state Follows old new
 

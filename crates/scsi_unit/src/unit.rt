@@ -22,7 +22,6 @@ ghost use Rattle.scsi_unit.specs.Calls.{PassesOn};
 ghost use Rattle.scsi_unit.specs.Performing.{settled_kept};
 
 use crate::Intent;
-use crate::checks::moves;
 use crate::store_calls::step;
 use blocks::{Store, Work};
 use medium::{Inlet, Medium, Outlet, Switch};
@@ -75,10 +74,8 @@ impl<M: Medium> Unit<M> {
         ensures most { (n : ℕ) → result ≡ intent.Out n → (0 < n) × (n ≤ 512 * unit_limit self.now) }
         ensures room { (n : ℕ) → result ≡ intent.In n → n ≤ 512 * unit_limit self.now }
     {
-        match self.command(block) {
-            Ok(command) => moves(&self.identity, &command),
-            Err(sense) => Intent::Fail(sense),
-        }
+        let parsed = self.command(block);
+        self.intention(&parsed)
     }
 
     /// Carries out a command block over the data taken for it, and writes the data to send to the

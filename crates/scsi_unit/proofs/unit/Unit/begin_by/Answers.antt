@@ -12,5 +12,5 @@ returns-then-is_had g c =
 
 pub returns : goal.returns
 returns g c =
-    wants_first c.args.self.now g.met.M.Medium.follows_itself g.met.M.Medium.sound _ _ _ _ c.requires.first
+    wants_first c.args.self.now g.met.M.Medium.follows_itself g.met.M.Medium.sound _ _ _ _ c.requires.live c.requires.first
     (λ had. let is : c.is_had.result ≡ true = c.is_had.ensures.1 had in absurd (let none = c.if-is_had.false in cc))
