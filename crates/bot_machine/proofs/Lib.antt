@@ -10,3 +10,7 @@ pub mod Policy
 pub mod LifeActions
 pub mod LifeStarts
 pub mod LifeRuns
+pub mod LaggingParts
+pub mod LaggingPackets
+pub mod LaggingGoing
+pub mod LaggingEvents

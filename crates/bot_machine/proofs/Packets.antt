@@ -6,9 +6,12 @@ use Rattle.spec.specs.{declared.packet_size.PacketSize.PacketSize, declared.pack
 use Rattle.spec.specs.{Packets.{bytes_of, packets_of}, declared.case.Case.Case, declared.case.Endpoint.Endpoint}
 use Rattle.spec.specs.declared.event.Answer.TheVariants.{Data}
 use Rattle.spec.specs.Exchange.{Line, Script, sending, in_answer, after_in, laid_out, sent_in, moment_of, after_data}
-use Rattle.std.specs.Prelude.{None, Option}
+use Rattle.std.specs.Prelude.{None, Option, Ok, Result}
+use Rattle.scsi.specs.{Sense.Sense, Rules.Intention}
+use Rattle.scsi.specs.declared.intent.Intent.TheVariants as intent
+use Rattle.scsi_unit.specs.Calls.{SendsAsMeant}
 use Rattle.transport_laws.proofs.Packets.{packets_of-more, packets_of-none}
-use Rattle.bot_machine.specs.{Refinement.{halt_of, sent_size}, Serving.LiesIn}
+use Rattle.bot_machine.specs.Refinement.{halt_of, sent_size, LiesIn}
 
 pub some_bytes : (size : PacketSize) → 0 < bytes_of size
 some_bytes Full64 = omega arith
@@ -119,3 +122,8 @@ pub front_filled : (front packet rest : List ℕ) (filled size more : ℕ) → l
     → more ≡ min (length packet) (size - filled) → take (filled + more) (front ++ (take more packet ++ rest)) ≡ take size (front ++ packet)
 front_filled front packet rest filled size more l h e =
     grind (arith, length-take {A = ℕ}, take-append-add {A = ℕ}, take-append-le {A = ℕ}, take_all {A = ℕ})
+
+-- there is room for what is sent
+pub sent_fits : (intention : Intention) (limit size room : ℕ) → SendsAsMeant intention limit (let good : Result ℕ Sense = Ok size in good)
+    → ((n : ℕ) → intention ≡ intent.In n → n ≤ room) → size ≤ room
+sent_fits intention limit size room sends fits = grind (arith, sends.none, sends.sent, fits)

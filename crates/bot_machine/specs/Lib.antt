@@ -28,3 +28,5 @@ pub mod LivesValue
 pub mod Moving
 pub mod Policy
 pub mod Lifetimes
+pub mod LaggingDisk
+pub mod LaggingParts

@@ -1,13 +1,15 @@
 -- What the disk's fields stand for.
 use Rattle.std.specs.Prelude.{◌≡◌, ◌≢◌, ⊤, ◌≤◌, ◌<◌, ℕ, ◌-◌, ◌*◌, min, Bool, true, false, List, []}
-use Rattle.std.specs.Prelude.{take, length, slice_range, Option, Some, None, ◌+◌}
+use Rattle.std.specs.Prelude.{take, length, slice_range, Option, Some, None, ◌+◌, Result, IfOk}
 use Rattle.spec.specs.{declared.case.Case.Case, declared.case.Case.TheVariants.{C5, C6}}
 use Rattle.spec.specs.{declared.case.Endpoint.Endpoint, Cases.{IsCase, size_of_way}}
-use Rattle.scsi.specs.Rules.{Intention}
+use Rattle.scsi.specs.{Sense.Sense, Rules.Intention}
 use Rattle.spec.specs.Packets.{bytes_of, packets_of}
 use Rattle.spec.specs.Requests.{Request, mass_storage_reset, get_max_lun, clear_halt, get_status}
 use Rattle.spec.specs.Exchange.{Script, Line, finished, taking, sending, Moment, at_once}
-use Rattle.spec.specs.Exchange.{after_data, never, moment_of, laid_out}
+use Rattle.spec.specs.Exchange.{after_data, never, moment_of, laid_out, told}
+use Rattle.scsi_unit.specs.UnitValue.{answer_of}
+use Rattle.bot_machine.specs.declared.exchange.Exchange.{Exchange}
 use Rattle.spec.specs.declared.case.Endpoint.TheVariants as endpoint
 use Rattle.scsi.specs.declared.intent.Intent.TheVariants as intent
 use Rattle.bot_machine.specs.declared.exchange.When.{When}
@@ -54,13 +56,12 @@ abbrev pub line_of : BulkState → List ℕ → Line
 line_of bulk buffer =
     line_with bulk (left_of (bytes_of bulk.size) bulk.phase buffer bulk.status)
 
--- Data is taken: the case takes data, and the bytes taken are the intended ones of those that came,
--- of as many blocks as a transfer has at most. What the unit intends to take now, if it still does,
--- is what it intended when the wrapper came; and it intends to send nothing.
+-- Data is taken, or all of it came: the case takes data, and the bytes taken are the intended ones
+-- of those that came, of as many blocks as a transfer has at most. What the unit intends to take
+-- now, if it still does, is what it intended when the wrapper came; and it intends to send nothing.
 pub record IsTaking (limit : ℕ) (intention : List ℕ → Intention) (t : Taking) : Type 0 where
   pub is_case : IsCase t.exchange.case t.exchange.command.host t.exchange.intended
   pub moment : moment_of t.exchange.case ≡ after_data
-  pub some_due : 0 < t.due
   pub within : t.due ≤ size_of_way t.exchange.command.host
   pub room : size_of_way t.exchange.intended ≤ 512 * limit
   pub filled_is : t.filled
@@ -68,6 +69,11 @@ pub record IsTaking (limit : ℕ) (intention : List ℕ → Intention) (t : Taki
   pub intended : (n : ℕ) → intention t.exchange.command.block.items ≡ intent.Out n
       → size_of_way t.exchange.intended ≡ n
   pub sends_none : (n : ℕ) → intention t.exchange.command.block.items ≢ intent.In n
+
+-- What is sent lies in this buffer: where a command is carried out at once, the one that it wrote
+-- to. One that waits for its data sends none, and any buffer does.
+abbrev pub LiesIn : List ℕ → Case → List ℕ → Type 0
+LiesIn buffer case out = moment_of case ≡ at_once → buffer ≡ out
 
 -- what holds of a phase, by the most blocks of a transfer and what the unit intends for a command
 -- block
@@ -118,6 +124,18 @@ pub record LaysOut (old : BulkState) (sent : ℕ) (halt : Option Endpoint) (stat
   pub size : new.size ≡ old.size
   pub phase : (limit : ℕ) (intention : List ℕ → Intention) → sent ≤ 512 * limit
       → IsInPhase limit intention new.phase
+
+-- The answer to the command of an exchange is laid out: what a good one sends are the first bytes
+-- of the buffer. Where the command waited for its data it sends none, whatever the buffer.
+pub record LaysOutAnswer (old : BulkState) (exchange : Exchange) (answer : Result ℕ Sense)
+    (new : BulkState) : Type 0 where
+  pub line : (buffer out : List ℕ) (left : Script) → LiesIn buffer exchange.case out
+      → IfOk answer (λ size. size ≤ length out)
+      → line_of new buffer ≡ told exchange.case exchange.command exchange.intended
+      (answer_of answer out) (line_with old left)
+  pub size : new.size ≡ old.size
+  pub phase : (limit : ℕ) (intention : List ℕ → Intention)
+      → IfOk answer (λ size. size ≤ 512 * limit) → IsInPhase limit intention new.phase
 
 -- A packet of the buffer's bytes from one place to another is sent, up to this end. What is left is
 -- sent next; behind the last packet the endpoint is halted, if it is to be, and the status is next.

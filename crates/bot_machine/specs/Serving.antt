@@ -5,7 +5,7 @@ use Rattle.logical_blocks.specs.Book.{Book}
 use Rattle.scsi.specs.{Sense.Sense, Rules.{CarriesOut, Ticks, write_in_progress}}
 use Rattle.spec.specs.{CommandWrapper.SpellsCommand, Cases.{IsCase, size_of_way}, Packets.bytes_of}
 use Rattle.spec.specs.declared.event.Answer.TheVariants.{Ack}
-use Rattle.spec.specs.Exchange.{Line, Script, moment_of, at_once}
+use Rattle.spec.specs.Exchange.{Line, Script}
 use Rattle.spec.specs.Conversation.{IsCarriedOut, OutStep}
 use Rattle.spec.specs.UnitConversation.{way_of, Intends, write_of_packet, on_line}
 use Rattle.spec.specs.declared.way.Way.TheVariants as ways
@@ -34,11 +34,6 @@ pub record IsBegun {M : Type 0} (unit : UnitValue M) (packet : List ℕ) (exchan
   pub is_case : IsCase exchange.case exchange.command.host exchange.intended
   pub one_case : (other : Case) → IsCase other exchange.command.host exchange.intended
       → other ≡ exchange.case
-
--- What is sent lies in this buffer: where a command is carried out at once, the one that it wrote
--- to. One that waits for its data sends none, and any buffer does.
-abbrev pub LiesIn : List ℕ → Case → List ℕ → Type 0
-LiesIn buffer case out = moment_of case ≡ at_once → buffer ≡ out
 
 -- the command of an exchange is carried out over these bytes
 abbrev pub CarriesOutOn : {M : Type 0} → State → State → UnitValue M → UnitValue M → Line → Line

@@ -13,7 +13,8 @@ ghost use Rattle.bot_machine.specs.Disk.{Tells};
 ghost use Rattle.spec.specs.Exchange.{Script, finished};
 ghost use Rattle.bot_machine.specs.Refinement.{line_of, line_with, LaysOut};
 ghost use Rattle.bot_machine.specs.Serving.{IsBegun, CarriesOutOn, ServesPacket, HandsOn};
-ghost use Rattle.bot_machine.specs.Serving.{EndsData, CanCarryOut, LiesIn};
+ghost use Rattle.bot_machine.specs.Serving.{EndsData, CanCarryOut};
+ghost use Rattle.bot_machine.specs.Refinement.{LiesIn};
 ghost use Rattle.bot_machine.specs.Serving.{AwaitsWrapper, AwaitsData, AwaitsEnd, HasMoreDue};
 ghost use Rattle.scsi_unit.specs.Reading.{IsOneOf};
 ghost use Rattle.bot_machine.specs.Reading.{sectors_for, WrapperReadsAt};
@@ -181,23 +182,23 @@ fn end_data<M: Medium>(unit: &mut Unit<M>, bulk: &mut BulkState, transfer: &mut 
     carry_out(unit, bulk, &mut [], &exchange, &transfer[..filled]);
 }
 
-// How many bytes the next packet has, where `due` bytes are due.
-fn size_of_next(due: u32, most: u32) -> usize
+/// How many bytes the next packet has, where `due` bytes are due.
+pub(crate) fn size_of_next(due: u32, most: u32) -> usize
     ensures { result ≡ min due most }
 {
     due.min(most) as usize
 }
 
-// Tells that a packet had a wrong size, where `due` bytes were due.
-fn conclude_wrong_size(bulk: &mut BulkState, tag: u32, due: u32)
+/// Tells that a packet had a wrong size, where `due` bytes were due.
+pub(crate) fn conclude_wrong_size(bulk: &mut BulkState, tag: u32, due: u32)
     ensures { LaysOut bulk.old 0 None (status_wrapper tag due PhaseError) bulk.new }
 {
     let status = write_csw(tag, due, Status::PhaseError);
     bulk.lay_out(0, None, status);
 }
 
-// Appends a packet to the first bytes of a buffer, up to `size` bytes in all.
-fn fill(buffer: &mut [u8], filled: &mut usize, packet: &[u8], size: usize)
+/// Appends a packet to the first bytes of a buffer, up to `size` bytes in all.
+pub(crate) fn fill(buffer: &mut [u8], filled: &mut usize, packet: &[u8], size: usize)
     requires before { filled.old ≤ size }
     requires room { size ≤ length buffer.old }
     ensures bytes { take filled.new buffer.new

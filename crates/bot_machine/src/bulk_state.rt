@@ -7,11 +7,14 @@ ghost use Rattle.spec.specs.Exchange.{outcome_for, status_for};
 ghost use Rattle.spec.specs.Packets.{bytes_of};
 ghost use Rattle.spec.specs.Requests.{clear_halt};
 ghost use Rattle.bot_machine.specs.Refinement.{halt_of, line_of, IsInPhase};
-ghost use Rattle.bot_machine.specs.Refinement.{ChangesLine, LaysOut, MovesOn};
+ghost use Rattle.bot_machine.specs.Refinement.{ChangesLine, LaysOut, LaysOutAnswer, MovesOn};
+ghost use Rattle.spec.specs.Cases.{IsCase, size_of_way};
+ghost use Rattle.bot_machine.specs.declared.bulk_state.Phase.TheVariants.{DataOut};
 
-use crate::exchange::Exchange;
+use crate::exchange::{Exchange, after_failure, size_sent};
 use crate::status::write_csw;
 use crate::table::outcome;
+use scsi_unit::Sense;
 use spec::{Case, Endpoint, PacketSize, Status};
 
 // The data of a command that is being taken: `filled` of the intended bytes came already, and `due`
@@ -118,6 +121,24 @@ impl BulkState {
         }
     }
 
+    /// Expects the data of the command of an exchange.
+    pub(crate) fn expect_data(&mut self, exchange: Exchange)
+        ensures { self.new ≡ record self.old {
+          phase = DataOut (record {
+            exchange = exchange;
+            filled = 0;
+            due = size_of_way exchange.command.host;
+          });
+        } }
+    {
+        let due = exchange.command.host.size();
+        self.phase = Phase::DataOut(Taking {
+            exchange,
+            filled: 0,
+            due,
+        });
+    }
+
     /// Lays out what is sent: the first bytes of the buffer, a halt after them, and the status
     /// wrapper.
     pub(crate) fn lay_out(&mut self, size: usize, halt: Option<Endpoint>, status: [u8; 13])
@@ -173,5 +194,20 @@ impl BulkState {
         let told = outcome(case, exchange.command.host, exchange.intended);
         let status = write_csw(exchange.command.tag, told.residue, status);
         self.lay_out(size, told.halt, status);
+    }
+
+    /// Answers the command of an exchange: lays out how many bytes of the buffer it sends, or that
+    /// it failed.
+    pub(crate) fn answer(&mut self, exchange: &Exchange, answer: &Result<usize, Sense>)
+        requires { IsCase exchange.now.case exchange.now.command.host exchange.now.intended }
+        ensures { LaysOutAnswer self.old exchange.now answer.now self.new }
+    {
+        match answer {
+            Ok(size) => {
+                let size = size_sent(exchange.case, *size);
+                self.conclude(exchange, exchange.case, size, Status::Passed);
+            }
+            Err(_) => self.conclude(exchange, after_failure(exchange.case), 0, Status::Failed),
+        }
     }
 }

@@ -55,7 +55,7 @@ impl<M: Medium> Disk<M> {
         }
         let size = self.bulk.size.bytes() as usize;
         match &mut self.bulk.phase {
-            Phase::DataOut(pending) => {
+            Phase::DataOut(pending) if pending.due > 0 => {
                 let count = packets_amid(size, pending.due as usize, bytes.len());
                 let run = &bytes[..count * size];
                 take_more(pending, &mut self.transfer, run, run.len() as u32);

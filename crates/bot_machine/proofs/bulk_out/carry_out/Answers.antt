@@ -1,19 +1,11 @@
-use Rattle.std.proofs.Common.{◌≡◌, ◌≤◌, ℕ, length, take, arith, rules, length-take}
-use Rattle.std.specs.Prelude.{Result, Ok, Err}
-use Rattle.scsi.specs.{Sense.Sense, Rules.Intention}
+use Rattle.std.proofs.Common.{length, take, arith, rules, length-take}
+use Rattle.std.specs.Prelude.{Ok, Err}
 use Rattle.spec.specs.Exchange.{finished}
-use Rattle.scsi.specs.declared.intent.Intent.TheVariants as intent
-use Rattle.scsi_unit.specs.Calls.{SendsAsMeant}
 use Rattle.transport_laws.proofs.Packets.{packets_of-none}
 use Rattle.bot_machine.proofs.UnitLaws.{keeps_writes, faulted_rests, proceeding}
-use Rattle.bot_machine.proofs.{Packets.{sent_in-size, lies_sent, lies_within, some_bytes}, OutPackets.tells}
+use Rattle.bot_machine.proofs.{Packets.{sent_in-size, lies_sent, lies_within, some_bytes, sent_fits}, OutPackets.tells}
 use Rattle.bot_machine.specs.Refinement.{line_with}
 use Rattle.bot_machine.proofs.bulk_out.carry_out.Goals as goal
-
--- there is room for what is sent
-sent_fits : (intention : Intention) (limit size room : ℕ) → SendsAsMeant intention limit (let good : Result ℕ Sense = Ok size in good)
-    → ((n : ℕ) → intention ≡ intent.In n → n ≤ room) → size ≤ room
-sent_fits intention limit size room sends fits = grind (arith, sends.none, sends.sent, fits)
 
 pub returns-in-Ok-clause-carried_out : goal.returns-in-Ok-clause-carried_out
 returns-in-Ok-clause-carried_out g c = λ buffer left lies book fits.

@@ -12,5 +12,6 @@ returns-in-DataOut g c =
     let came = rw (c.bytes-size.ensures, c.deref_mut.ensures.value) at c.take_more.ensures.bytes in
     rw (← c.self.view_is, c.in-DataOut.is, with_items_is d.transfer c.take_more.new.taken (search (rules, places)))
     (taken d.unit d.bulk pending c.take_more.new.pending d.transfer.items c.take_more.new.taken c.args.bytes.now
-    c.packets_amid-count.result c.if-self.false held.some_due (omega (arith, held.filled_is)) count_is c.take_more.ensures.exchange
+    c.packets_amid-count.result c.if-self.false (omega (arith, c.if-pending-gt0.true))
+    (omega (arith, held.filled_is)) count_is c.take_more.ensures.exchange
     due came)
