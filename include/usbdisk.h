@@ -145,6 +145,25 @@ struct usbdisk_layout {
  * Answers 0; or BAD_SUPER, BAD_VERSION or BAD_SIZE, as a start does, and `*layout` stays. */
 uint32_t usbdisk_look(const uint8_t sector[512], struct usbdisk_layout *layout);
 
+/* The log of an image, and where its blocks lie behind it. */
+struct usbdisk_log {
+    uint64_t limit;        /* how many blocks a READ or a WRITE has at most */
+    uint64_t slot_sectors; /* how many sectors a slot has; the first slot begins with sector 2 */
+    uint64_t end;          /* the sector behind the last slot */
+    uint64_t home;         /* the first sector from there on that is a multiple of `page` */
+};
+
+/* Reports the log of an image of this format (1 or 2) with `slots` log slots, and the first home
+ * sector where blocks have to begin at a multiple of `page` sectors. With page 1 it is `end`.
+ *
+ * Answers 0; or BAD_SIZES, and `*log` stays: there is no such format or number of slots, `page` is
+ * 0, or home may not begin there. In format 2 each page of up to 249 sectors will do. */
+uint32_t usbdisk_log_of(uint32_t format, uint64_t slots, uint64_t page, struct usbdisk_log *log);
+
+/* `limit` and `end` of it, for the size of an array. */
+#define USBDISK_LIMIT(format) ((format) == 1 ? 48 : 240)
+#define USBDISK_LOG_END(format, slots) (2 + ((format) == 1 ? 50 : 249) * (slots))
+
 /* How many bytes of memory a disk takes, on an image of this format (1 or 2) with `slots` log
  * slots, of every size of the device, where `kept` of its options is 0. A store takes 18,768 bytes
  * less in format 1 and 221,616 less in format 2. Neither takes more while it starts. 0 where there
@@ -341,9 +360,9 @@ uint32_t usbdisk_ahead(struct usbdisk *disk, uint64_t first, uint32_t count);
 
 /* What image is made. It takes `home + blocks` sectors; what lies behind them is spared.
  *
- * `home` is the sector of block 0. With 0 it is the first behind the log: 2 + 50 * slots in format
- * 1, and 2 + 249 * slots in format 2. In format 2 it may be up to 248 more, so that blocks begin
- * where a page of the device does: the next multiple of 128 sectors always fits (64 KiB). */
+ * `home` is the sector of block 0. With 0 it is the first behind the log, `end` of usbdisk_log_of.
+ * In format 2 it may be up to 248 more, so that blocks begin where a page of the device does:
+ * `home` of usbdisk_log_of. */
 struct usbdisk_plan {
     uint64_t sectors; /* how many sectors the device has */
     uint32_t format;  /* 1 or 2 */

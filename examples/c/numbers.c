@@ -284,7 +284,7 @@ static void play_store(void)
  * kept. */
 static unsigned flushes_of(uint32_t kept)
 {
-    enum { ALL = 2 + 249 * 3 + BLOCKS };
+    enum { ALL = USBDISK_LOG_END(2, 3) + BLOCKS };
     static uint8_t large[ALL * 512];
     const struct usbdisk_options options = { .sectors = ALL, .kept = kept };
     struct usbdisk store = USBDISK_NONE;
@@ -395,6 +395,7 @@ int main(void)
     begin_image(SLOTS);
     play_images();
     play_disk();
+    play_logs();
     begin_image(SLOTS);
     play_failing();
     must(!heap_blocks, "memory is left");

@@ -5,7 +5,8 @@
 #include "usbdisk.h"
 
 enum { FORMAT = 1, BLOCKS = 64, SLOTS = 5, UNTOLD = 77 };
-enum { FIRST = 2 + 50 * SLOTS, SECTORS = FIRST + BLOCKS, LIMIT = 48 };
+enum { FIRST = USBDISK_LOG_END(FORMAT, SLOTS), SECTORS = FIRST + BLOCKS };
+enum { LIMIT = USBDISK_LIMIT(FORMAT) };
 
 /* What a handle may hold. */
 enum kind { DISK, STORE, FORMAT_WORK, LAY_WORK, MIGRATION, KINDS };
@@ -21,5 +22,7 @@ uint32_t start(struct usbdisk *handle, enum kind kind);
 uint32_t state_of(struct usbdisk *handle, uint32_t wanted);
 
 void play_disk(void);
+
+void play_logs(void);
 
 #endif

@@ -6,7 +6,7 @@
 #include <string.h>
 
 /* How many sectors a start reads behind its recovery: the two first ones, and a slot. */
-enum { READS = 2 + 50 };
+enum { READS = USBDISK_LOG_END(FORMAT, 1) };
 
 static uint8_t bytes[1024];
 
@@ -78,7 +78,7 @@ static uint64_t next_sector(uint64_t read)
     uint64_t stamp = 0;
     for (unsigned i = 8; i > 0; i--)
         stamp = stamp << 8 | medium[512 + 7 + i];
-    return read < 2 ? read : 50 * (stamp % SLOTS) + read;
+    return read < 2 ? read : USBDISK_LOG_END(FORMAT, stamp % SLOTS) + read - 2;
 }
 
 /* Behind it these are read in order, as many at once as there is room for. */

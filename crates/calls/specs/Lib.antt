@@ -18,3 +18,4 @@ pub mod Idling
 pub mod State
 pub mod Storing
 pub mod Memory
+pub mod Logs

@@ -16,7 +16,7 @@ pub use exports::{
     usbdisk_version,
 };
 pub use image_exports::{usbdisk_format, usbdisk_lay_log, usbdisk_migrate};
-pub use look::usbdisk_look;
+pub use look::{usbdisk_log_of, usbdisk_look};
 pub use store_exports::{
     usbdisk_store_read, usbdisk_store_sizes, usbdisk_store_start, usbdisk_store_sync,
     usbdisk_store_write,
