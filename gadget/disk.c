@@ -9,11 +9,11 @@
 enum { STATUS = 13 }; /* bytes of a status */
 
 /* A slot of the log begins with the first sector of a record. */
-static uint64_t records_in(const struct disk *disk, uint64_t first, uint64_t count)
+static uint64_t records_in(const struct usbdisk_log *log, uint64_t first, uint64_t count)
 {
-    uint64_t size = disk->format == 1 ? 50 : 249, records = 0;
+    uint64_t records = 0;
     for (uint64_t sector = first; sector < first + count; sector++)
-        records += sector >= 2 && sector < 2 + size * disk->slots && (sector - 2) % size == 0;
+        records += sector >= 2 && sector < log->end && (sector - 2) % log->slot_sectors == 0;
     return records;
 }
 
@@ -50,7 +50,7 @@ static bool take_call(void *of)
     } else if (call->kind == USBDISK_WRITE) {
         counters->writes++;
         counters->written += call->count * 512;
-        counters->records += records_in(disk, call->sector, call->count);
+        counters->records += records_in(&disk->log, call->sector, call->count);
     } else
         counters->flushes++;
     return true;
@@ -132,6 +132,7 @@ static bool read_super(struct disk *disk)
     disk->format = layout.format;
     disk->blocks = layout.blocks;
     disk->slots = layout.slots;
+    usbdisk_log_of(layout.format, layout.slots, 1, &disk->log);
     return true;
 }
 

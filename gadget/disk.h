@@ -50,6 +50,7 @@ struct disk {
     uint64_t sectors, slots;
     uint64_t blocks; /* how many blocks the host sees */
     uint32_t format; /* 1 or 2 */
+    struct usbdisk_log log;
     uint32_t packet; /* bytes of a packet, 64 or 512; 0 while no disk is started */
     char serial[13]; /* 12 hexadecimal digits, of the path and the machine or by disk_name */
     struct counters counters;

@@ -15,13 +15,13 @@ static uint64_t wanted_sectors(const struct make_words *options, const struct pl
     if (options->size)
         return options->size / 512;
     if (options->blocks)
-        return home_of(options) + options->blocks;
+        return options->home + options->blocks;
     return place->disk.sectors;
 }
 
 static uint64_t wanted_blocks(const struct make_words *options, uint64_t sectors)
 {
-    uint64_t home = home_of(options);
+    uint64_t home = options->home;
     uint64_t blocks = sectors > home ? sectors - home : 0;
     return blocks < MOST_BLOCKS ? blocks : MOST_BLOCKS;
 }
@@ -39,7 +39,7 @@ static bool may_make(const struct make_words *options, struct place *place, uint
         return true;
     snprintf(cause, sizeof cause,
              "too small: with %" PRIu64 " slots an image has %" PRIu64 " bytes or more",
-             options->slots, (home_of(options) + 1) * 512);
+             options->slots, (options->home + 1) * 512);
     return refuse(&place->disk, STATUS_REFUSED, cause);
 }
 
@@ -51,11 +51,11 @@ static bool make(const struct make_words *options, struct place *place)
         return false;
     if (sectors > place->disk.sectors)
         return refuse(&place->disk, STATUS_REFUSED, "too small: it is shorter than that");
-    place_begin(place, home_of(options) + (options->zeroes ? blocks : 0));
+    place_begin(place, options->home + (options->zeroes ? blocks : 0));
     const struct usbdisk_plan plan = { .format = (uint32_t)options->format,
                                        .slots = options->slots,
                                        .blocks = blocks,
-                                       .home = home_of(options) };
+                                       .home = options->home };
     uint32_t fault = usbdisk_io_make(&place->device, &plan, !options->zeroes);
     if (fault)
         return refuse_image(place, fault);

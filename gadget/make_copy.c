@@ -78,7 +78,7 @@ static bool may_empty(struct place *to, bool replaces)
 
 bool import_blocks(const struct make_words *options, struct place *image, struct place *raw)
 {
-    uint64_t home = home_of(options), blocks = raw->disk.sectors;
+    uint64_t home = options->home, blocks = raw->disk.sectors;
     const struct usbdisk_plan plan = {
         .format = (uint32_t)options->format, .slots = options->slots, .blocks = blocks, .home = home
     };

@@ -121,24 +121,6 @@ static bool take_word(void *to, const char *word, const char *value)
     return read_number(value, 1, 2, &options->format);
 }
 
-/* Where the log ends. */
-static uint64_t end_of_log(const struct make_words *options)
-{
-    return 2 + (options->format == 1 ? 50 : 249) * options->slots;
-}
-
-uint64_t home_of(const struct make_words *options)
-{
-    uint64_t page = options->align / 512;
-    return (end_of_log(options) + page - 1) / page * page;
-}
-
-/* Whether home may begin there: where the log ends, or in format 2 less than a slot behind it. */
-static bool may_begin_home(const struct make_words *options)
-{
-    return home_of(options) - end_of_log(options) < (options->format == 1 ? 1 : 249);
-}
-
 /* Whether the words go together: GO_ON, or the exit status. */
 static int judge_words(const struct make_words *options)
 {
@@ -155,10 +137,18 @@ static int judge_words(const struct make_words *options)
         return refuse_word("--migrate", "goes with no other word");
     if (options->size && options->blocks)
         return refuse_word("--blocks", "does not go with --size");
-    return may_begin_home(options)
-               ? GO_ON
-               : refuse_word("--align", "no blocks begin there behind a log of so many slots: "
-                                        "other --slots or --format 2 may do");
+    return GO_ON;
+}
+
+/* Notes where home begins. Answers GO_ON, or the exit status where it may not begin there. */
+static int place_home(struct make_words *options)
+{
+    struct usbdisk_log log;
+    if (usbdisk_log_of((uint32_t)options->format, options->slots, options->align / 512, &log))
+        return refuse_word("--align", "no blocks begin there behind a log of so many slots: "
+                                      "other --slots or --format 2 may do");
+    options->home = log.home;
+    return GO_ON;
 }
 
 int read_make_words(struct make_words *options, char **words)
@@ -181,5 +171,7 @@ int read_make_words(struct make_words *options, char **words)
     static const struct command command = { usage, NULL, "-:", known, take_word };
     *options = (struct make_words){ .slots = 6, .format = 2, .align = 512 };
     int ended = read_command(&command, words, options, &options->image);
-    return ended == GO_ON ? judge_words(options) : ended;
+    if (ended == GO_ON)
+        ended = judge_words(options);
+    return ended == GO_ON ? place_home(options) : ended;
 }

@@ -1,9 +1,9 @@
 /* Carries out what the library asks of a device. */
 #include "usbdisk_carry.h"
 
-/* SHORT, LONG: blocks of the longest transfer in format 1 and in format 2. TURNS: more of them are
- * never made in the background with no call of the device, but where they come to no end. */
-enum { SHORT = 48, LONG = 240, TURNS = 34000 };
+/* More turns are never made in the background with no call of the device, but where they come to no
+ * end. */
+enum { TURNS = 34000 };
 
 void *usbdisk_carry_alloc(size_t size)
 {
@@ -70,11 +70,10 @@ static void look(struct usbdisk_carry *carry)
 
 uint32_t usbdisk_carry_begin(struct usbdisk_carry *carry, size_t most)
 {
-    size_t longest = LONG;
+    struct usbdisk_log log = { .limit = USBDISK_IO_MOST };
     look(carry);
-    if (carry->layout.format == 1)
-        longest = SHORT;
-    carry->most = most ? most : longest;
+    usbdisk_log_of(carry->layout.format, carry->layout.slots, 1, &log);
+    carry->most = most ? most : (size_t)log.limit;
     carry->buffer = usbdisk_carry_alloc(carry->most * 512);
     return carry->buffer ? usbdisk_carry_fault(carry) : USBDISK_NO_MEMORY;
 }

@@ -37,7 +37,7 @@ extern "C" {
 #endif
 
 /* How many sectors one call of your functions has at most: 120 KiB. */
-enum { USBDISK_IO_MOST = 240 };
+enum { USBDISK_IO_MOST = USBDISK_LIMIT(2) };
 
 /* The device: so many sectors of 512 bytes, and three functions, each of which is handed the
  * context. They answer false where the device refuses. What they must promise docs/MAKERS.md tells.

@@ -2,11 +2,16 @@
 #include "usbdisk_carry.h"
 #include <string.h>
 
-/* Blocks of the longest transfer in format 1. */
-enum { SHORT = 48 };
-
 /* What usbdisk_format, usbdisk_lay_log and usbdisk_migrate are. */
 typedef uint32_t usbdisk_making(struct usbdisk *image, const struct usbdisk_plan *plan);
+
+/* The plan's log. Where there is none such, which a format refuses, home is not known. */
+static struct usbdisk_log log_of(const struct usbdisk_plan *plan)
+{
+    struct usbdisk_log log = { .limit = USBDISK_IO_MOST };
+    usbdisk_log_of(plan->format, plan->slots, 1, &log);
+    return log;
+}
 
 /* Begins work on the device's image, and has the device carry it out. */
 static uint32_t work(const struct usbdisk_io_device *device, usbdisk_making *making,
@@ -15,7 +20,7 @@ static uint32_t work(const struct usbdisk_io_device *device, usbdisk_making *mak
     struct usbdisk_carry carry = { .core = USBDISK_NONE, .device = device };
     uint32_t code = making(&carry.core, plan);
     if (!code)
-        code = usbdisk_carry_begin(&carry, plan->format == 1 ? SHORT : USBDISK_IO_MOST);
+        code = usbdisk_carry_begin(&carry, (size_t)log_of(plan).limit);
     if (!code) {
         usbdisk_carry_all(&carry);
         code = usbdisk_carry_fault(&carry);
@@ -27,8 +32,7 @@ static uint32_t work(const struct usbdisk_io_device *device, usbdisk_making *mak
 /* How many blocks there is room for behind the plan's log, or from its home on. */
 static uint64_t most_blocks(const struct usbdisk_plan *plan)
 {
-    uint64_t log = 2 + (plan->format == 1 ? 50 : 249) * plan->slots;
-    uint64_t home = plan->home ? plan->home : log, most = (uint64_t)1 << 31;
+    uint64_t home = plan->home ? plan->home : log_of(plan).home, most = (uint64_t)1 << 31;
     uint64_t left = plan->sectors > home ? plan->sectors - home : 0;
     return left < most ? left : most;
 }
