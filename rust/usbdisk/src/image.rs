@@ -1,6 +1,6 @@
 //! Images on a device.
 use crate::calls::{holds, Calls, Handle, Holds, KEY};
-use crate::{sys, Device, Error, Plan, Refusal, SECTOR};
+use crate::{log_of, sys, Device, Error, Plan, Refusal, SECTOR};
 
 /// The work on an image. It tells its calls of the device ([`Calls`]), and the image is there when it is
 /// [`State::Done`](crate::State). For a device that is called at once there are [`format`](fn@format),
@@ -47,8 +47,8 @@ impl Plan {
     // On this device; 0 blocks: as many as there is room for behind the log.
     fn on<D: Device>(device: &D, format: u32, slots: u64, blocks: u64) -> Self {
         let sectors = device.sectors();
-        let slot = if format == 1 { 50 } else { 249 };
-        let home = slots.saturating_mul(slot).saturating_add(2);
+        // (of sizes that no image has, which are refused, home is not known)
+        let home = log_of(format, slots, 1).map_or(0, |log| log.home);
         let most = sectors.saturating_sub(home).min(1 << 31);
         Plan {
             sectors,

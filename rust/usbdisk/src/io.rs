@@ -1,5 +1,6 @@
 //! The disk over a device that is called at once.
-use crate::{look, Answer, Calls, Device, Disk, Error, Identity, Layout, Misuse, State, SECTOR};
+use crate::{log_of, look, Answer, Calls, Device, Disk, Error, Identity, Layout, Misuse};
+use crate::{State, SECTOR};
 
 /// What the bus brought, for [`Io::play`].
 #[derive(Debug, PartialEq, Eq)]
@@ -159,8 +160,8 @@ pub fn fitted<'b, D: Device>(
     let mut sector = [0; SECTOR];
     device.read(0, &mut sector).map_err(Error::Device)?;
     let layout = look(&sector)?;
-    let most = if layout.format == 1 { 48 } else { 240 };
-    match buffer.get_mut(..most * SECTOR) {
+    let log = log_of(layout.format, layout.slots, 1)?;
+    match buffer.get_mut(..log.limit as usize * SECTOR) {
         Some(buffer) => Ok((layout, buffer)),
         None => Err(Misuse::BadLength.into()),
     }

@@ -40,9 +40,9 @@ pub const VERSION: u32 = 0x010D00;
 /// Bytes of a sector and of a block.
 pub const SECTOR: usize = 512;
 
-/// Bytes of a buffer that suffices for every image: those of the longest transfer, 240 sectors. One of
-/// format 1 needs 48.
-pub const BUFFER: usize = 240 * SECTOR;
+/// Bytes of a buffer that suffices for every image: those of the longest transfer of format 2. One of
+/// format 1 needs fewer: [`Log::limit`] tells the sectors.
+pub const BUFFER: usize = Log::limit_of(2) * SECTOR;
 
 /// A device of sectors of 512 bytes. What it has to promise `docs/MAKERS.md` tells.
 pub trait Device {
@@ -148,6 +148,36 @@ pub struct Layout {
     pub sectors: u64,
 }
 
+/// The log of an image, and where its blocks lie behind it.
+#[repr(C)]
+#[derive(Debug, Clone, Copy, Default, PartialEq, Eq)]
+pub struct Log {
+    /// How many blocks a READ or a WRITE has at most.
+    pub limit: u64,
+    /// How many sectors a slot has; the first slot begins with sector 2.
+    pub slot_sectors: u64,
+    /// The sector behind the last slot.
+    pub end: u64,
+    /// The first sector from there on that is a multiple of a page.
+    pub home: u64,
+}
+
+impl Log {
+    /// [`Log::limit`] of this format, for the size of an array.
+    pub const fn limit_of(format: u32) -> usize {
+        if format == 1 {
+            48
+        } else {
+            240
+        }
+    }
+
+    /// [`Log::end`] of this format with so many slots, for the size of an array.
+    pub const fn end_of(format: u32, slots: u64) -> u64 {
+        2 + if format == 1 { 50 } else { 249 } * slots
+    }
+}
+
 /// What image is made. It takes `home + blocks` sectors; what lies behind them is spared.
 #[repr(C)]
 #[derive(Debug, Clone, Copy, Default, PartialEq, Eq)]
@@ -160,9 +190,8 @@ pub struct Plan {
     pub slots: u64,
     /// How many blocks a host sees, 1 to 2^31.
     pub blocks: u64,
-    /// The sector of block 0; 0 for the first behind the log: 2 + 50 * slots in format 1, and
-    /// 2 + 249 * slots in format 2. In format 2 it may be up to 248 more, so that the blocks begin where
-    /// a page of the device does.
+    /// The sector of block 0; 0 for the first behind the log, [`Log::end`]. In format 2 it may be up to
+    /// 248 more, so that the blocks begin where a page of the device does: [`Log::home`].
     pub home: u64,
 }
 
@@ -207,4 +236,14 @@ pub fn look(sector: &[u8; SECTOR]) -> Result<Layout, Refusal> {
     // SAFETY: both are lent for the call.
     Refusal::check(unsafe { sys::usbdisk_look(sector.as_ptr(), &mut layout) })?;
     Ok(layout)
+}
+
+/// The log of an image of this format with so many slots, and the first home sector where blocks have to
+/// begin at a multiple of `page` sectors. With page 1 it is the end of the log.
+/// [`Misuse::BadSizes`]: there is no such image.
+pub fn log_of(format: u32, slots: u64, page: u64) -> Result<Log, Refusal> {
+    let mut log = Log::default();
+    // SAFETY: the log is lent for the call.
+    Refusal::check(unsafe { sys::usbdisk_log_of(format, slots, page, &mut log) })?;
+    Ok(log)
 }

@@ -41,6 +41,7 @@ pub struct usbdisk_call {
 extern "C" {
     pub fn usbdisk_version() -> u32;
     pub fn usbdisk_look(sector: *const u8, layout: *mut crate::Layout) -> u32;
+    pub fn usbdisk_log_of(format: u32, slots: u64, page: u64, log: *mut crate::Log) -> u32;
     pub fn usbdisk_memory(format: u32, slots: u64) -> u64;
     pub fn usbdisk_memory_kept(format: u32, slots: u64, kept: u32) -> u64;
     pub fn usbdisk_memory_to_format(format: u32, slots: u64) -> u64;

@@ -4,11 +4,11 @@ mod common;
 
 use common::{refuse_each_call, wrapper};
 use usbdisk::{format, look, Answer, Call, Calls, Device, Disk, Error, Fault, Identity, Image};
-use usbdisk::{Misuse, Plan, Refusal, State, Store, BUFFER, SECTOR};
+use usbdisk::{Log, Misuse, Plan, Refusal, State, Store, BUFFER, SECTOR};
 
 const BLOCKS: u64 = 64;
 const SLOTS: u64 = 5;
-const SECTORS: u64 = 2 + 249 * SLOTS + BLOCKS;
+const SECTORS: u64 = Log::end_of(2, SLOTS) + BLOCKS;
 const WHO: Identity = Identity::new("EXAMPLE", "BEHIND", "0001", "000000000001");
 const READ: [u8; 10] = [0x28, 0, 0, 0, 0, 5, 0, 0, 1, 0];
 const WRITE: [u8; 10] = [0x2A, 0, 0, 0, 0, 5, 0, 0, 1, 0];
@@ -260,14 +260,14 @@ fn a_bus_reset_drops_an_answer_and_clears_the_halts() {
 #[test]
 fn a_read_waits_for_its_sectors_and_ends_where_they_are_refused() {
     let mut device = Memory::with_image(2);
-    let home = (2 + 249 * SLOTS + 5) as usize * SECTOR;
+    let home = (Log::end_of(2, SLOTS) + 5) as usize * SECTOR;
     device.bytes[home..home + SECTOR].fill(0xA5);
     let mut bench = Bench::new(&mut device, 0);
     bench.catch_up();
     assert_eq!(bench.sense(), [6, 0x29, 0]);
     let read = wrapper(512, 0x80, &READ);
     assert_eq!(bench.disk.out(&read), (Answer::Nak, 0));
-    let (sector, count) = (2 + 249 * SLOTS + 5, 1);
+    let (sector, count) = (Log::end_of(2, SLOTS) + 5, 1);
     let asked = Call::Read { sector, count };
     assert_eq!(bench.disk.next(&mut bench.buffer), Ok(asked));
     assert_eq!(bench.disk.done(true, &[0; 511]), Err(Misuse::BadLength));
@@ -285,11 +285,12 @@ fn a_read_waits_for_its_sectors_and_ends_where_they_are_refused() {
 fn sectors_are_read_ahead_of_the_read_that_lacks_them() {
     let mut device = Memory::with_image(2);
     let mut bench = Bench::new(&mut device, 0);
-    let (sector, count) = (2 + 249 * SLOTS + 5, 2);
+    let (sector, count) = (Log::end_of(2, SLOTS) + 5, 2);
     assert!(!bench.disk.ahead(sector, 2));
     bench.catch_up();
     assert_eq!(bench.sense(), [6, 0x29, 0]);
-    assert!(!bench.disk.ahead(sector, 241) && !bench.disk.ahead(SECTORS - 1, 2));
+    let over = Log::limit_of(2) as u32 + 1;
+    assert!(!bench.disk.ahead(sector, over) && !bench.disk.ahead(SECTORS - 1, 2));
     assert!(bench.disk.ahead(sector, 2));
     let asked = Call::Read { sector, count };
     assert_eq!(bench.disk.next(&mut bench.buffer), Ok(asked));
@@ -337,7 +338,7 @@ fn a_store_is_busy_until_its_device_has_done_what_it_takes() {
     assert_eq!(store.sizes(), Err(Refusal::Busy));
     assert_eq!(store.carry_out(&mut device, &mut buffer), Ok(true));
     assert_eq!(store.state(), State::Serving);
-    assert_eq!(store.sizes(), Ok((BLOCKS, 240)));
+    assert_eq!(store.sizes(), Ok((BLOCKS, Log::limit_of(2))));
     let mut found = [0; SECTOR];
     assert_eq!(store.read(7, &mut found), Err(Refusal::Busy));
     assert_eq!(store.carry_out(&mut device, &mut buffer), Ok(true));

@@ -4,12 +4,12 @@ mod common;
 
 use common::{refuse_each_call, wrapper};
 use usbdisk::{format, format_blank, lay_log, look, memory, migrate, Device, Error, Identity};
-use usbdisk::{Answer, Blocks, Event, Fault, Io, Layout, Misuse, BUFFER, SECTOR};
+use usbdisk::{Answer, Blocks, Event, Fault, Io, Layout, Log, Misuse, BUFFER, SECTOR};
 
 const BLOCKS: u64 = 64;
 const SLOTS: u64 = 5;
-const SIZE: usize = (2 + 249 * SLOTS + BLOCKS) as usize * SECTOR;
-const NEAR: usize = (2 + 249 * SLOTS) as usize * SECTOR;
+const SIZE: usize = (Log::end_of(2, SLOTS) + BLOCKS) as usize * SECTOR;
+const NEAR: usize = Log::end_of(2, SLOTS) as usize * SECTOR;
 const WHO: Identity = Identity::new("EXAMPLE", "MEMORY", "0001", "000000000001");
 
 #[derive(Debug, Clone, Copy, PartialEq)]
@@ -234,7 +234,7 @@ fn live_by_blocks(log: u32, refused: u32) -> bool {
         Ok(store) => store,
         Err(error) => return error == Error::Device(Refused),
     };
-    let limit = if log == 1 { 48 } else { 240 };
+    let limit = Log::limit_of(log);
     assert_eq!((store.blocks(), store.limit()), (BLOCKS, limit));
     let mut promised = false;
     let ended = use_store(&mut store, &mut promised);
@@ -259,7 +259,7 @@ fn a_store_keeps_what_a_sync_promised() {
 fn a_store_tells_which_blocks_cannot_be_read() {
     let (mut buffer, mut found) = ([0; BUFFER], [0; SIZE - NEAR]);
     let mut device = Memory::with_image(1);
-    let home = (2 + 50 * SLOTS) as usize * SECTOR;
+    let home = Log::end_of(1, SLOTS) as usize * SECTOR;
     device.bytes[home..].fill(0x5A);
     device.worn = home + 8 * SECTOR;
     let mut store = Blocks::start(&mut device, &mut buffer).unwrap();
@@ -276,12 +276,12 @@ fn a_store_tells_which_blocks_cannot_be_read() {
 #[test]
 fn images_are_laid_and_migrated_over_what_is_there() {
     let mut device = Memory::new();
-    device.bytes[(2 + 50 * SLOTS as usize) * SECTOR..].fill(0xA5);
+    let home = Log::end_of(1, SLOTS);
+    device.bytes[home as usize * SECTOR..].fill(0xA5);
     device.durable.copy_from_slice(&device.bytes);
     lay_log(&mut device, &mut [0; SECTOR], 1, SLOTS, BLOCKS).unwrap();
     let mut sector = [0; SECTOR];
     device.read(0, &mut sector).unwrap();
-    let home = 2 + 50 * SLOTS;
     let told = Layout {
         format: 1,
         slots: SLOTS,
@@ -380,9 +380,9 @@ fn what_does_not_fit_is_refused_by_name() {
     let bad = Some(Misuse::BadPacketSize.into());
     assert_eq!(start(&mut device, BUFFER, 63), bad);
     let mut short = Memory::with_image(1);
-    assert_eq!(start(&mut short, 48 * SECTOR, 64), None);
+    assert_eq!(start(&mut short, Log::limit_of(1) * SECTOR, 64), None);
     let bad = Some(Misuse::BadLength.into());
-    assert_eq!(start(&mut short, 48 * SECTOR - 1, 64), bad);
+    assert_eq!(start(&mut short, Log::limit_of(1) * SECTOR - 1, 64), bad);
     device.bytes[SECTOR] ^= 1;
     assert_eq!(start(&mut device, BUFFER, 512), Some(Fault::BadHead.into()));
     device.bytes[0] ^= 1;

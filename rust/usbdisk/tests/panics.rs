@@ -2,9 +2,9 @@
 //! answer, and never waits for ever.
 use std::panic::{catch_unwind, AssertUnwindSafe};
 use usbdisk::{format, Blocks, Device, Fault, Refusal, Store, BUFFER, SECTOR};
-use usbdisk::{Calls, Error, State};
+use usbdisk::{Calls, Error, Log, State};
 
-const SIZE: usize = (2 + 50 * 2 + 64) * SECTOR;
+const SIZE: usize = (Log::end_of(1, 2) as usize + 64) * SECTOR;
 
 struct Memory {
     bytes: Vec<u8>,

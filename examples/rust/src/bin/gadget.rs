@@ -1,7 +1,7 @@
 //! The program of examples/c over a device in memory: REQUEST SENSE, a WRITE with FUA, a READ, a class
 //! reset and a bus reset.
 use std::convert::Infallible;
-use usbdisk::{format, version, Answer, Device, Error, Identity, Io, BUFFER, VERSION};
+use usbdisk::{format, log_of, version, Answer, Device, Error, Identity, Io, BUFFER, VERSION};
 
 const BLOCKS: u64 = 64;
 const SLOTS: u64 = 2;
@@ -107,7 +107,8 @@ fn serve(disk: &mut Shown<'_>) -> Result<(), Error<Infallible>> {
 
 fn main() -> Result<(), Error<Infallible>> {
     assert_eq!(version(), VERSION);
-    let bytes = vec![0; 512 * (2 + 50 * SLOTS + BLOCKS) as usize];
+    let log = log_of(1, SLOTS, 1)?;
+    let bytes = vec![0; 512 * (log.home + BLOCKS) as usize];
     let mut device = Memory {
         bytes,
         sectors: 0,
@@ -124,7 +125,7 @@ fn main() -> Result<(), Error<Infallible>> {
     let (sectors, writes, flushes) = (device.sectors, device.writes, device.flushes);
     println!("all at home: {sectors} sectors by {writes} writes, {flushes} flushes");
     // Block 5 is at home, on the device.
-    let home = 512 * (2 + 50 * SLOTS as usize + 5);
+    let home = 512 * (log.home + 5) as usize;
     let is_there = device.bytes[home..home + 512] == [0xA5; 512];
     println!("the device holds what was written: {is_there}");
     Ok(())

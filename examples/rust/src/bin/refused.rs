@@ -1,7 +1,7 @@
 //! A device that refuses a call once, and a caller that goes on: a WRITE with FUA during which a call was
 //! refused is never answered good, whichever call it was, in both formats.
 use std::cell::Cell;
-use usbdisk::{format, Answer, Device, Error, Identity, Io, BUFFER};
+use usbdisk::{format, log_of, Answer, Device, Error, Identity, Io, BUFFER};
 
 const BLOCKS: u64 = 64;
 const SLOTS: u64 = 3;
@@ -118,8 +118,9 @@ fn is_there(device: &mut Memory) -> Result<bool, Error<Refused>> {
 }
 
 /// The status of the WRITE, and whether its block is there.
-fn live(log: u32, slot: u64, refused: u32) -> Result<Option<(u8, bool)>, Error<Refused>> {
-    let bytes = vec![0; 512 * (2 + slot * SLOTS + BLOCKS) as usize];
+fn live(log: u32, refused: u32) -> Result<Option<(u8, bool)>, Error<Refused>> {
+    let home = log_of(log, SLOTS, 1)?.home;
+    let bytes = vec![0; 512 * (home + BLOCKS) as usize];
     let durable = bytes.clone();
     let mut device = Memory {
         bytes,
@@ -134,9 +135,9 @@ fn live(log: u32, slot: u64, refused: u32) -> Result<Option<(u8, bool)>, Error<R
 }
 
 fn main() -> Result<(), Error<Refused>> {
-    for (log, slot) in [(1, 50), (2, 249)] {
+    for log in 1..=2 {
         let mut refused = 1;
-        while let Some((status, there)) = live(log, slot, refused)? {
+        while let Some((status, there)) = live(log, refused)? {
             println!("format {log}, call {refused} refused: status {status}");
             assert!(
                 status != GOOD || there,
