@@ -111,12 +111,15 @@ void start_disk(struct host *host)
         .packet = 512,
         .kept = host->kept,
     };
-    host->sectors = 2 + (host->format == 1 ? 50 : 249) * host->slots + BLOCKS;
+    struct usbdisk_log log;
+    if (usbdisk_log_of(host->format, host->slots, 1, &log))
+        fail("no such image");
+    host->sectors = log.home + BLOCKS;
+    host->limit = (uint32_t)log.limit;
     host->device = malloc(512 * host->sectors);
     if (!host->device ||
         format_memory(host->device, 512 * host->sectors, host->format, BLOCKS, host->slots))
         fail("no image");
-    host->limit = host->format == 1 ? 48 : MOST;
     options.sectors = host->sectors;
     if (host->is_store ? usbdisk_store_start(&host->disk, &options)
                        : usbdisk_start(&host->disk, &options))

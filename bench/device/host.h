@@ -4,7 +4,7 @@
 
 #include "usbdisk.h"
 
-enum { BLOCKS = 60000, MOST = 240 };
+enum { BLOCKS = 60000, MOST = USBDISK_LIMIT(2) };
 
 struct host {
     struct usbdisk disk;

@@ -169,7 +169,7 @@ uint32_t WRAP(next)(struct usbdisk *disk, struct usbdisk_call *call, uint8_t *bu
 /* What a READ of a host is told to hold. */
 static const uint8_t *told_bytes(const struct spy *it, const uint8_t *bytes, size_t size)
 {
-    static uint8_t mixed[240 * 512];
+    static uint8_t mixed[USBDISK_LIMIT(2) * 512];
     const struct usbdisk_call *ahead = &it->ahead;
     if (PLANTED != 21 || it->is_ahead || !meets_ahead(it, &it->call) || !size)
         return bytes;
@@ -318,7 +318,7 @@ uint32_t WRAP(ahead)(struct usbdisk *disk, uint64_t first, uint32_t count)
 {
     struct spy *it = spy_of(disk);
     if (PLANTED == 23)
-        return count > 0 && count <= 48 && it->rests;
+        return count > 0 && count <= USBDISK_LIMIT(1) && it->rests;
     uint32_t answer = REAL(ahead)(disk, first, count);
     if (answer != 1)
         return answer;

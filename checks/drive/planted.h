@@ -58,7 +58,7 @@ struct spy {
     bool owes;      /* a status was given that the library still holds */
     /* sectors that were read ahead, and their bytes */
     struct usbdisk_call ahead;
-    uint8_t ahead_bytes[240 * 512];
+    uint8_t ahead_bytes[USBDISK_LIMIT(2) * 512];
     bool is_ahead, is_ahead_lost;
     struct taken queue[64];
     size_t oldest, queued;

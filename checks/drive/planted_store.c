@@ -48,7 +48,7 @@ uint32_t WRAP(next)(struct usbdisk *store, struct usbdisk_call *call, uint8_t *b
 
 uint32_t WRAP(done)(struct usbdisk *store, bool ok, const uint8_t *bytes, size_t size)
 {
-    static uint8_t kept[240 * 512];
+    static uint8_t kept[USBDISK_LIMIT(2) * 512];
     bool is_read = kind == USBDISK_READ && ok, is_taken = PLANTED == 2 && kind != USBDISK_READ;
     uint32_t fault;
     bool is_old = PLANTED == 6 && is_read && ++reads % 8 == 0 &&

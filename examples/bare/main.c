@@ -6,7 +6,7 @@
 #include <machine.h>
 
 /* A transfer of a host has up to LIMIT blocks, and they lie from sector HOME on. */
-enum { LIMIT = FORMAT == 1 ? 48 : 240, HOME = 2 + (FORMAT == 1 ? 50 : 249) * SLOTS };
+enum { LIMIT = USBDISK_LIMIT(FORMAT), HOME = USBDISK_LOG_END(FORMAT, SLOTS) };
 
 static const struct usbdisk_identity who = { "EXAMPLE ", "BARE            ", "0001",
                                              "000000000001" };

@@ -9,8 +9,8 @@ enum {
     BLOCKS = 300,
     MOST = 40,
     MOST_SLOTS = 6,
-    SECTORS = 2 + 249 * MOST_SLOTS + BLOCKS,
-    LONGEST = 240,
+    SECTORS = USBDISK_LOG_END(2, MOST_SLOTS) + BLOCKS,
+    LONGEST = USBDISK_LIMIT(2),
     MENDS = 64 /* so many sectors are read at a time while the image is recovered, at most */
 };
 

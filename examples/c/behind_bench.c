@@ -60,15 +60,15 @@ static struct usbdisk_call next_of_start(const struct bench *bench)
 {
     const uint8_t *super = bench->device.now, *head = super + 512;
     struct usbdisk_layout layout;
+    struct usbdisk_log log = { 0 }; /* that ends with the slot */
     uint64_t stamp = 0, read = bench->opened;
     if (read < 2 || usbdisk_look(super, &layout))
         return (struct usbdisk_call){ USBDISK_READ, read, 2 - read };
     for (unsigned i = 8; i > 0; i--)
         stamp = stamp << 8 | head[7 + i];
-    uint64_t slot = stamp % layout.slots, more = read - 2;
-    if (layout.format == 1)
-        return (struct usbdisk_call){ USBDISK_READ, 2 + 50 * slot + more, 50 - more };
-    return (struct usbdisk_call){ USBDISK_READ, 2 + 249 * slot + 248, 1 - more };
+    usbdisk_log_of(layout.format, stamp % layout.slots + 1, 1, &log);
+    uint64_t count = (layout.format == 1 ? log.slot_sectors : 1) - (read - 2);
+    return (struct usbdisk_call){ USBDISK_READ, log.end - count, count };
 }
 
 /* Whether a start is to read these: its recovery reads a few sectors ahead. */

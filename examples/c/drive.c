@@ -7,14 +7,14 @@
 #include <stdlib.h>
 #include <string.h>
 
-enum { SLOTS = 6, BLOCKS = 60000, SECTORS = 2 + 249 * SLOTS + BLOCKS, WARM = 60 };
+enum { SLOTS = 6, BLOCKS = 60000, SECTORS = USBDISK_LOG_END(2, SLOTS) + BLOCKS, WARM = 60 };
 
 struct maker {
     struct usbdisk disk;
     struct device device;
     struct host host;
-    struct usbdisk_call call;  /* under way, or none */
-    uint8_t buffer[240 * 512]; /* of that call */
+    struct usbdisk_call call;       /* under way, or none */
+    uint8_t buffer[TRANSFER * 512]; /* of that call */
 };
 
 /* The device has ended its call, or is at none: it takes the next one, where there is one. This

@@ -41,7 +41,7 @@ void device_wait(struct device *device);
 
 /* ---- the host: WRITEs of 120 KiB, packet by packet */
 
-enum { PACKET = 512, TRANSFER = 240 };
+enum { PACKET = 512, TRANSFER = USBDISK_LIMIT(2) };
 
 struct host {
     uint32_t writes, written,

@@ -24,15 +24,17 @@ static struct usbdisk_options options = {
     .packet = 512,
 };
 
-static uint64_t home_of(uint32_t format, uint64_t slots)
+static struct usbdisk_log log_of(uint32_t format, uint64_t slots)
 {
-    return 2 + (format == 1 ? 50 : 249) * slots;
+    struct usbdisk_log log = { 0 };
+    usbdisk_log_of(format, slots, 1, &log);
+    return log;
 }
 
 /* An image in memory stands for the device. */
 static void make_device(uint32_t format, uint64_t slots)
 {
-    options.sectors = home_of(format, slots) + BLOCKS;
+    options.sectors = log_of(format, slots).home + BLOCKS;
     medium = malloc(512 * options.sectors);
     if (!medium || format_memory(medium, 512 * options.sectors, format, BLOCKS, slots))
         exit(EXIT_FAILURE);
@@ -41,7 +43,7 @@ static void make_device(uint32_t format, uint64_t slots)
 /* The same with so many blocks: no start reads one of them. */
 static void have_blocks(uint32_t format, uint64_t slots, uint64_t blocks)
 {
-    options.sectors = home_of(format, slots) + blocks;
+    options.sectors = log_of(format, slots).home + blocks;
     for (int i = 0; i < 8; i++)
         medium[BLOCKS_AT + i] = (uint8_t)(blocks >> 8 * i);
 }
@@ -72,7 +74,8 @@ static bool serves_in(struct usbdisk *handle, const char *what, uint32_t format,
     bool good = usbdisk_state(handle, &fault) == USBDISK_SERVING;
     if (!good)
         printf("%s: it does not serve, fault %u\n", what, fault);
-    good &= are_taken(what, told, told, told + RECOVERY + 512 * (format == 1 ? 50 : 1));
+    uint64_t read = format == 1 ? log_of(format, 1).slot_sectors : 1;
+    good &= are_taken(what, told, told, told + RECOVERY + 512 * read);
     usbdisk_stop(handle);
     return good && heap_blocks == 0;
 }
@@ -137,7 +140,7 @@ static bool takes(begin work, const struct usbdisk_plan *plan, const char *what,
 /* What a format, a laying and a migration take. */
 static bool is_work_told(uint32_t format, uint64_t slots, uint64_t between)
 {
-    uint64_t home = home_of(format, slots) + between, sectors = home + BLOCKS;
+    uint64_t home = log_of(format, slots).home + between, sectors = home + BLOCKS;
     const struct usbdisk_plan plan = { sectors, format, slots, BLOCKS, home };
     uint64_t made = usbdisk_memory_to_format(format, slots);
     uint64_t moved =

@@ -8,7 +8,8 @@
 #include <stdlib.h>
 #include <string.h>
 
-enum { BLOCKS = 150, SLOTS = 2, LOG_END = 2 + 249 * SLOTS, PAGE = 512, FURTHEST = LOG_END + 248 };
+enum { BLOCKS = 150, SLOTS = 2, LOG_END = USBDISK_LOG_END(2, SLOTS), PAGE = 512 };
+enum { FURTHEST = USBDISK_LOG_END(2, SLOTS + 1) - 1 };
 enum { SECTORS = FURTHEST + BLOCKS + 9, BEHIND = 0xAA };
 
 /* What a work is made by: usbdisk_format or usbdisk_lay_log. */
@@ -19,8 +20,9 @@ static uint64_t blocks = BLOCKS, given;
 
 static uint64_t home_of(uint32_t format)
 {
-    uint64_t slot = format == 1 ? 50 : 249;
-    return given ? given : 2 + slot * SLOTS;
+    struct usbdisk_log log = { 0 };
+    usbdisk_log_of(format, SLOTS, 1, &log);
+    return given ? given : log.home;
 }
 
 static bool are_zeros(uint64_t first, uint64_t end)
@@ -50,7 +52,7 @@ static void carry_out(const struct usbdisk_call *call, const uint8_t *bytes)
  * `room` sectors. How many there were; -1 where it is not done. */
 static int make(making *making, uint32_t format, int most, size_t room)
 {
-    static uint8_t bytes[240 * 512];
+    static uint8_t bytes[USBDISK_LIMIT(2) * 512];
     const struct usbdisk_plan plan = { SECTORS, format, SLOTS, blocks, given };
     struct usbdisk image = USBDISK_NONE;
     struct usbdisk_call call;
@@ -115,7 +117,7 @@ static bool is_cut_well(making *making, uint32_t format, int calls)
 static bool is_same_by_runs(making *making, uint32_t format)
 {
     memcpy(now, device, sizeof device);
-    for (size_t room = 2; room <= 240; room += 17) {
+    for (size_t room = 2; room <= USBDISK_LIMIT(2); room += 17) {
         memcpy(device, kept, sizeof device);
         if (make(making, format, -1, room) < 1 || memcmp(device, now, sizeof device))
             return false;
@@ -129,7 +131,7 @@ static size_t memory_of(making *making, uint32_t format, uint64_t count)
     memcpy(device, kept, sizeof device);
     heap_most = heap_now;
     blocks = count;
-    bool good = make(making, format, -1, 240) > 0;
+    bool good = make(making, format, -1, USBDISK_LIMIT(2)) > 0;
     blocks = BLOCKS;
     return good ? heap_most - heap_now : 0;
 }
@@ -138,7 +140,7 @@ static size_t memory_of(making *making, uint32_t format, uint64_t count)
 static void keep_other(uint32_t format)
 {
     memset(device, BEHIND, sizeof device);
-    make(usbdisk_format, 3 - format, -1, 240);
+    make(usbdisk_format, 3 - format, -1, USBDISK_LIMIT(2));
     memset(device[home_of(1)], BEHIND, 512 * 7);
     memcpy(kept, device, sizeof device);
 }
@@ -166,8 +168,8 @@ static bool are_refused(making *making)
 {
     const struct usbdisk_plan bad[] = {
         { SECTORS, 1, SLOTS, BLOCKS, 1 },
-        { SECTORS, 1, SLOTS, BLOCKS, 2 + 50 * SLOTS - 1 },
-        { SECTORS, 1, SLOTS, BLOCKS, 2 + 50 * SLOTS + 1 },
+        { SECTORS, 1, SLOTS, BLOCKS, USBDISK_LOG_END(1, SLOTS) - 1 },
+        { SECTORS, 1, SLOTS, BLOCKS, USBDISK_LOG_END(1, SLOTS) + 1 },
         { SECTORS, 2, SLOTS, BLOCKS, LOG_END - 1 },
         { SECTORS, 2, SLOTS, BLOCKS, FURTHEST + 1 },
         { SECTORS, 2, SLOTS, BLOCKS + 10, FURTHEST },
@@ -185,7 +187,7 @@ int main(void)
     bool good = are_refused(usbdisk_format) && are_refused(usbdisk_lay_log);
     for (uint32_t format = 1; format <= 2; format++)
         good &= play(usbdisk_format, format, 0) && play(usbdisk_lay_log, format, 0);
-    good &= play(usbdisk_format, 1, 2 + 50 * SLOTS) && play(usbdisk_lay_log, 2, LOG_END);
+    good &= play(usbdisk_format, 1, USBDISK_LOG_END(1, SLOTS)) && play(usbdisk_lay_log, 2, LOG_END);
     good &= play(usbdisk_format, 2, PAGE) && play(usbdisk_lay_log, 2, PAGE);
     good &= play(usbdisk_format, 2, FURTHEST) && play(usbdisk_lay_log, 2, FURTHEST);
     printf("%s, %zu blocks of memory left\n", good ? "good at each cut" : "WRONG", heap_blocks);

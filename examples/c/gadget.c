@@ -7,7 +7,8 @@
 #include <stdlib.h>
 #include <unistd.h>
 
-enum { FORMAT = 1, BLOCKS = 64, SLOTS = 2, PACKET = 512, SECTORS = 2 + 50 * SLOTS + BLOCKS };
+enum { FORMAT = 1, BLOCKS = 64, SLOTS = 2, PACKET = 512 };
+enum { SECTORS = USBDISK_LOG_END(FORMAT, SLOTS) + BLOCKS };
 
 static const struct usbdisk_identity who = { "EXAMPLE ", "IMAGE FILE      ", "0001",
                                              "000000000001" };

@@ -14,7 +14,7 @@
 enum {
     BLOCKS = 300,
     SLOTS = 3,
-    SECTORS = 2 + 249 * SLOTS + BLOCKS,
+    SECTORS = USBDISK_LOG_END(2, SLOTS) + BLOCKS,
     ROOM = 60 * 512,
     EVENTS = 1000
 };

@@ -12,8 +12,8 @@
 #include <stdlib.h>
 #include <string.h>
 
-enum { BLOCKS = 90, SLOTS = 5, SECTORS = 2 + 249 * SLOTS + BLOCKS, HANDLES = 3, MOST = 240 };
-enum { MARK = 0xB7 };
+enum { BLOCKS = 90, SLOTS = 5, SECTORS = USBDISK_LOG_END(2, SLOTS) + BLOCKS };
+enum { HANDLES = 3, MOST = USBDISK_LIMIT(2), MARK = 0xB7 };
 
 /* A handle, and what was told of it. */
 struct held {

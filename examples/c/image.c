@@ -4,7 +4,7 @@
 
 bool carry_one(struct usbdisk *it, uint8_t *medium, struct usbdisk_call *call)
 {
-    static uint8_t buffer[240 * 512];
+    static uint8_t buffer[USBDISK_LIMIT(2) * 512];
     *call = (struct usbdisk_call){ .kind = USBDISK_NOTHING };
     if (usbdisk_next(it, call, buffer, sizeof buffer) || call->kind == USBDISK_NOTHING)
         return false;

@@ -16,7 +16,8 @@
 #include <stdlib.h>
 #include <string.h>
 
-enum { BLOCKS = 40, SLOTS = 3, MOST = 4, WRITES = 400, SECTORS = 2 + 249 * SLOTS + BLOCKS + 3 };
+enum { BLOCKS = 40, SLOTS = 3, SECTORS = USBDISK_LOG_END(2, SLOTS) + BLOCKS + 3 };
+enum { MOST = 4, WRITES = 400 };
 #ifndef JUDGED
 #define JUDGED "a device"
 #endif
@@ -234,7 +235,9 @@ static bool finds_what_it_may(void)
 /* The device has some sectors more than an image of this format. */
 static uint64_t sectors_of(uint32_t format)
 {
-    return 2 + (format == 1 ? 50 : 249) * SLOTS + BLOCKS;
+    struct usbdisk_log log = { 0 };
+    usbdisk_log_of(format, SLOTS, 1, &log);
+    return log.home + BLOCKS;
 }
 
 /* The sectors behind the image hold what they held before the format. */

@@ -3,7 +3,7 @@
 #include "device.h"
 #include "draw.h"
 
-enum { LONGEST = 240 };
+enum { LONGEST = USBDISK_LIMIT(2) };
 
 uint64_t seed;
 long left;

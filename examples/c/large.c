@@ -82,7 +82,7 @@ static bool flush(void *context)
     return !is_cut();
 }
 
-static const struct usbdisk_io_device device = { NULL,     BLOCKS + 2 + 249 * SLOTS,
+static const struct usbdisk_io_device device = { NULL,     BLOCKS + USBDISK_LOG_END(2, SLOTS),
                                                  read_run, write_run,
                                                  flush,    0 };
 
@@ -176,10 +176,14 @@ static bool cuts(uint32_t format, int most, int one, int other)
  * brings it there. */
 static bool serves_a_page(void)
 {
-    const struct usbdisk_plan plan = { .format = 2, .slots = SLOTS - 1, .home = 1024 };
+    struct usbdisk_plan plan = { .format = 2, .slots = SLOTS - 1 };
+    struct usbdisk_log log;
     struct usbdisk_io *io;
     uint8_t block[512];
     memset(block, 0xC3, 512);
+    if (usbdisk_log_of(plan.format, plan.slots, 128, &log))
+        return false;
+    plan.home = log.home;
     if (usbdisk_io_make(&device, &plan, true) || usbdisk_io_start(&io, &device, &who, 512))
         return false;
     bool good = sense_of(io) == 0x062900 && move_block(io, block, true);
@@ -193,9 +197,9 @@ int main(void)
     uint8_t block[512];
     /* The last block is at home behind a log of format 1, and that of another image too. */
     memset(block, 0x5A, 512);
-    write_sector(2 + 50 * SLOTS + BLOCKS - 1, block);
+    write_sector(USBDISK_LOG_END(1, SLOTS) + BLOCKS - 1, block);
     printf("a log of format 1: %s\n",
-           cuts(1, 2 + 50 * SLOTS + 5, -1, 0x5A) ? "good at each cut" : "WRONG");
+           cuts(1, USBDISK_LOG_END(1, SLOTS) + 5, -1, 0x5A) ? "good at each cut" : "WRONG");
     printf("as one of format 2: %d calls\n", make(2, -1));
     printf("the last block then: %d\n", found());
     int made = make(1, -1);
@@ -210,7 +214,7 @@ int main(void)
     usbdisk_io_stop(io);
     printf("a block is written: %s\n", good ? "yes" : "no");
     printf("a migration: %s\n",
-           cuts(0, 50 * SLOTS + 20, 0xA5, 0xA5) ? "good at each cut" : "WRONG");
+           cuts(0, USBDISK_LOG_END(1, SLOTS) + 18, 0xA5, 0xA5) ? "good at each cut" : "WRONG");
     good = serves_a_page() && good;
     printf("home at a page: %s\n", good ? "a disk serves" : "WRONG");
     printf("%zu blocks of memory left\n", heap_blocks);

@@ -8,7 +8,7 @@
 #include <stdlib.h>
 #include <string.h>
 
-enum { BLOCKS = 64, SLOTS = 5, SECTORS = 2 + 249 * SLOTS + BLOCKS, TO_HOST = 0x80 };
+enum { BLOCKS = 64, SLOTS = 5, SECTORS = USBDISK_LOG_END(2, SLOTS) + BLOCKS, TO_HOST = 0x80 };
 enum { GOOD = 0, FAILED = 1, PLACE = 5, OLD = 0x11, SYNCED = 0x22, FORCED = 0x33 };
 enum kind { NONE, READ, WRITE, FLUSH };
 

@@ -8,8 +8,8 @@
 #include <stdlib.h>
 #include <string.h>
 
-enum { BLOCKS = 500, SLOTS = 2, COUNT = 40, PAINT = 0x5A, STACK = 1 << 20, MOST = 240 };
-enum { DATA_IN = 0x80 };
+enum { BLOCKS = 500, SLOTS = 2, COUNT = 40, PAINT = 0x5A, STACK = 1 << 20 };
+enum { DATA_IN = 0x80, MOST = USBDISK_LIMIT(2) };
 
 /* An image in memory stands for the device. */
 struct device {
@@ -67,7 +67,10 @@ static const uint8_t zeros[COUNT * 512];
 
 static bool make_device(struct device *device, uint32_t format)
 {
-    device->sectors = 2 + (format == 1 ? 50 : 249) * SLOTS + BLOCKS;
+    struct usbdisk_log log;
+    if (usbdisk_log_of(format, SLOTS, 1, &log))
+        return false;
+    device->sectors = log.home + BLOCKS;
     device->bytes = malloc(512 * device->sectors);
     if (!device->bytes)
         return false;

@@ -13,7 +13,7 @@
 #endif
 
 /* SPAN: how many blocks the stack's buffer has. */
-enum { BLOCKS = 200, SLOTS = 4, SECTORS = 2 + 249 * SLOTS + BLOCKS, SPAN = 8 };
+enum { BLOCKS = 200, SLOTS = 4, SECTORS = USBDISK_LOG_END(2, SLOTS) + BLOCKS, SPAN = 8 };
 
 static const struct usbdisk_identity who = { "EXAMPLE ", "POWER SAFE DISK ", "0001",
                                              "000000000001" };

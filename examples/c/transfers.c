@@ -10,9 +10,10 @@
 enum {
     BLOCKS = 600,
     SLOTS = 3,
-    SECTORS = 2 + 249 * SLOTS + BLOCKS,
+    SECTORS = USBDISK_LOG_END(2, SLOTS) + BLOCKS,
     TO_HOST = 0x80,
-    ROOM = 48 * 512
+    MOST = USBDISK_LIMIT(1),
+    ROOM = MOST * 512
 };
 
 static const struct usbdisk_identity who = { "EXAMPLE ", "TRANSFERS       ", "0001",
@@ -80,10 +81,11 @@ static void attend(struct usbdisk_io *io)
 static struct usbdisk_io *start(uint32_t packet)
 {
     struct usbdisk_layout layout;
+    struct usbdisk_log log;
     struct usbdisk_io *io = NULL;
     must(!usbdisk_look(device[0], &layout), "no image");
-    size_t most = layout.format == 1 ? 48 : 240;
-    size_t told = usbdisk_memory_kept(layout.format, layout.slots, memory.kept) + 512 * most;
+    must(!usbdisk_log_of(layout.format, layout.slots, 1, &log), "its log");
+    size_t told = usbdisk_memory_kept(layout.format, layout.slots, memory.kept) + 512 * log.limit;
     heap_most = heap_now;
     must(!usbdisk_io_start(&io, &memory, &who, packet), "a start");
     must(heap_now > told && heap_now < told + 256 && heap_most == heap_now, "its memory");
@@ -94,8 +96,8 @@ static struct usbdisk_io *start(uint32_t packet)
 /* Data that comes and goes in parts, as long as a controller's buffer. */
 static void play_parts(struct usbdisk_io *io, uint32_t packet)
 {
-    static const uint8_t command[10] = { 0x2A, 8, [5] = 9, [8] = 48 },
-                         back[10] = { 0x28, [5] = 9, [8] = 48 };
+    static const uint8_t command[10] = { 0x2A, 8, [5] = 9, [8] = MOST },
+                         back[10] = { 0x28, [5] = 9, [8] = MOST };
     size_t moved, part = 3 * packet;
     for (size_t i = 0; i < ROOM; i++)
         data[i] = (uint8_t)(i * 7 + i / 512);
@@ -185,13 +187,13 @@ static void play_events(struct usbdisk_io *io)
     must(usbdisk_io_play(io, &idle) == USBDISK_NAK, "more is left than nothing");
 }
 
-/* READs of 48 blocks, one behind the other: from the third on nothing is left to read when one
- * comes. */
+/* The longest READs of format 1, one behind the other: from the third on nothing is left to read
+ * when one comes. */
 static void play_ahead(struct usbdisk_io *io)
 {
     unsigned waited = 0;
-    for (unsigned at = 0; at < 480; at += 48) {
-        uint8_t command[10] = { 0x28, [4] = (uint8_t)(at >> 8), (uint8_t)at, [8] = 48 };
+    for (unsigned at = 0; at < 10 * MOST; at += MOST) {
+        uint8_t command[10] = { 0x28, [4] = (uint8_t)(at >> 8), (uint8_t)at, [8] = MOST };
         size_t moved;
         unsigned before = reads;
         must(!ask(io, command, TO_HOST, ROOM) && !usbdisk_io_in(io, data, ROOM, &moved), "a READ");

@@ -14,7 +14,8 @@
 #define WAITS_FOR_SYNC 0
 #endif
 
-enum { SLOTS = 4, BLOCKS = 600, SECTORS = 2 + 249 * SLOTS + BLOCKS, SPAN = 8, LONG = 300 };
+enum { SLOTS = 4, BLOCKS = 600, SECTORS = USBDISK_LOG_END(2, SLOTS) + BLOCKS };
+enum { SPAN = 8, LONG = 300 };
 
 static void must(bool good, const char *what)
 {

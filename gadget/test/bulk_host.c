@@ -11,7 +11,8 @@
 #include <stdlib.h>
 #include <string.h>
 
-enum { MOST = 240 * 512, STALLED = -1, NOTHING = -2, PATIENCE = 64 };
+enum { LONGEST = USBDISK_LIMIT(2), MOST = LONGEST * 512 };
+enum { STALLED = -1, NOTHING = -2, PATIENCE = 64 };
 
 struct disk disk;
 static struct bulk bulk;
@@ -233,7 +234,7 @@ static void read_on(void)
 static void round_of(void)
 {
     static const uint8_t ready[6] = { 0 }, sense[6] = { 3, 0, 0, 0, 18, 0 }, unknown[6] = { 0xEE };
-    uint32_t count = 1 + below(240), address = below(2049 - count), what = below(13);
+    uint32_t count = 1 + below(LONGEST), address = below(2049 - count), what = below(13);
     if (what < 4)
         transfer(0x2A, address, count, count * 512);
     else if (what < 8)

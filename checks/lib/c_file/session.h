@@ -7,7 +7,8 @@
 #include <stdlib.h>
 #include <string.h>
 
-enum { BLOCKS = 300, SECTORS = 2 + 249 * 4 + BLOCKS, RUN = 48, PENDING = 4096, LOG = 4096 };
+enum { BLOCKS = 300, SECTORS = USBDISK_LOG_END(2, 4) + BLOCKS };
+enum { RUN = 48, PENDING = 4096, LOG = 4096 };
 
 static uint64_t state;
 static uint32_t below(uint32_t most)
@@ -99,7 +100,7 @@ static void device_end(void)
 {
     if (call.kind == USBDISK_NOTHING)
         return;
-    static uint8_t read[240 * 512];
+    static uint8_t read[USBDISK_LIMIT(2) * 512];
     size_t size = 0;
     if (call.kind == USBDISK_WRITE) {
         for (uint32_t i = 0; i < call.count; i++)
