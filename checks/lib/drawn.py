@@ -9,7 +9,7 @@ import tempfile
 from lib import exchanges
 from lib.images.tool import opened
 from lib.programs import write_file
-from lib.standing import MOST_BLOCKS, SECTOR, SLOT_SECTORS, standing
+from lib.standing import MOST_BLOCKS, SECTOR, SLOT_SECTORS, end_of_log, standing
 
 # The most slots of a log, blocks of an image, and blocks of one that is compared whole; the most sectors that `usbdisk` plays on.
 SLOTS, BLOCKS, WHOLE, PLAYED = 64, 1 << 31, 1 << 12, 65536
@@ -65,7 +65,7 @@ class Drawn:
         self.draw, self.slots, self.kind = draw, slots, kind
         most = most if draw.random() < 0.25 else min(most, WHOLE)
         self.blocks = min(most, int(2 ** draw.uniform(0, most.bit_length() - 1)))
-        self.home, self.byte = 2 + slots * SLOT_SECTORS[kind], 0
+        self.home, self.byte = end_of_log(kind, slots), 0
         self.plain, self.written = None, {}
         self.others = {0, draw.randrange(self.blocks), self.blocks - 1}
 
@@ -100,7 +100,7 @@ class Drawn:
 
     def write(self, is_forced=True):
         """A write of some blocks, which is laid over what was there: its lines, and what is answered."""
-        most = min(self.blocks, MOST_BLOCKS[self.kind], self.draw.choice((1, 3, 8, 240)))
+        most = min(self.blocks, MOST_BLOCKS[self.kind], self.draw.choice((1, 3, 8, MOST_BLOCKS[2])))
         count = self.draw.randint(1, most)
         place = self.draw.randint(0, min(self.blocks - count, self.draw.choice((7, BLOCKS))))
         self.byte = self.byte % 255 + 1

@@ -8,6 +8,11 @@ SLOT_SECTORS, MOST_BLOCKS = {1: 50, 2: 249}, {1: 48, 2: 240}
 SUPER, HEAD = b"RDSUPER1", b"RDHEAD01"
 
 
+def end_of_log(kind, slots):
+    """The first sector behind a log, where home begins if nothing else is asked for."""
+    return 2 + SLOT_SECTORS[kind] * slots
+
+
 def numbers_in(sector, count):
     """So many numbers behind the mark of a sector."""
     return [int.from_bytes(sector[8 + 8 * it : 16 + 8 * it], "little") for it in range(count)]

@@ -7,8 +7,10 @@ page gives back all."""
 import collections
 import sys
 
+from standing import MOST_BLOCKS
+
 # In bytes, by the format: what a store takes whatever its log, for each slot, for each record that it keeps, and what a disk takes besides.
-FIXED, SLOT, KEPT, TRANSFER = {1: 51456, 2: 257280}, {1: 2312, 2: 5776}, {1: 26952, 2: 128720}, {1: 48 * 512, 2: 240 * 512}
+FIXED, SLOT, KEPT, TRANSFER = {1: 51456, 2: 257280}, {1: 2312, 2: 5776}, {1: 26952, 2: 128720}, {kind: 512 * most for kind, most in MOST_BLOCKS.items()}
 # What a script of the page takes at most, and in all: whatever its sizes, for each slot, and for each block.
 PAGE = {1: ((188704, 105512, 2576), (189728, 131112, 4112)), 2: ((394528, 519712, 2576), (395552, 647200, 4112))}
 # How many starts there are of each kind.

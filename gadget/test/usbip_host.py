@@ -11,11 +11,18 @@ import time
 DEVICE = 0x00010002
 IN, OUT = 1, 2
 STALLED, UNLINKED, CUT_SHORT, OVERFLOWED = -32, -104, -121, -75
+# How many sectors a slot has, and how many blocks a record of it, by the format (docs/FORMAT.md).
+SLOT_SECTORS, MOST_BLOCKS = {1: 50, 2: 249}, {1: 48, 2: 240}
+
+
+def end_of_log(kind, slots):
+    """The first sector behind a log."""
+    return 2 + SLOT_SECTORS[kind] * slots
 
 
 def make_image(path, kind, blocks, slots, tail=0):
     """A fresh image of this format, as docs/FORMAT.md says: a head, a super, and zeros."""
-    home = 2 + (50 if kind == 1 else 249) * slots
+    home = end_of_log(kind, slots)
     with open(path, "wb") as file:
         file.truncate((home + blocks + tail) * 512)
         file.write(b"RDSUPER1" + struct.pack("<5Q", kind, blocks, slots, 2, home))

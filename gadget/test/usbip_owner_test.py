@@ -14,7 +14,7 @@ import subprocess
 import sys
 import time
 
-from usbip_host import IN, OUT, Gone, Host, Server, attached, make_image
+from usbip_host import IN, OUT, Gone, Host, Server, attached, end_of_log, make_image
 from usbip_run import BLOCKS, PROGRAM, SLOTS, TooLate, again, ends_well, in_time, pattern, play, refused, served
 
 ENDS = (signal.SIGHUP, signal.SIGINT, signal.SIGQUIT, signal.SIGTERM)
@@ -434,7 +434,7 @@ def it_starts_on_records_that_do_not_fit_each_other():
             file.seek(home * 512)
             file.write(pattern(1, BLOCKS))
             for stamp in stamps:
-                file.seek((2 + 249 * (stamp % SLOTS)) * 512)
+                file.seek(end_of_log(2, stamp % SLOTS) * 512)
                 file.write(torn_record(stamp))
         for turn in (1, 2):
             server = again()

@@ -13,7 +13,7 @@ import struct
 import subprocess
 import time
 
-from usbip_host import CUT_SHORT, IN, OUT, OVERFLOWED, STALLED, UNLINKED, Gone, Host, Server, attached, make_image
+from usbip_host import CUT_SHORT, IN, MOST_BLOCKS, OUT, OVERFLOWED, STALLED, UNLINKED, Gone, Host, Server, attached, end_of_log, make_image
 from usbip_run import BLOCKS, FOLDER, MESSAGES, PROGRAM, SLOTS, again, ends_well, in_time, pattern, play, refused, served
 
 
@@ -77,7 +77,7 @@ def it_keeps_blocks(kind, *words):
     assert status == 0 and data[8:32] == b"USBDISK POWER SAFE DISK ", data
     status, data = host.command(bytes([0x25]) + bytes(9), size=8)
     assert status == 0 and struct.unpack(">II", data) == (BLOCKS - 1, 512)
-    most = 48 if kind == 1 else 240
+    most = MOST_BLOCKS[kind]
     for number, (address, count) in enumerate([(0, 1), (7, most), (BLOCKS - most, most), (0, 3), (100, most)]):
         data = pattern(number, count)
         assert host.write(address, data) == 0
@@ -287,7 +287,7 @@ def it_refuses_by_name():
     refused(3, "sector 1")
     patched(520, b"\xff" * 7 + b"\x7f")
     refused(3, "stamps")
-    for length in (0, 511, 700, 512, 1024, 512 * 300, 512 * (2 + 249 * SLOTS + BLOCKS - 1)):
+    for length in (0, 511, 700, 512, 1024, 512 * 300, 512 * (end_of_log(2, SLOTS) + BLOCKS - 1)):
         patched(0, b"R")
         os.truncate("disk.img", length)
         refused(3, "no image" if length % 512 or not length else "the sizes in sector 0 do not fit")

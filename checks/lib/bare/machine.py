@@ -8,9 +8,10 @@ import subprocess
 import time
 
 from lib.bare.device import Cut, Device, Server, place_of
+from lib.standing import end_of_log
 
 # The device is so long, and the power goes at one of so many calls of it, or of a start.
-SECTORS, CALLS = 2 + 249 * 3 + 64, 100
+SECTORS, CALLS = end_of_log(2, 3) + 64, 100
 WORDS = "-m 64 -nodefaults -display none -serial stdio -global virtio-mmio.force-legacy=false".split()
 # The most seconds that any answer may take, also on a busy processor.
 LIMIT = 120

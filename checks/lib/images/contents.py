@@ -3,8 +3,9 @@
 import os
 
 from lib import exchanges
-from lib.images.tool import RECORDS, filled, home
+from lib.images.tool import RECORDS, filled
 from lib.programs import contents, copy, part_of, remove, write_file
+from lib.standing import end_of_log
 
 # How many forced writes are laid over each other, so that records wait in every slot and the ring is wrapped.
 FORCED = 14
@@ -61,7 +62,7 @@ def make_aligned(tool):
 def show_and_migrate(tool):
     """The lines of a fresh image and of one with records; what a migration leaves. Behind a start the head is at stamp 2."""
     for kind in (1, 2):
-        lines = [f"format {kind}", "blocks 500", "slots 6", f"home {home(6, kind)}"]
+        lines = [f"format {kind}", "blocks 500", "slots 6", f"home {end_of_log(kind, 6)}"]
         tool.makes("small.img", 500, 6, kind)
         tool.shows("small.img", *lines, "head 1")
         copy("small.img", "records.img")
@@ -120,7 +121,7 @@ def plain_bytes():
 
 def copy_there_and_back(tool, slots, kind):
     """Behind home an import has the plain file's bytes, and before it what `make` makes. An export has them again."""
-    name, first = f"format {kind}, {slots} slots", 512 * home(slots, kind)
+    name, first = f"format {kind}, {slots} slots", 512 * end_of_log(kind, slots)
     kib = {"kib": None} if slots == 64 else {}
     remove("trip.img", "back.raw")
     tool.imports("plain.raw", "trip.img", slots, kind)
@@ -155,7 +156,7 @@ def copy_records(tool, kind):
     filled("wanted.raw", 0xB6, 9, 5)
     tool.same("back.raw", "wanted.raw", "export with records: other blocks")
     tool.plays("trip.img", b"")
-    tool.expect(part_of("trip.img", 512 * home(5, kind)) == contents("back.raw"), "export with records: a start has other blocks")
+    tool.expect(part_of("trip.img", 512 * end_of_log(kind, 5)) == contents("back.raw"), "export with records: a start has other blocks")
 
 
 def copy_plain(tool):

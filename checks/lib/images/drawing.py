@@ -2,6 +2,7 @@
 
 from lib.drawn import BLOCKS, Drawn, ends_alone, room_for_many, sizes_in
 from lib.programs import Ran, contents, copy, write_file
+from lib.standing import SLOT_SECTORS
 from lib.told import by_file
 
 TOO_SMALL = "the log is too small for format 2"
@@ -47,7 +48,7 @@ def migrate(tool, drawn, path, waiting):
     line = b"migrated\n" if drawn.kind == 1 else b"already format 2\n"
     ends_alone(tool, [*tool.image, "migrate", path], by_file(path, TOO_SMALL) if is_small else Ran(0, line, b""), f"{name}: migrate")
     found, is_so = drawn.stands(path)
-    slots = drawn.slots if is_small or drawn.kind == 2 else 50 * drawn.slots // 249
+    slots = drawn.slots if is_small or drawn.kind == 2 else SLOT_SECTORS[1] * drawn.slots // SLOT_SECTORS[2]
     is_so = is_so and (found.format, found.slots, len(found.records)) == (1 if is_small else 2, slots, waiting if is_small else 0)
     tool.expect(is_so, f"{name}: behind migrate it stands for other blocks")
 

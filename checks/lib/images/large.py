@@ -5,6 +5,7 @@ import os
 from lib import programs
 from lib.images.tool import SMALL
 from lib.programs import Ran, overwrite, part_of, remove
+from lib.standing import end_of_log
 
 BLOCKS = 16777216
 # Blocks at each end of 8 GiB and one in the middle, and one of zeros.
@@ -33,7 +34,7 @@ def copy_large(tool):
     for place in PLACES:
         overwrite("large.raw", 512 * place, part_of("old.raw", 0, 512))
     tool.imports("large.raw", "sparse.img", 5, 2)
-    has(tool, "sparse.img", 512 * (BLOCKS + 2 + 5 * 249), 128, "import of 8 GiB")
+    has(tool, "sparse.img", 512 * (BLOCKS + end_of_log(2, 5)), 128, "import of 8 GiB")
     tool.exports("sparse.img", "sparse.raw", BLOCKS)
     has(tool, "sparse.raw", 512 * BLOCKS, 128, "export of 8 GiB")
     for place in (*PLACES, ZEROS):

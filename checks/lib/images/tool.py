@@ -11,11 +11,6 @@ SMALL = 4608
 RECORDS = exchanges.request_sense() + exchanges.write_blocks(7, 2, 0xA5) + exchanges.write_blocks(9, 5, 0xB6)
 
 
-def home(slots, kind):
-    """The sector of the first block."""
-    return 2 + slots * (50 if kind == 1 else 249)
-
-
 class Tool(Trial):
     def __init__(self, name):
         super().__init__(name)
