@@ -11,7 +11,6 @@ use disk_machine::DiskMachine;
 use image_calls::Opening;
 use std::alloc::Global;
 use store_calls::{Sight, device_holding, medium_on};
-use window::device_laws;
 
 // How many calls a step in the background makes at most.
 const STEP: usize = 2;
@@ -72,7 +71,6 @@ fn disk_on(
     };
     // The law of the medium, from the first call on.
     let _waiting = medium.waiting();
-    device_laws();
     let retiring = Retiring::Kept(plan.kept);
     match Disk::start_by(alloc, medium, plan.identity, plan.size, retiring) {
         Ok(disk) => Ok(DiskMachine::new(disk, reserve.room - STEP)),

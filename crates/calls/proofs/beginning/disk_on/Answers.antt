@@ -1,5 +1,6 @@
 use Rattle.std.proofs.Common.{◌-◌, ◌∙◌, ℕ, sym, ap, inl, inr}
 use Rattle.window.specs.Window.{Window, mirror_of}
+use Rattle.window.proofs.InFlight.{parts_follow}
 use Rattle.disk_machine.specs.Moves.{begun}
 use Rattle.disk_machine.specs.Plays.{medium_of}
 use Rattle.calls.specs.Beginning.{fault_of_call}
@@ -46,7 +47,7 @@ returns-in-Ok-start_by g c =
     begins c.args.sight c.args.sectors g.content _ _ (on g (goal.at.returns-in-Ok-start_by g c).In-Ok) c.in-Ok.ensures.sized _
     (device_of c.args.plan.now) starts
     (c.waiting-waiting.ensures.device _ follows)
-    (c.device_laws.ensures (mirror_of c.in-Ok.medium) (mirror_of (medium_of c.in-Ok-start_by.disk))
+    (parts_follow (mirror_of c.in-Ok.medium) (mirror_of (medium_of c.in-Ok-start_by.disk))
     (c.waiting-waiting.ensures.device _ follows))
     (c.waiting-waiting.ensures.served _ follows) _
     (c.new.ensures.is ∙ ap (λ (room : ℕ). begun c.in-Ok-start_by.disk (room - 2)) (sym (ap (λ (w : Window). w.room) c.in-Ok.ensures.ok
