@@ -74,8 +74,8 @@ VERSIONS = {
     "include/usbdisk.h": r"#define USBDISK_VERSION (\w+)u",
     "crates/usbdisk_c/src/codes.rt": r"const VERSION: u32 = (\w+);",
     "crates/usbdisk_c/specs/Codes.antt": r"\nVERSION = (\w+)",
-    "crates/images/src/program.rt": r'const VERSION: .*"usbdisk_image ([\d.]+)',
-    "crates/images/specs/Program.antt": r'"usbdisk_image ([\d.]+)"',
+    "crates/usbdisk/src/images/program.rt": r'const VERSION: .*"usbdisk_image ([\d.]+)',
+    "crates/usbdisk/specs/images/Program.antt": r'"usbdisk_image ([\d.]+)"',
     "rust/usbdisk/src/lib.rs": r"const VERSION: u32 = (\w+);",
     "rust/usbdisk/Cargo.toml": r'\nversion = "([\d.]+)\.0"',
 }

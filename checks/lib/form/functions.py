@@ -142,12 +142,11 @@ def without_place():
 
 
 def without_edit():
-    """The public functions of the libraries of which no edit changes the body and that checks/without_edit does not name, and how many it names
-    that have one, or are not there."""
-    changed, programs = {*edited()}, {sources.crate_of(it) for it in paths() if it.endswith("/src/main.rt")}
-    of_library = [it for it in proved_bodies() if it.function.is_public and sources.crate_of(it.path) not in programs]
+    """The public functions of which no edit changes the body and that checks/without_edit does not name, and how many it names that have one, or
+    are not there."""
+    changed = {*edited()}
     is_edited = lambda it: any((it.path, n) in changed for n in range(it.function.at, it.function.end + 1))
-    lacking = [str(it) for it in of_library if not is_edited(it)]
+    lacking = [str(it) for it in proved_bodies() if it.function.is_public and not is_edited(it)]
     named = [it.rpartition(": ")[0] for it in sources.lines_of("checks/without_edit") if it and not it.startswith("#")]
     for it in {*named} - {*lacking}:
         print(f"checks/without_edit: {it} has an edit, or is not there")

@@ -87,7 +87,7 @@ def changed(words):
 
 def copy_launchers():
     """The launchers at the root, with another program behind them, which tells its words."""
-    for path in (*LAUNCHERS, "scripts/words", "crates/images/src/program.rt"):
+    for path in (*LAUNCHERS, "scripts/words", "crates/usbdisk/src/images/program.rt"):
         os.makedirs(os.path.dirname(f"copy/{path}"), exist_ok=True)
         shutil.copy(f"{ROOT}/{path}", f"copy/{path}")
     write_file("copy/scripts/launch", f'#!/bin/sh\necho "$@"\nexit {HANDED_ON}\n'.encode())

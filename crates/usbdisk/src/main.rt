@@ -4,6 +4,11 @@
 //! leaves of its files is what it gives back; here that is only let go of.
 #![tactic(auto)]
 
+mod console;
+mod images;
+mod live;
+mod runner;
+
 use console::{ArgumentFault, Program, arguments, take_program};
 use live::Streams;
 use std::process::ExitCode;

@@ -1,3 +1,0 @@
-pub mod Numerals
-pub mod Statuses
-pub mod Options

@@ -1,4 +1,0 @@
-pub mod Refusals
-pub mod Rooms
-pub mod Opened
-pub mod Ready

@@ -1,5 +1,0 @@
-use Rattle.std.proofs.Common.{rules}
-use Rattle.live.proofs.file.FileWindowOutlet.pop.Goals as goal
-
-pub returns-clause-unchanged : goal.returns-clause-unchanged
-returns-clause-unchanged g c = rw c.carry.ensures.carried.lets_go.is (search rules)

@@ -1,4 +1,0 @@
-use Rattle.live.proofs.player.foresee.Goals as goal
-
-pub returns : goal.returns
-returns g c = rw (c.window.ensures, c.medium.ensures.is) at c.waiting-waiting.ensures.device

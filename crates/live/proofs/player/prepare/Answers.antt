@@ -1,6 +1,0 @@
-use Rattle.std.proofs.Common.{inl, refl}
-use Rattle.live.proofs.player.prepare.Goals as goal
-
-pub returns-in_default-missing_for : goal.returns-in_default-missing_for
-returns-in_default-missing_for g c =
-    rw c.in-Out.is (inl (rw c.as_slice.ensures.value at (c.missing_for.ensures.none c.in_default-missing_for.is), refl))

@@ -1,6 +1,0 @@
-use Rattle.spec.specs.Packets.{bytes_of}
-use Rattle.runner.{specs.{Left.parts_left, Lines.lines_of}, proofs.CheckedLines.IsReadTo}
-use Rattle.runner.proofs.check.check_script.Given as goal
-
-abbrev pub invariant-loop-line : goal.invariant-loop-line
-invariant-loop-line l = IsReadTo l.kind (bytes_of l.size) (lines_of l.script) (parts_left l.line-iterator) l.number

@@ -1,0 +1,9 @@
+use Rattle.clap.specs.Words.{new_app}
+use Rattle.usbdisk.specs.runner.Parser.{IsParserOf}
+use Rattle.usbdisk.proofs.runner.task.script_parser.Goals as goal
+
+pub returns : goal.returns
+returns c =
+    let bare : IsParserOf (new_app c.args.verb.now) c.new.result = record { shape = c.new.ensures.app; local = c.new.ensures.local } in
+    c.with_arg.ensures _ _
+    (c.with_arg-script.ensures _ _ (c.with_arg-image.ensures _ _ bare c.word.ensures) c.word-2.ensures) c.free_option.ensures

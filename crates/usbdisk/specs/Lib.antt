@@ -1,0 +1,4 @@
+pub mod console
+pub mod images
+pub mod runner
+pub mod live
