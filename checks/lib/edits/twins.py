@@ -10,6 +10,11 @@ import re
 from lib import sources
 from lib.edits.edit import own_proof
 
+USE = "use "
+# A word of a path in a line `use`, with the dot before it, or what makes a group; and the other name that a path has there.
+PART = re.compile(r"[{,}]|\.?[^\s.,{}]+")
+OTHER_NAME = re.compile(r" as [^\s,}]+")
+
 
 def twin_text(edit, ending, changes=()):
     """The text of a twin of the edit's function with these changes, in an `impl` as its own, or None where it cannot have one."""
@@ -51,25 +56,59 @@ def can_be_twin(edit):
     return bool(edit.function) and bool(twin_text(edit, "x"))
 
 
+def paths_of(line):
+    """The paths of a line `use` up to each of their words, those in its groups too, and where that word ends."""
+    above, path = [""], ""
+    for it in PART.finditer(OTHER_NAME.sub(lambda it: " " * len(it[0]), line), len(USE)):
+        if it[0] == "{":
+            above.append(f"{path}.")
+        elif it[0] == "}":
+            above = above[:-1] or [""]
+        path = above[-1] if it[0] in "{,}" else path + it[0]
+        if it[0] not in "{,}":
+            yield path, it.end()
+
+
+@functools.lru_cache(maxsize=None)
+def proof_files(crate):
+    """The proof files of a crate: the folder of each, its text, and the paths at which its lines `use` end."""
+    found = []
+    for file in sources.files_below(f"{crate.folder}/proofs", ".antt"):
+        text = sources.text_of(file)
+        lines = (it for it in text.split("\n") if it.startswith(USE))
+        found.append((os.path.dirname(file), text, {path for it in lines for path, end in paths_of(it) if it[end : end + 1] != "."}))
+    return found
+
+
+def whole_path(crate, function):
+    """The whole name of what a function's proof files make."""
+    return ".".join(["Rattle", crate.name, "proofs", *function.split("::")[1:]])
+
+
+def renamed(line, whole, ending):
+    """A line `use` that leads to a twin in place of the function with this whole name, in its groups too."""
+    for end in reversed([end for path, end in paths_of(line) if path == whole]):
+        line = line[:end] + ending + line[end:]
+    return line
+
+
 def twin_proof(crate, function, text, ending):
     """The text of a proof file of a function, for a twin of it."""
-    path = function.split("::")[1:]
+    path, whole = function.split("::")[1:], whole_path(crate, function)
+    text = "\n".join(renamed(it, whole, ending) if it.startswith(USE) else it for it in text.split("\n"))
     text = re.sub(rf"(Rattle\.{crate.name}\.\S*?{re.escape('.'.join(path))})\b", rf"\1{ending}", text)
     return re.sub(rf"\b{path[-1]}_spec\b", f"{path[-1]}{ending}_spec", text)
 
 
 @functools.lru_cache(maxsize=None)
 def is_carried_over(crate, function):
-    """Whether a twin of the function lacks nothing, so far as texts tell: none of its proof files leads to the function by another word than its
-    whole name, which a twin of it has in its place, and no other file leads to what the prover makes of the function."""
-    path = function.split("::")[1:]
-    whole = re.escape(f"Rattle.{crate.name}.proofs.{'.'.join(path)}")
-    above = [".".join([f"Rattle.{crate.name}.proofs", *path[:n]]) for n in range(len(path))]
-    leads = re.compile("|".join(rf"{re.escape(it)}(?:\s|\.\{{[^}}]*\b{path[n]}\b)" for n, it in enumerate(above)))
-    made = re.compile(rf"{whole}\.(?!Answers\b|Invariants\b)")
-    for file in sources.files_below(f"{crate.folder}/proofs", ".antt"):
-        text = sources.text_of(file)
-        is_own = os.path.dirname(file) == f"{crate.folder}/{own_proof(function)}"
-        if leads.search(text) or not is_own and made.search(text):
+    """Whether a twin of the function lacks nothing, so far as texts tell: no proof file uses a folder above its proof files as a whole, and none
+    but these leads to what the prover makes of the function. In these a twin's name stands for the function's."""
+    whole = whole_path(crate, function)
+    made = re.compile(rf"{re.escape(whole)}(?:$|\.(?!Answers\b|Invariants\b))")
+    for folder, text, ends in proof_files(crate):
+        is_own = folder == f"{crate.folder}/{own_proof(function)}"
+        leads = any(whole.startswith(f"{it}.") for it in ends)
+        if leads or not is_own and (made.search(text) or any(map(made.match, ends))):
             return False
     return True

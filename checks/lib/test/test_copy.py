@@ -1,5 +1,6 @@
 """What a copy with edits is made of."""
 
+import os
 import tempfile
 import unittest
 
@@ -58,6 +59,30 @@ class Copies(unittest.TestCase):
         self.assertTrue("bytes.len()" not in text and "    is_empty(bytes)\n" in text)
         self.assertIn("pub set_spec : {M : Type 1} → stated.statement M\nset_spec = shut", texts["proofs/Mark/set/Proof.antt"])
         self.assertEqual((texts["proofs/proved/Answers.antt"], "proofs/is_full/Proof.antt" in texts), (None, False))
+
+    def test_a_twins_proof_leads_to_it_from_groups_too(self):
+        text = "use Rattle.{std.Common.{a, named}, toy.{specs.{A as named}, proofs.{Named.proved, named.Goals.{a, b as c}}}} as d\n"
+        wanted = text.replace("named.Goals", "named_twin_1.Goals")
+        self.assertEqual(twins.twin_proof(self.crate, "toy::named", f"{text}a = proofs.named.b\n", "_twin_1"), f"{wanted}a = proofs.named.b\n")
+
+    def test_a_twin_lacks_what_another_proof_file_leads_to(self):
+        lines = {
+            "use Rattle.toy.proofs.{Other.named, other.Goals.a}": True,
+            "use Rattle.toy.{proofs.{named.Answers.held, Other.a}, specs.A}": True,
+            "use Rattle.toy.{proofs.{Other.a, named.Goals.returns as a}}": False,
+            "use Rattle.toy.proofs.named as a": False,
+            "use Rattle.toy.{specs.A, proofs as a}": False,
+            "a = Rattle.toy.proofs.named.Goals.b": False,
+        }
+        for line, is_carried in lines.items():
+            with self.subTest(line), tempfile.TemporaryDirectory() as room:
+                crate = toy.Crate("toy", toy.lay(room))
+                self.assertTrue(twins.is_carried_over(crate, "toy::named"))
+                os.makedirs(f"{crate.folder}/proofs/other")
+                with open(f"{crate.folder}/proofs/other/Answers.antt", "w", encoding="utf-8") as file:
+                    file.write(f"{line}\n")
+                twins.is_carried_over.cache_clear(), twins.proof_files.cache_clear()
+                self.assertEqual(twins.is_carried_over(crate, "toy::named"), is_carried)
 
     def test_goals_are_left_open_behind_the_answers(self):
         self.tell_how_it_searches()

@@ -89,10 +89,14 @@ pub returns-then-number-eq1 : goal.returns-then-number-eq1
 returns-then-number-eq1 c = search rules
 """
 NAMED = """use Rattle.std.proofs.Common.{rules}
+use Rattle.toy.{proofs.{named.Goals.returns as wanted}}
 use Rattle.toy.proofs.named.Goals as goal
 
+held : wanted → wanted
+held it = it
+
 pub returns : goal.returns
-returns c = let said = c.is_empty-empty.ensures in search rules
+returns c = let said = c.is_empty-empty.ensures in held (λ c. search rules) c
 """
 ONE, MORE = "returns-then-number-eq1-clause-one", "returns-then-number-eq2-clause-more"
 PROVED = "returns-then-number-eq1"
@@ -119,6 +123,8 @@ EDITS = {
     "names_no_answer.edit": f"file: src/lib.rt\nold: 5 }} else\nnew: 6 }} else\nonly: {MORE}\n",
     "asks_the_length.edit": "file: src/lib.rt\nold: let empty = is_empty(bytes);\nnew: let _more = number + 1; let empty = bytes.len() == 0;\n"
     "untried: overflow_add-number\n",
+    "named_is_empty.edit": "file: src/lib.rt\nold: !empty\nnew: empty\n",
+    "named_in_brackets.control": "file: src/lib.rt\nold: !empty\nnew: (!empty)\n",
     "sets_nothing.edit": "file: src/lib.rt\nold: self.is_set = true;\nnew: self.is_set = false;\n",
     "leaves_the_mark.edit": "file: src/lib.rt\nold: std::mem::take(&mut self.is_set)\nnew: self.is_set\n",
     "stands_nowhere.edit": "file: src/lib.rt\nold: no such text\nnew: another\n",
@@ -157,6 +163,7 @@ QUESTIONS = (
     Question("names_gone", ("turned_around.edit", "proved_is_three.edit"), weak=("turned_around.edit",)),
     Question("alone", ("proved_is_four.edit", "turned_alone.edit", "names_no_answer.edit"), weak=("turned_alone.edit",)),
     Question("names_gone_beside_a_hole", ("asks_the_length.edit",), weak=("asks_the_length.edit",)),
+    Question("in_groups", ("named_is_empty.edit", "named_in_brackets.control")),
     Question("nothing_shut", ("empty_is_one_byte.edit", "sets_nothing.edit"), shuts=False),
 )
 
