@@ -1,6 +1,7 @@
 """An edit: a file that names texts of a crate and what is to stand in their place.
 
-Its lines are `file:`, `old:` and `new:`. Here `line:` may stand for `old:`: a whole line without its indent, where its text stands in others too."""
+Its lines are `file:`, `old:` and `new:`. Here `line:` may stand for `old:`: a whole line without its indent, where its text stands in others too.
+What narrows its check stands elsewhere (narrowing.py)."""
 
 import dataclasses
 import functools
@@ -8,13 +9,12 @@ import os
 import re
 
 from lib import sources
+from lib.edits import narrowing
 
 INSIDE = ("src/", "specs/", "proofs/")
-# The lines by which an edit tells what its check does not have to try.
-NOTES = ("untried:", "tried:", "only:")
-# The word of a line `only:` that an answer is tried without its searches.
+# The word behind `only:` that an answer is tried without its searches.
 TERMS = "terms"
-# The last word of a line `tried:` or `only:` whose searches end early.
+# The last word behind `tried:` or `only:` where the searches end early.
 SHORT = "short"
 
 
@@ -54,15 +54,12 @@ class Edit:
     function: str
     text: sources.Function
     spans: tuple
-    # the goals of the function that its check does not try; the one that is tried by an answer, with the arguments of that; the one that is tried
-    # by the function's own answer, and TERMS where that is without its searches, SHORT where those end early
-    untried: tuple
-    tried: tuple
-    only: tuple
+    # what narrows its check, with TERMS where an answer is tried without its searches, SHORT where those end early
+    narrowing: narrowing.Narrowing
 
     @property
     def name(self):
-        return f"{self.crate.name}/{os.path.basename(self.path)}"
+        return name_in(self.crate, self.path)
 
     @property
     def is_control(self):
@@ -70,23 +67,35 @@ class Edit:
         return self.path.endswith(".control")
 
     @property
+    def untried(self):
+        return self.narrowing.untried
+
+    @property
+    def tried(self):
+        return self.narrowing.tried
+
+    @property
+    def only(self):
+        return self.narrowing.only
+
+    @property
     def is_narrowed(self):
-        """Whether its lines tell what its check does not have to try."""
-        return not self.is_control and bool(self.untried or self.tried or self.only)
+        """Whether its line tells what its check does not have to try."""
+        return not self.is_control and bool(self.narrowing.words)
 
     @property
     def asked(self):
-        """The one goal that its lines ask for, and nothing else, or nothing."""
+        """The one goal that its line asks for, and nothing else, or nothing."""
         return "".join([*self.only, *self.tried][:1])
 
     @property
     def is_by_terms(self):
-        """Whether the answer of its line `only:` is tried without its searches."""
+        """Whether the answer behind `only:` is tried without its searches."""
         return self.only[1:] == (TERMS,)
 
     @property
     def is_short(self):
-        """Whether the searches of the answer of its line `only:` or `tried:` end early."""
+        """Whether the searches of the answer behind `only:` or `tried:` end early."""
         return SHORT in (*self.only, *self.tried)
 
     @property
@@ -112,13 +121,12 @@ def read(crate, path):
     found = [(function, span) for _, function, span in places if span]
     one = functions.pop() if len(functions) == 1 and found else None
     function, spans = found[0][0] if found else None, tuple(span for _, span in found)
-    notes = [words_behind(it, text) for it in NOTES]
-    return Edit(crate, path, texts, why, changes, one, function, spans, *notes)
+    return Edit(crate, path, texts, why, changes, one, function, spans, narrowing.found(crate, name_in(crate, path), text))
 
 
-def words_behind(mark, text):
-    """The words of the lines that begin with this mark."""
-    return tuple(word for it in text.split("\n") if it.startswith(mark) for word in it.split()[1:])
+def name_in(crate, path):
+    """The name of an edit of a crate."""
+    return f"{crate.name}/{os.path.basename(path)}"
 
 
 def applied(folder, text):

@@ -1,6 +1,6 @@
-"""What a run of checks/edits found of a crate, kept on this machine by a sum of all that it read: the toolchain, the edits, the crate and those below, and
-the program that tries. A later run in any checkout here tries the edits of those crates alone for which nothing is kept. A crate of which an edit
-was not refused keeps nothing. Whoever can write to the folder can make a run pass, as with what the gate keeps."""
+"""What a run of checks/edits found of a crate, kept on this machine by a sum of all that it read: the toolchain, the edits and their lines, the crate
+and those below, and the program that tries. A later run in any checkout here tries the edits of those crates alone for which nothing is kept. A crate
+of which an edit was not refused keeps nothing. Whoever can write to the folder can make a run pass, as with what the gate keeps."""
 
 import hashlib
 import json
@@ -23,7 +23,8 @@ def own_files():
 
 def path_of(crate, edits):
     """The file that keeps what was found of these edits of a crate."""
-    found = hashlib.sha256(repr([prover.identity(), prover.ours.sum_of(crate.name)]).encode())
+    # (of what narrows edits those lines alone that are of these)
+    found = hashlib.sha256(repr([prover.identity(), prover.ours.sum_of(crate.name), [it.narrowing for it in edits]]).encode())
     for path in [*own_files(), *(os.path.abspath(it.path) for it in edits)]:
         with open(path, "rb") as file:
             found.update(repr([os.path.relpath(path, sources.ROOT), file.read()]).encode())

@@ -1,10 +1,10 @@
-"""Writes into edits what their checks do not have to try: the lines `untried:`, `tried:` and `only:`."""
+"""Notes what the checks of edits do not have to try: the goals behind `untried:`, `tried:` and `only:` in the lines of narrowing.py."""
 
 import dataclasses
 
-from lib import sources
-from lib.edits import answers, twins
-from lib.edits.edit import NOTES, SHORT, TERMS
+from lib.edits import answers, narrowing, twins
+from lib.edits.edit import SHORT, TERMS
+from lib.edits.narrowing import Narrowing
 
 
 @dataclasses.dataclass(frozen=True)
@@ -20,19 +20,27 @@ class Open:
     by_terms: tuple = ()
 
 
-def note(edit, found):
-    """Writes into an edit which goals its check does not have to try: of those that it leaves open all but one. Where that one is refused by the
-    function's own answer, that alone is asked for; where it is searched, it is tried by an answer that asks for the search."""
+def note(edit, found, was_stale=False):
+    """Writes the line of an edit. One that was found stale would be so again: it is not asked for what it had, and has none in place of the same."""
+    line = line_of(dataclasses.replace(edit, narrowing=Narrowing()) if was_stale else edit, found)
+    is_same = {*line.words} == {*edit.narrowing.words} - {SHORT}
+    narrowing.write(edit, Narrowing() if was_stale and is_same else line)
+
+
+def line_of(edit, found):
+    """Which goals the check of an edit does not have to try: of those that it leaves open all but one. Where that one is refused by the function's
+    own answer, that alone is asked for; where it is searched, it is tried by an answer that asks for the search."""
     refused, held = (answers.goals_among(edit, it) for it in (found.refused, found.held))
     goals = [*held, *refused, *found.searched]
-    tried = tried_of(edit, goals)
-    lines = [f"untried: {' '.join(untried)}"] if (untried := sorted({*found.known, *goals} - {tried})) else []
-    if tried in edit.tried[:1] or twins.can_be_twin(edit) and tried in found.searched:
-        words = edit.tried if tried in edit.tried[:1] else [tried, *answers.arguments_of(edit)]
-        lines.append(f"tried: {' '.join(words)}")
-    elif is_alone(edit) and tried in held:
-        lines = [f"only: {tried} {TERMS}" if tried in found.by_terms else f"only: {tried}"]
-    write_notes(edit, NOTES, lines)
+    one = tried_of(edit, goals)
+    untried = tuple(sorted({*found.known, *goals} - {one}))
+    if one in edit.tried[:1]:
+        return Narrowing(untried, tried=edit.tried)
+    if twins.can_be_twin(edit) and one in found.searched:
+        return Narrowing(untried, tried=(one, *answers.arguments_of(edit)))
+    if is_alone(edit) and one in held:
+        return Narrowing(only=(one, *[TERMS] * (one in found.by_terms)))
+    return Narrowing(untried)
 
 
 def is_alone(edit):
@@ -46,28 +54,20 @@ def tried_of(edit, goals):
     return "".join([*wanted, *goals][:1])
 
 
-def write_notes(edit, marks, lines):
-    """Writes these lines into an edit, in place of those that begin with one of these marks."""
-    kept = [it for it in sources.text_of(edit.path).rstrip("\n").split("\n") if not it.startswith(marks)]
-    with open(edit.path, "w", encoding="utf-8") as file:
-        file.write("".join(f"{it}\n" for it in [*kept, *lines]))
-
-
 def without_wrong(edits, report):
-    """The edits whose line `tried:` or `only:` stands, by the report on their functions as they are with these answers alone, and those that are to
-    be asked again, with longer searches. Beside one that stands nothing has to be left open. The lines of the others go, and a line `only:` of a
-    goal to which the function has no answer."""
+    """The edits whose `tried:` or `only:` stands, by the report on their functions as they are with these answers alone, and those that are to be
+    asked again, with longer searches. Beside one that stands nothing has to be left open. Those of the others go, and an `only:` of a goal to which
+    the function has no answer."""
     kept, longer = [], []
     for edit in edits:
-        mark, has_answer = "only:" if edit.only else "tried:", not edit.only or edit.asked in answers.goals_among(edit, edit.only)
+        has_answer = not edit.only or edit.asked in answers.goals_among(edit, edit.only)
         if has_answer and report.proves_answers(edit.function, [edit.asked]):
             kept.append(edit)
-            marks = (mark, "untried:") if edit.untried and is_alone(edit) else (mark,)
-            write_notes(edit, marks, [f"{mark} {' '.join([*edit.only, *edit.tried])}"])
+            narrowing.write(edit, dataclasses.replace(edit.narrowing, untried=() if is_alone(edit) else edit.untried))
         elif has_answer and report.has_verdict and (edit.is_by_terms or edit.is_short):
             longer.append(with_longer(edit))
         else:
-            write_notes(edit, (mark,), [])
+            narrowing.write(edit, Narrowing(edit.untried))
             print(f"{edit.name}: `{edit.asked}` of its function is not proved by the answer that its line asks for, which goes", flush=True)
     return kept, longer
 
@@ -84,6 +84,6 @@ def with_short(edit):
 
 
 def with_words(edit, without, words):
-    """The edit whose line `only:` or `tried:` has not those words, and ends in these."""
+    """The edit whose `only:` or `tried:` has not those words, and ends in these."""
     found = tuple([it for it in (*edit.only, *edit.tried) if it not in without] + words)
-    return dataclasses.replace(edit, **{"only" if edit.only else "tried": found})
+    return dataclasses.replace(edit, narrowing=dataclasses.replace(edit.narrowing, **{"only" if edit.only else "tried": found}))

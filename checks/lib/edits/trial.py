@@ -1,8 +1,9 @@
 """Tries edits of a crate: makes a copy with them, has it checked, and judges each by the report."""
 
 import dataclasses
+import os
 
-from lib.edits import notes
+from lib.edits import narrowing, notes
 from lib.edits.answers import answers_path
 from lib.edits.copy import Copy
 from lib.edits.report import Report, is_part
@@ -68,7 +69,7 @@ class Checked:
         return self.report.is_weak(self.name_of(edit), self.copy.spans[edit])
 
     def leaves_too_much(self, edit, found):
-        """Why what its lines leave open keeps the edit from being judged, or nothing."""
+        """Why what its line leaves open keeps the edit from being judged, or nothing."""
         narrowed, report = self.copy.narrowed.get(self.copy.functions[edit]), self.report
         if not narrowed:
             return ""
@@ -88,10 +89,11 @@ def tell(line):
 
 
 class Trial:
-    """Tries edits of a crate over what is kept of it in a folder. `ask` gives what the prover says of a copy (prover.py)."""
+    """Tries edits of a crate over what is kept of it in a folder. `ask` gives what the prover says of a copy (prover.py). `stale` are the edits whose
+    lines were found to narrow them to what does not refuse them, or is not there, and why."""
 
     def __init__(self, crate, kept, ask, options=Options()):
-        self.crate, self.kept, self.ask, self.options = crate, kept, ask, options
+        self.crate, self.kept, self.ask, self.options, self.stale = crate, kept, ask, options, {}
 
     def report(self, copy, shuts):
         """What the check of a copy says: of the edited functions alone, or of all where one is not one function's, or is by itself and not found by
@@ -137,13 +139,28 @@ class Trial:
             return [found]
         left = checked.leaves_too_much(edit, found)
         if left:
-            tell(f"{edit.name}: its lines leave too much or name what is not there, so it is tried whole: {left}")
+            self.find_stale(edit, left)
             return []
         if why and len(checked.batch) > 1:
             return self.judged([edit], shuts, narrows)
         if self.options.writes_notes:
             self.note(checked, found)
         return [found]
+
+    def stale_lines(self, found):
+        """One line that tells which of these edits that are refused have a stale line, and how it is written anew, or none."""
+        refused = [it.edit for it in found if not it.why and not it.edit.is_control]
+        stale = {it: "it is for another text" for it in refused if it.narrowing.is_stale}
+        stale.update({it: self.stale[it] for it in refused if it in self.stale})
+        told = ", ".join(f"{os.path.basename(it.path)} ({why})" for it, why in stale.items())
+        anew = f"`checks/edits --note {self.crate.name}`, then `--tries {self.crate.name}`, write them anew"
+        return [f"{self.crate.name}: {len(stale)} stale in {narrowing.PLACE}, tried whole ({anew}): {told}"] if stale else []
+
+    def find_stale(self, edit, why):
+        """Takes the line of an edit for stale. Where lines are written, it goes."""
+        self.stale[edit] = why
+        if self.options.writes_notes:
+            narrowing.write(edit, narrowing.Narrowing())
 
     def lacks(self, checked, edit):
         """Whether the twin without an edit of its function is not proved, so that an edit in a twin may be refused for that alone."""
@@ -164,7 +181,8 @@ class Trial:
             refused = report.refused_goals(name)
             held = [it for it in refused if report.refuses(answers_path(name), it)]
             by_terms = tuple(it for it in held if report.refuses_terms(answers_path(name), it))
-            notes.note(edit, notes.Open(refused, held, report.searched_goals(name, copy.spans[edit]), known, by_terms))
+            opened = notes.Open(refused, held, report.searched_goals(name, copy.spans[edit]), known, by_terms)
+            notes.note(edit, opened, edit in self.stale)
 
     def confirmed(self, edits, shuts):
         """Gives each function as it is the answers by which edits of it are tried, and no other. The lines of those go that are not proved, by longer

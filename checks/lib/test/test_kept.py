@@ -7,11 +7,13 @@ import unittest
 from unittest import mock
 
 from lib.edits import kept
+from lib.edits.narrowing import Narrowing
 
 
 @dataclasses.dataclass(frozen=True)
 class Edit:
     path: str
+    narrowing: Narrowing = Narrowing()
 
 
 @dataclasses.dataclass(frozen=True)
@@ -53,7 +55,8 @@ class Kept(unittest.TestCase):
             paths.add(self.path())
         with mock.patch("lib.edits.kept.OWN", ("checks/edits",)):
             paths.add(self.path())
-        self.assertEqual(len(paths), 6)
+        paths.add(kept.path_of(Crate("cache"), [Edit(self.edit, Narrowing(only=("a goal",)))]))
+        self.assertEqual(len(paths), 7)
 
     def test_what_is_not_whole_is_nothing(self):
         os.makedirs(kept.FOLDER)

@@ -1,13 +1,10 @@
 """What is read of sources and of edits."""
 
-import contextlib
-import io
 import tempfile
 import unittest
 
 from lib import sources
-from lib.edits import edit, notes
-from lib.edits.report import Output, Report
+from lib.edits import edit, narrowing
 from lib.test import toy
 
 TRAIT = """pub trait Device<T> {
@@ -91,10 +88,12 @@ class OfToy(unittest.TestCase):
         self.addCleanup(self.room.cleanup)
         self.crate = toy.Crate("toy", toy.lay(self.room.name))
 
-    def read(self, text, name="tried"):
+    def read(self, text, line="", name="tried"):
+        """The edit of this text, with this line."""
         path = f"{self.crate.folder}/edits/{name}.edit"
         with open(path, "w", encoding="utf-8") as file:
             file.write(text)
+        narrowing.write(edit.read(self.crate, path), narrowing.of_words(line.split()))
         return edit.read(self.crate, path)
 
 
@@ -102,7 +101,7 @@ class Edits(OfToy):
     """Which texts an edit changes, and whose body that is."""
 
     def test_a_body(self):
-        found = self.read("file: src/lib.rt\nold: self.is_set = true\nnew: self.is_set = false\nuntried: a b\ntried: c g\n")
+        found = self.read("file: src/lib.rt\nold: self.is_set = true\nnew: self.is_set = false\n", "untried: a b tried: c g")
         self.assertEqual((found.why, found.function, found.untried, found.tried), (None, "toy::Mark::set", ("a", "b"), ("c", "g")))
         self.assertEqual((found.is_narrowed, found.asked), (True, "c"))
         self.assertIn("        self.is_set = false;\n", found.texts["src/lib.rt"])
@@ -123,67 +122,6 @@ class Edits(OfToy):
         for text in ("", "file: src/lib.rt\nold: none\nnew: a\n", "file: src/lib.rt\nold: number\nnew: a\n", "file: ../a\nold: b\nnew: c\n"):
             self.assertTrue(self.read(text).why, text)
         self.assertEqual(self.read("file: src/lib.rt\nold: TWO: u32\nnew: TWO: u32\n").why, "it changes nothing")
-
-
-class Notes(OfToy):
-    """Which goals of an edit are left open."""
-
-    def noted(self, text, refused, searched):
-        found = self.read(f"file: src/lib.rt\nold: 5 }} else\nnew: 6 }} else\n{text}")
-        notes.note(found, notes.Open(refused, refused, searched, found.untried))
-        return sources.text_of(found.path).split("\n", 3)[3]
-
-    def test_a_clause_of_the_function_itself_is_tried(self):
-        self.assertEqual(self.noted("", [], ["call", "returns-one", "left"]), "untried: call left\ntried: returns-one c\n")
-
-    def test_the_goal_of_its_line_stays(self):
-        self.assertEqual(self.noted("tried: left c d\n", [], ["returns", "left"]), "untried: returns\ntried: left c d\n")
-
-    def test_a_goal_that_is_gone_goes(self):
-        self.assertEqual(self.noted("tried: gone c d\n", [], ["returns", "left"]), "untried: left\ntried: returns c\n")
-
-    def test_an_answer_that_is_refused_needs_no_search(self):
-        text = "file: src/lib.rt\nold: { 2 } else\nnew: { 3 } else\n"
-        goal = "returns-then-number-eq1"
-        notes.note(self.read(text), notes.Open([goal], [goal], ["left"], ()))
-        self.assertEqual(sources.text_of(f"{self.crate.folder}/edits/tried.edit"), f"{text}only: {goal}\n")
-
-    def test_an_answer_that_is_refused_without_its_searches_is_tried_so(self):
-        text, goal = "file: src/lib.rt\nold: { 2 } else\nnew: { 3 } else\n", "returns-then-number-eq1"
-        notes.note(self.read(text), notes.Open([goal], [goal], [], (), (goal,)))
-        found = self.read(f"{text}only: {goal} terms\n")
-        self.assertEqual(sources.text_of(found.path), f"{text}only: {goal} terms\n")
-        said = [f"./proofs/proved/Answers.antt:7:1: error: `{goal}`: expected type `a`", "fn toy::proved: not proved", "only=1"]
-        with contextlib.redirect_stdout(io.StringIO()):
-            kept, (again,) = notes.without_wrong([notes.with_short(found)], Report(Output(1, "\n".join(said))))
-            self.assertEqual((kept, again.only), ([], (goal, "short")))
-            kept, (again,) = notes.without_wrong([again], Report(Output(1, "\n".join(said))))
-            self.assertEqual((kept, again.only), ([], (goal,)))
-            self.assertEqual(notes.without_wrong([again], Report(Output(1, "\n".join(said)))), ([], []))
-        self.assertEqual(sources.text_of(found.path), text)
-
-    def test_an_answer_that_names_what_is_gone_is_not_asked_for(self):
-        text = "file: src/lib.rt\nold: { 2 } else\nnew: { 3 } else\n"
-        notes.note(self.read(text), notes.Open(["returns-then-number-eq1"], [], ["left"], ()))
-        self.assertEqual(sources.text_of(f"{self.crate.folder}/edits/tried.edit"), f"{text}untried: left\n")
-
-    def test_a_lemma_is_no_goal(self):
-        self.assertEqual(self.noted("", ["written"], ["returns", "left"]), "untried: left\ntried: returns c\n")
-
-    def test_a_line_stands_whose_answer_is_proved_by_itself(self):
-        text = "file: src/lib.rt\nold: 5 } else\nnew: 6 } else\n"
-        own = "file: src/lib.rt\nold: { 2 } else\nnew: { 3 } else\nonly: returns-then-number-eq1\n"
-        found = [self.read(f"{text}untried: a\ntried: {it} c\n", it) for it in ("one", "two")]
-        found += [self.read(own, "own"), self.read(f"{text}only: none\n", "none")]
-        said = ["fn toy::other: not proved", "fn toy::proved: not proved", "only=2"]
-        report = Report(Output(1, "\n".join(["./proofs/other/Answers.antt:7:1: error: `two`: `search`: no proof", *said])))
-        with contextlib.redirect_stdout(io.StringIO()):
-            left, longer = notes.without_wrong([*map(notes.with_short, found)], report)
-            self.assertEqual(notes.without_wrong(longer, report), ([], []))
-        self.assertEqual([it.name for it in left], ["toy/one.edit", "toy/own.edit"])
-        self.assertEqual([(it.name, it.tried) for it in longer], [("toy/two.edit", ("two", "c"))])
-        wanted = [f"{text}tried: one c short\n", f"{text}untried: a\n", f"{own.rstrip()} short\n", text]
-        self.assertEqual([sources.text_of(it.path) for it in found], wanted)
 
 
 if __name__ == "__main__":

@@ -4,6 +4,8 @@ said."""
 import dataclasses
 import os
 
+from lib.edits import narrowing
+
 SOURCE = """//! What checks/tools asks the prover about.
 #![tactic(auto)]
 ghost use Rattle.std.specs.Prelude.{◌≡◌, ◌↔◌, ◌<◌, Bool, IsTrue, false, length, true};
@@ -106,28 +108,37 @@ EDITS = {
     CONTROL: "file: src/lib.rt\nold: bytes.len() == 0\nnew: bytes.len() < 1\n",
     "full_is_empty.edit": "file: src/lib.rt\nold: !is_empty(bytes)\nnew: is_empty(bytes)\n",
     "both.edit": "file: src/lib.rt\nold: bytes.len() == 0\nnew: bytes.len() == 1\nold: 5 } else\nnew: 6 } else\n",
-    "one_is_three.edit": f"file: src/lib.rt\nline: return TWO;\nnew: return 3;\nuntried: {MORE}\ntried: {ONE} c\n",
-    "two_is_six.edit": f"file: src/lib.rt\nold: 5 }} else\nnew: 6 }} else\nuntried: {ONE}\ntried: {MORE} c\n",
+    "one_is_three.edit": "file: src/lib.rt\nline: return TWO;\nnew: return 3;\n",
+    "two_is_six.edit": "file: src/lib.rt\nold: 5 } else\nnew: 6 } else\n",
     "others_are_seven.edit": "file: src/lib.rt\nold: { 5 } else { number }\nnew: { 5 } else { 7 }\n",
-    "names_no_goal.edit": "file: src/lib.rt\nold: 5 } else\nnew: 6 } else\nuntried: returns-never\n",
-    "leaves_all.edit": f"file: src/lib.rt\nold: 5 }} else\nnew: 6 }} else\nuntried: {MORE}\n",
-    "two_is_still_five.edit": f"file: src/lib.rt\nold: 5 }} else\nnew: 2 + 3 }} else\ntried: {MORE} c\n",
+    "names_no_goal.edit": "file: src/lib.rt\nold: 5 } else\nnew: 6 } else\n",
+    "leaves_all.edit": "file: src/lib.rt\nold: 5 } else\nnew: 6 } else\n",
+    "two_is_still_five.edit": "file: src/lib.rt\nold: 5 } else\nnew: 2 + 3 } else\n",
     "two_is_three.edit": "file: src/lib.rt\nold: TWO: u32 = 2\nnew: TWO: u32 = 3\n",
     "a_name_of_none.edit": "file: src/lib.rt\nold: bytes.len() == 0\nnew: bytes.len() == none\n",
     "a_clause_of_none.edit": "file: src/lib.rt\nold: self.new ≡ true\nnew: self.new ≡ none_such\n",
     "turned_around.edit": "file: src/lib.rt\nold: if number == 1 { 2 } else { number }\nnew: if number != 1 { number } else { 2 }\n",
     "proved_is_three.edit": "file: src/lib.rt\nold: if number == 1 { 2 }\nnew: if number == 1 { 3 }\n",
-    "turned_alone.edit": "file: src/lib.rt\nold: if number == 1 { 2 } else { number }\nnew: if number != 1 { number } else { 2 }\n"
-    f"only: {PROVED}\n",
-    "proved_is_four.edit": f"file: src/lib.rt\nold: if number == 1 {{ 2 }}\nnew: if number == 1 {{ 4 }}\nonly: {PROVED}\n",
-    "names_no_answer.edit": f"file: src/lib.rt\nold: 5 }} else\nnew: 6 }} else\nonly: {MORE}\n",
-    "asks_the_length.edit": "file: src/lib.rt\nold: let empty = is_empty(bytes);\nnew: let _more = number + 1; let empty = bytes.len() == 0;\n"
-    "untried: overflow_add-number\n",
+    "turned_alone.edit": "file: src/lib.rt\nold: if number == 1 { 2 } else { number }\nnew: if number != 1 { number } else { 2 }\n",
+    "proved_is_four.edit": "file: src/lib.rt\nold: if number == 1 { 2 }\nnew: if number == 1 { 4 }\n",
+    "names_no_answer.edit": "file: src/lib.rt\nold: 5 } else\nnew: 6 } else\n",
+    "asks_the_length.edit": "file: src/lib.rt\nold: let empty = is_empty(bytes);\nnew: let _more = number + 1; let empty = bytes.len() == 0;\n",
     "named_is_empty.edit": "file: src/lib.rt\nold: !empty\nnew: empty\n",
     "named_in_brackets.control": "file: src/lib.rt\nold: !empty\nnew: (!empty)\n",
     "sets_nothing.edit": "file: src/lib.rt\nold: self.is_set = true;\nnew: self.is_set = false;\n",
     "leaves_the_mark.edit": "file: src/lib.rt\nold: std::mem::take(&mut self.is_set)\nnew: self.is_set\n",
     "stands_nowhere.edit": "file: src/lib.rt\nold: no such text\nnew: another\n",
+}
+NARROWED = {
+    "one_is_three.edit": f"untried: {MORE} tried: {ONE} c",
+    "two_is_six.edit": f"untried: {ONE} tried: {MORE} c",
+    "names_no_goal.edit": "untried: returns-never",
+    "leaves_all.edit": f"untried: {MORE}",
+    "two_is_still_five.edit": f"tried: {MORE} c",
+    "turned_alone.edit": f"only: {PROVED}",
+    "proved_is_four.edit": f"only: {PROVED}",
+    "names_no_answer.edit": f"only: {MORE}",
+    "asks_the_length.edit": "untried: overflow_add-number",
 }
 
 
@@ -174,6 +185,7 @@ def lay(room):
     files = {f"{room}/crates.txt": "toy:\n", f"{folder}/src/lib.rt": SOURCE}
     files.update({f"{folder}/proofs/{name}/Answers.antt": text for name, text in (("proved", ANSWERS), ("named", NAMED))})
     files.update({f"{folder}/edits/{name}": text for name, text in EDITS.items()})
+    files[f"{room}/{narrowing.PLACE}"] = "".join(f"toy/{it} {narrowing.sum_of(EDITS[it])} {NARROWED[it]}\n" for it in sorted(NARROWED))
     for path, text in files.items():
         os.makedirs(os.path.dirname(path), exist_ok=True)
         with open(path, "w", encoding="utf-8") as file:
