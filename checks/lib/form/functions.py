@@ -7,6 +7,7 @@ import re
 
 from lib import sources
 from lib.edits.edit import applied, triples
+from lib.edits.narrowing import MARKS
 
 
 @dataclasses.dataclass(frozen=True)
@@ -134,11 +135,20 @@ def edited():
             yield from ((file, number) for number, line in enumerate(sources.lines_of(file)) if is_it(line))
 
 
+def edits_and_controls():
+    """The files of edits and controls."""
+    return [it for it in sources.files_of_crates("", "edits", "must-fail") if it.endswith((".edit", ".control"))]
+
+
 def without_place():
     """The edits and controls that cannot be applied, with the reason. Where they are tried, each would be told only behind its crate's proof."""
-    edits = (it for it in sources.files_of_crates("", "edits", "must-fail") if it.endswith((".edit", ".control")))
-    found = ((it, applied(f"crates/{sources.crate_of(it)}", sources.text_of(it))[2]) for it in edits)
+    found = ((it, applied(f"crates/{sources.crate_of(it)}", sources.text_of(it))[2]) for it in edits_and_controls())
     return [f"{path}: {why}" for path, why in found if why]
+
+
+def narrowed_in_themselves():
+    """The lines of edits that would narrow their checks: nothing reads them there, since checks/edits has a file for these."""
+    return [f"{path}: {line}" for path in edits_and_controls() for line in sources.lines_of(path) if line.startswith(MARKS)]
 
 
 def without_edit():
