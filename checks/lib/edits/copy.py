@@ -96,7 +96,7 @@ class Copy:
         self.named.append(function)
 
     def leave(self, edit, function):
-        """Has the goal that is asked for answered by a search, or by the function's own answer, and no other. Where its lines ask for none, or the
+        """Has the goal that is asked for answered by a search, or by the function's own answer, and no other. Where its line asks for none, or the
         others would be searched, it leaves those open that its line names."""
         path, text = self.answers_of(function)
         asks = bool(edit.asked) and self.search_nothing(function, self.spans[edit][0])
