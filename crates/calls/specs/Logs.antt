@@ -20,7 +20,7 @@ log_by format slots page = record {
 }
 
 -- an image may have a log of `slots` slots, and home there
-pub record IsPossible (format : LogFormat) (slots page : ℕ) : Type 0 where
+pub record IsPossibleLog (format : LogFormat) (slots page : ℕ) : Type 0 where
   pub slots_are : AreSlots slots
   pub some_page : 0 < page
   pub home_is : IsFirstHome format slots (log_by format slots page).home
@@ -28,12 +28,12 @@ pub record IsPossible (format : LogFormat) (slots page : ℕ) : Type 0 where
 -- `version` is that of a format in which the log is possible
 abbrev pub IsLog : ℕ → ℕ → ℕ → UsbDiskLog → Type 0
 IsLog version slots page log = (format : LogFormat) × (version ≡ version_of format)
-    × IsPossible format slots page × (log ≡ log_by format slots page)
+    × IsPossibleLog format slots page × (log ≡ log_by format slots page)
 
 -- `version` is that of no such format
 abbrev pub IsNoLog : ℕ → ℕ → ℕ → Type 0
 IsNoLog version slots page =
-    (format : LogFormat) → version ≡ version_of format → ¬ IsPossible format slots page
+    (format : LogFormat) → version ≡ version_of format → ¬ IsPossibleLog format slots page
 
 -- the log is written, or it is refused and nothing is
 abbrev pub LogOfPost : ℕ → ℕ → ℕ → UsbDiskLog → UsbDiskLog → ℕ → Type 0
