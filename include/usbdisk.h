@@ -54,9 +54,9 @@
 extern "C" {
 #endif
 
-/* The version, 1.13.0: two bytes hold the first number, and one byte each of the others. The
+/* The version, 1.14.0: two bytes hold the first number, and one byte each of the others. The
  * library reports its own. Where the two differ, header and library are not of one version. */
-#define USBDISK_VERSION 0x010D00u
+#define USBDISK_VERSION 0x010E00u
 
 uint32_t usbdisk_version(void);
 
