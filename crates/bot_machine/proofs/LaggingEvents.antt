@@ -64,7 +64,7 @@ some_packet m disk None (taking case command intended taken due) wanted book s h
 some_packet m disk None (sending packets halt status) wanted book s h = absurd h
 
 -- its write is the one in progress, whatever the event
-its_write : (pending : Option (List ℕ)) (packet : List ℕ) (now : Conversation UnitState) (happens : Event) → pending ≡ Some packet
+pub its_write : (pending : Option (List ℕ)) (packet : List ℕ) (now : Conversation UnitState) (happens : Event) → pending ≡ Some packet
     → event_write pending now happens ≡ pending_write pending now
 its_write pending packet now happens is = rw is refl
 
@@ -183,17 +183,17 @@ module _ {M : Type 0} {state : M → State} {Follows : M → M → Type 0} (old 
       let before = state old.unit.store.medium in
       let after = state new.unit.store.medium in
       let done = g.goes book s h in
-      let o = done.2 in
+      let o = done in
       record {
         later = o.later;
         next = settled (over new o.later);
         step = subst (λ (p : Option (List ℕ)). LagStepAt Intends CarriesOut Ticks Drops (has_refused before after) p s event.Tick
-            Ticked (settled (over new o.later))) (sym done.1)
+            Ticked (settled (over new o.later))) (sym done.pending_is)
             (inr (record { answered = refl; step = o.step; after = refl }));
         stands = record { is = refl; fits = o.fits };
         ours = o.ours;
         cuts = λ ours. subst (λ (w : Option Write). LeavesOnly (FoundWith before.size book w) before after)
-            (sym (its_write s.pending done.0 s.now event.Tick done.1)) (g.cuts book s h ours);
+            (sym (its_write s.pending done.packet s.now event.Tick done.pending_is)) (g.cuts book s h ours);
         at_exit = λ ours. between_calls after new.unit o.later o.fits (o.ours ∙ ours);
       }
   goes_as (Some still) g book s h =

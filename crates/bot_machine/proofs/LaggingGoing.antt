@@ -15,7 +15,7 @@ use Rattle.spec.specs.{Lagging.{Lagging}, Disks.pending_write}
 use Rattle.spec.specs.declared.event.Answer.TheVariants.{Ack}
 use Rattle.spec.specs.declared.way.Way.TheVariants as ways
 use Rattle.scsi.specs.declared.intent.Intent.TheVariants as intent
-use Rattle.scsi_unit.specs.{Background.is_dead, Books.FoundWith, Serving.{has_refused}}
+use Rattle.scsi_unit.specs.{Background.is_dead, Books.FoundWith}
 use Rattle.scsi_unit.specs.UnitValue.{UnitValue, unit_limit, state_of}
 use Rattle.scsi_unit.specs.Pending.{may_want, transfer_of}
 use Rattle.scsi_unit.proofs.WantedCommands.{read_in}
@@ -28,7 +28,7 @@ use Rattle.bot_machine.specs.declared.pending.{Wanted.Wanted}
 use Rattle.bot_machine.specs.Refinement.{line_of, line_with, left_of}
 use Rattle.bot_machine.specs.{Disk.{DiskValue, over}, LaggingDisk.{HasWrapper, HasLastPacket, StandsPending}}
 use Rattle.bot_machine.specs.LaggingParts.{CommandAdvanced, PendingAdvanced, PendsAtOnce, PendsFor, CommandCarriedOut}
-use Rattle.bot_machine.specs.LaggingParts.{PendingOutcome, disk_of}
+use Rattle.bot_machine.specs.LaggingParts.{PendingCompleted, disk_of}
 use Rattle.bot_machine.proofs.LaggingParts.{pending_size, parsed_by_book}
 use Rattle.bot_machine.proofs.{LaggingPackets.{bare_of, same_lines, nothing_left, left_data, passes_live}, Packets.lies_after}
 use Rattle.transport_laws.proofs.Packets.{last_packet}
@@ -119,7 +119,7 @@ reads_none : (command : Command) → ((n : ℕ) → moves command ≡ intent.In 
 reads_none command room reads =
     let few = room (512 * (transfer_of command).count) (read_in command [] reads) in grind (arith, nat_tests, few, reads)
 
-not_reading : (wanted : Want) (command : Command) (taken : List ℕ) (write_cache : Bool)
+pub not_reading : (wanted : Want) (command : Command) (taken : List ℕ) (write_cache : Bool)
     → ((n : ℕ) → moves command ≡ intent.In n → n ≤ 0) → may_want wanted command taken write_cache ≡ true → wanted ≡ want.Read → ⊥
 not_reading wanted command taken write_cache room may is = reads_none command room (rw is at may)
 
@@ -168,6 +168,67 @@ by_phase size phases.Status buffer status is = absurd (let e = is in cc)
 pub command_expected : (bulk : BulkState) (buffer : List ℕ) → (line_of bulk buffer).left ≡ finished → bulk.phase ≡ phases.Command
 command_expected bulk buffer is = by_phase (bytes_of bulk.size) bulk.phase buffer bulk.status is
 
+-- ---- a packet that was pending is acted on
+
+-- the wrapper of a command that takes no data
+pub completes_wrapper : {M : Type 0} (refused : Bool) (m after : State) (unit new : UnitValue M) (from to : BulkState)
+    (before out : List ℕ) (e : Exchange) (wanted : Wanted) → PendsAtOnce (unit_limit unit) (disk_of unit from before) e wanted
+    → from.out_halted ≡ false → (book : Book) (s : Lagging UnitState) → HasWrapper m (disk_of unit from before) e wanted book s
+    → CommandCarriedOut refused after e [] unit new from to out book → PendingCompleted refused after (disk_of new to out) book s
+completes_wrapper refused m after unit new from to before out e wanted pends halted book s h o =
+    let old = over (disk_of unit from before) book in
+    let later = over (disk_of new to out) o.next in
+    let block = e.command.block.items in
+    let size = pending_size m unit wanted.command [] wanted.want book h.fits in
+    let opens = opens_kept refused h.packet e wanted.command old later h.spelled pends.pends.is_case pends.is_at_once pends.intended
+    (o.carried_out out (line_of from before).left (λ same. refl)) (is_dead unit.store.cached)
+    (parsed_by_book unit block book size ∙ sym pends.pends.parsed) in
+    record {
+      packet = h.packet;
+      pending_is = ap (λ (x : Lagging UnitState). x.pending) h.is;
+      later = o.next;
+      step = subst (λ (x : Lagging UnitState). OutStep Intends CarriesOut Ticks refused x.now.line.out_halted x.now.line.left h.packet
+          x.now Ack later) (sym h.is)
+          (subst (λ (l : Script). OutStep Intends CarriesOut Ticks refused from.out_halted l h.packet old Ack later) (sym pends.expected)
+          (subst (λ (b : Bool). OutStep Intends CarriesOut Ticks refused b finished h.packet old Ack later) (sym halted) (
+            refl,
+            inl
+                opens,
+          )));
+      fits = o.fits;
+      ours = o.ours;
+    }
+
+-- the last packet of data
+pub completes_data : {M : Type 0} (refused : Bool) (m after : State) (unit new : UnitValue M) (from to : BulkState) (before : List ℕ)
+    (t : Taking) (wanted : Wanted) → moment_of t.exchange.case ≡ after_data → from.out_halted ≡ false
+    → (book : Book) (s : Lagging UnitState)
+    → HasLastPacket m (disk_of unit from before) t.exchange.case t.exchange.command t.exchange.intended (take t.filled before) wanted book s
+    → CommandCarriedOut refused after t.exchange (take t.filled before) unit new (bare_of from) to [] book
+    → PendingCompleted refused after (disk_of new to before) book s
+completes_data refused m after unit new from to before t wanted moment halted book s h o =
+    let left = taking t.exchange.case t.exchange.command t.exchange.intended h.bytes (length h.packet) in
+    let old = on_line (line_with from left) (state_of unit book) in
+    let later = over (disk_of new to before) o.next in
+    record {
+      packet = h.packet;
+      pending_is = ap (λ (x : Lagging UnitState). x.pending) h.is;
+      later = o.next;
+      step = subst (λ (x : Lagging UnitState). OutStep Intends CarriesOut Ticks refused x.now.line.out_halted x.now.line.left h.packet
+          x.now Ack later) (sym h.is)
+          (subst (λ (b : Bool). OutStep Intends CarriesOut Ticks refused b left h.packet old Ack later) (sym halted) (
+            refl,
+            inr (inl (record {
+              size = refl;
+              last = h.few;
+              carried_out = subst (λ (taken : List ℕ). IsCarriedOut Intends CarriesOut Ticks refused t.exchange.case t.exchange.command
+                  t.exchange.intended taken old later) h.taken_is (o.carried_out before left (lies_after before t.exchange.case [] moment));
+            })),
+          ));
+      fits = o.fits;
+      ours = o.ours;
+    }
+
 -- ---- a command that takes no data
 
 module _ {M : Type 0} {state : M → State} {Follows : M → M → Type 0} (unit new : UnitValue M) (from to : BulkState)
@@ -184,40 +245,13 @@ module _ {M : Type 0} {state : M → State} {Follows : M → M → Type 0} (unit
       (state new.store.medium)) (wrapper_write (state unit.store.medium) (unit_limit unit) (disk_of unit from before) e wanted pends
       halted s book h) (a.cuts book h.fits ours)
 
-  completes_wrapper : (book : Book) (s : Lagging UnitState)
-      → HasWrapper (state unit.store.medium) (disk_of unit from before) e wanted book s
-      → CommandCarriedOut (state unit.store.medium) (state new.store.medium) e [] unit new from to out book
-      → PendingOutcome None (state unit.store.medium) (state new.store.medium) (disk_of new to out) book s
-  completes_wrapper book s h o =
-      let refused = has_refused (state unit.store.medium) (state new.store.medium) in
-      let old = over (disk_of unit from before) book in
-      let later = over (disk_of new to out) o.next in
-      let block = e.command.block.items in
-      let size = pending_size (state unit.store.medium) unit wanted.command [] wanted.want book h.fits in
-      let opens = opens_kept refused h.packet e wanted.command old later h.spelled pends.pends.is_case pends.is_at_once pends.intended
-      (o.carried_out out (line_of from before).left (λ same. refl)) (is_dead unit.store.cached)
-      (parsed_by_book unit block book size ∙ sym pends.pends.parsed) in (
-        h.packet,
-        ap (λ (x : Lagging UnitState). x.pending) h.is,
-        record {
-          later = o.next;
-          step = subst (λ (x : Lagging UnitState). OutStep Intends CarriesOut Ticks refused x.now.line.out_halted x.now.line.left h.packet
-              x.now Ack later) (sym h.is)
-              (subst (λ (l : Script). OutStep Intends CarriesOut Ticks refused from.out_halted l h.packet old Ack later) (sym
-              pends.expected)
-              (subst (λ (b : Bool). OutStep Intends CarriesOut Ticks refused b finished h.packet old Ack later) (sym halted)
-              (refl, inl opens)));
-          fits = o.fits;
-          ours = o.ours;
-        },
-      )
-
   pub over_wrapper : is_next ≡ None
       → PendingAdvanced state Follows (disk_of unit from before) (record { wrapper = Some e; wanted = wanted }) None (disk_of new to out)
   over_wrapper none =
       let over_it = rw none at a in
       record {
-        goes = λ book s h. completes_wrapper book s h (over_it.goes book h.fits);
+        goes = λ book s h. completes_wrapper _ (state unit.store.medium) (state new.store.medium) unit new from to before out e wanted pends
+            halted book s h (over_it.goes book h.fits);
         cuts = cuts_wrapper;
         awaits = λ free. tt;
         calls = a.calls;
@@ -275,38 +309,6 @@ module _ {M : Type 0} {state : M → State} {Follows : M → M → Type 0} (unit
       (state new.store.medium)) (data_write (state unit.store.medium) (disk_of unit from before) t.exchange (take t.filled before)
       wanted pends halted s book h) (a.cuts book h.fits ours)
 
-  data_completes : (book : Book) (s : Lagging UnitState)
-      → HasLastPacket (state unit.store.medium) (disk_of unit from before) t.exchange.case t.exchange.command t.exchange.intended
-      (take t.filled before) wanted book s
-      → CommandCarriedOut (state unit.store.medium) (state new.store.medium) t.exchange (take t.filled before) unit new (bare_of from) to []
-      book
-      → PendingOutcome None (state unit.store.medium) (state new.store.medium) (disk_of new to before) book s
-  data_completes book s h o =
-      let refused = has_refused (state unit.store.medium) (state new.store.medium) in
-      let left = taking t.exchange.case t.exchange.command t.exchange.intended h.bytes (length h.packet) in
-      let old = on_line (line_with from left) (state_of unit book) in
-      let later = over (disk_of new to before) o.next in (
-        h.packet,
-        ap (λ (x : Lagging UnitState). x.pending) h.is,
-        record {
-          later = o.next;
-          step = subst (λ (x : Lagging UnitState). OutStep Intends CarriesOut Ticks refused x.now.line.out_halted x.now.line.left h.packet
-              x.now Ack later) (sym h.is)
-              (subst (λ (b : Bool). OutStep Intends CarriesOut Ticks refused b left h.packet old Ack later) (sym halted) (
-                refl,
-                inr (inl (record {
-                  size = refl;
-                  last = h.few;
-                  carried_out = subst (λ (taken : List ℕ). IsCarriedOut Intends CarriesOut Ticks refused t.exchange.case
-                      t.exchange.command t.exchange.intended taken old later) h.taken_is
-                      (o.carried_out before left (lies_after before t.exchange.case [] moment));
-                })),
-              ));
-          fits = o.fits;
-          ours = o.ours;
-        },
-      )
-
   pub over_data : is_next ≡ None
       → PendingAdvanced state Follows (disk_of unit from before) (record { wrapper = None; wanted = wanted }) None (disk_of new to before)
   over_data none =
@@ -314,7 +316,9 @@ module _ {M : Type 0} {state : M → State} {Follows : M → M → Type 0} (unit
       record {
         goes = λ book s stands.
             let h = subst (λ (l : Script). StandsPending None l (state unit.store.medium) (disk_of unit from before) wanted book s)
-            (left_data from before t is) stands in data_completes book s h (over_it.goes book h.fits);
+            (left_data from before t is) stands in
+            completes_data _ (state unit.store.medium) (state new.store.medium) unit new from to before t wanted moment halted book s h
+            (over_it.goes book h.fits);
         cuts = λ book s stands ours. data_cuts book s (subst (λ (l : Script). StandsPending None l (state unit.store.medium)
             (disk_of unit from before) wanted book s) (left_data from before t is) stands) ours;
         awaits = λ free. tt;

@@ -86,7 +86,7 @@ module _ {M : Type 0} (before after : State) (old new : UnitValue M) (exchange :
     (sends : SendsWhenDone parsed (unit_limit old) (Done answer)) (laid : LaysOutAnswer from exchange answer to) where
   pub over : (book : Book) → checked (state_of old book) exchange.command.block.items ≡ checked_for_fault (is_dead old.store.cached) parsed
       → HasEnded before after parsed taken old (answer_of answer out) new book
-      → CommandCarriedOut before after exchange taken old new from to out book
+      → CommandCarriedOut (has_refused before after) after exchange taken old new from to out book
   over book is ended =
       let effect : CarriesOut (has_refused before after) exchange.command.block.items taken (state_of old book) (answer_of answer out)
       (state_of new ended.0) = subst (λ (told : Result Command Sense). IsOutcome (has_refused before after) told taken (state_of old book)

@@ -14,3 +14,5 @@ pub mod LaggingParts
 pub mod LaggingPackets
 pub mod LaggingGoing
 pub mod LaggingEvents
+pub mod LaggingRequests
+pub mod LaggingRefusals

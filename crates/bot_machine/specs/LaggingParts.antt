@@ -6,6 +6,7 @@ use Rattle.medium.specs.{Medium.State, Moments.{IsUnchanged, LeavesOnly}}
 use Rattle.logical_blocks.specs.Book.{Book}
 use Rattle.scsi.specs.{declared.command.Command.Command, Rules.{CarriesOut, Ticks}}
 use Rattle.scsi.specs.Rules.{UnitState, checked_for_fault, moves, write_of_command}
+use Rattle.scsi.specs.Rules.{IsFaulted}
 use Rattle.spec.specs.{Cases.IsCase}
 use Rattle.spec.specs.Conversation.{IsCarriedOut, OutStep}
 use Rattle.spec.specs.{declared.event.Answer.Answer, declared.event.Answer.TheVariants.Ack}
@@ -89,12 +90,12 @@ AnswerLaidOut old exchange (Done answer) new = LaysOutAnswer old exchange answer
 AnswerLaidOut old exchange (Wants want) new = new ≡ old
 
 -- It is over: it is carried out over these bytes, by the rules.
-pub record CommandCarriedOut {M : Type 0} (before after : State) (exchange : Exchange)
+pub record CommandCarriedOut {M : Type 0} (refused : Bool) (after : State) (exchange : Exchange)
     (taken : List ℕ) (old new : UnitValue M) (from to : BulkState) (out : List ℕ)
     (book : Book) : Type 0 where
   pub next : Book
   pub carried_out : (buffer : List ℕ) (left : Script) → LiesIn buffer exchange.case out
-      → IsCarriedOut Intends CarriesOut Ticks (has_refused before after) exchange.case
+      → IsCarriedOut Intends CarriesOut Ticks refused exchange.case
       exchange.command exchange.intended taken (on_line (line_with from left) (state_of old book))
       (on_line (line_of to buffer) (state_of new next))
   pub fits : FitsUnit after new next
@@ -110,7 +111,7 @@ pub record CommandWaiting {M : Type 0} (after : State) (taken : List ℕ) (wante
 abbrev pub CommandProgress : {M : Type 0} → Option Wanted → State → State → Exchange → List ℕ
     → UnitValue M → UnitValue M → BulkState → BulkState → List ℕ → Book → Type 0
 CommandProgress None before after exchange taken old new from to out book =
-    CommandCarriedOut before after exchange taken old new from to out book
+    CommandCarriedOut (has_refused before after) after exchange taken old new from to out book
 CommandProgress (Some wanted) before after exchange taken old new from to out book =
     CommandWaiting after taken wanted old new book
 
@@ -250,19 +251,22 @@ abbrev pub taken_in : Option Exchange → Script → List ℕ
 taken_in None (taking case command intended taken due) = taken
 taken_in wrapper left = []
 
--- A packet that was pending is acted on in this step, or stays so, for each conversation.
-pub record PendingCompleted {M : Type 0} (before after : State) (new : DiskValue M) (book : Book)
-    (s : Lagging UnitState) (packet : List ℕ) : Type 0 where
+-- A packet that was pending is acted on in this step, as if it came in it.
+pub record PendingCompleted {M : Type 0} (refused : Bool) (after : State) (new : DiskValue M)
+    (book : Book) (s : Lagging UnitState) : Type 0 where
+  pub packet : List ℕ
+  pub pending_is : s.pending ≡ Some packet
   pub later : Book
-  pub step : OutStep Intends CarriesOut Ticks (has_refused before after) s.now.line.out_halted
-      s.now.line.left packet s.now Ack (over new later)
+  pub step : OutStep Intends CarriesOut Ticks refused s.now.line.out_halted s.now.line.left packet
+      s.now Ack (over new later)
   pub fits : FitsDisk after new later
   pub ours : later.ours ≡ book.ours
 
+-- it is, or it is still pending
 abbrev pub PendingOutcome : {M : Type 0} → Option Pending → State → State → DiskValue M → Book
     → Lagging UnitState → Type 0
 PendingOutcome None before after new book s =
-    (packet : List ℕ) × (s.pending ≡ Some packet) × PendingCompleted before after new book s packet
+    PendingCompleted (has_refused before after) after new book s
 PendingOutcome (Some pending) before after new book s =
     StandsPending pending.wrapper new.line.left after new pending.wanted book s
 
@@ -283,5 +287,29 @@ pub record PendingAdvanced {M : Type 0} (state : M → State) (Follows : M → M
   pub calls : StepCalls (state old.unit.store.medium) (state new.unit.store.medium)
       pending.wanted.command pending.wanted.want old.unit
   pub keeps : StepKeeps state Follows old.unit new.unit
+  pub limit : unit_limit new.unit ≡ unit_limit old.unit
+  pub size : new.line.packet_size ≡ old.line.packet_size
+
+-- ---- the device refused a call
+
+-- It is acted on as by the rules of a refused call, or it waits for its blocks on a faulted unit.
+abbrev pub RefusalOutcome : {M : Type 0} → Option Pending → State → DiskValue M → Book
+    → Lagging UnitState → Type 0
+RefusalOutcome None after new book s = PendingCompleted true after new book s
+RefusalOutcome (Some pending) after new book s =
+    StandsPending pending.wrapper new.line.left after new pending.wanted book
+    (record s { now = record s.now { unit = state_of new.unit book } })
+    × IsFaulted true s.now.unit (state_of new.unit book)
+
+-- The device behind the medium refused a call while this was pending: no call is made.
+pub record PendingRefused {M : Type 0} (state : M → State) (old : DiskValue M) (pending : Pending)
+    (result : Option Pending) (new : DiskValue M) : Type 0 where
+  pub goes : (book : Book) (s : Lagging UnitState)
+      → StandsPending pending.wrapper old.line.left (state old.unit.store.medium) old
+      pending.wanted book s
+      → RefusalOutcome result (state new.unit.store.medium) new book s
+  pub awaits : old.line.out_halted ≡ false → AwaitsDevice new result
+  pub medium : new.unit.store.medium ≡ old.unit.store.medium
+  pub dead : is_dead new.unit.store.cached ≡ true
   pub limit : unit_limit new.unit ≡ unit_limit old.unit
   pub size : new.line.packet_size ≡ old.line.packet_size

@@ -1,18 +1,27 @@
 //! A disk whose device may be behind.
-ghost use Rattle.std.specs.Prelude.{◌≡◌, ◌≤◌, length, None, Some, false};
+ghost use Rattle.std.specs.Prelude.{◌≡◌, ◌≤◌, length, None, Some, false, true};
 ghost use Rattle.medium.specs.Moments.{IsUnchanged};
 ghost use Rattle.scsi_unit.specs.Calls.{ComesBy};
 ghost use Rattle.spec.specs.declared.event.Event.TheVariants as event;
 ghost use Rattle.spec.specs.declared.event.Answer.TheVariants.{Ticked};
-ghost use Rattle.bot_machine.specs.Answers.{answer_to_out};
-ghost use Rattle.bot_machine.specs.LaggingDisk.{IsLagStep, MakesStep, WorksAside, want_of};
-ghost use Rattle.bot_machine.specs.LaggingParts.{PacketBegun, PendingAdvanced, PendsOnDisk};
+ghost use Rattle.bot_machine.specs.Answers.{answer_to_out, answer_to_setup};
+ghost use Rattle.bot_machine.specs.LaggingDisk.{IsLagStep, IsLagStepBy, MakesStep, WorksAside};
+ghost use Rattle.bot_machine.specs.LaggingDisk.{want_of};
+ghost use Rattle.bot_machine.specs.{Disk.FitsDisk, LaggingParts.PendingRefused};
+ghost use Rattle.logical_blocks.specs.Book.{Book};
+ghost use Rattle.scsi_unit.specs.{Background.is_dead, UnitValue.state_of};
+ghost use Rattle.scsi_unit.specs.Faulting.{faulted_state, faulted_unit};
+ghost use Rattle.scsi_unit.specs.declared.progress.Want.TheVariants as want;
+ghost use Rattle.bot_machine.specs.LaggingParts.{AwaitsDevice, PacketBegun, PendingAdvanced};
 
 use crate::bulk_state::Phase;
 use crate::disk::Disk;
-use crate::event::OutAnswer;
+use crate::event::{OutAnswer, SetupAnswer};
 use crate::exchange::Exchange;
-use crate::pending::{Pending, Wanted, advance_at_once, advance_taken, data_packet, open_packet};
+use crate::pending::{
+    Pending, Wanted, advance_at_once, advance_taken, data_packet, open_packet, settle,
+};
+use crate::request::is_reset;
 use medium::Medium;
 use scsi_unit::{Want, Work};
 use std::marker::Model;
@@ -104,6 +113,38 @@ impl<M: Medium> LaggingDisk<M> {
         }
     }
 
+    /// The device behind the medium refused a call that it had taken: the disk is faulted, and no
+    /// call is made. A command that is pending ends with a write error where it writes or makes
+    /// writes durable. A READ that waits for its blocks ends in its next step, as on a unit that
+    /// was faulted before.
+    pub fn refuse(&mut self)
+        ensures step { IsLagStepBy true (M.state self.old.disk.unit.store.medium)
+            (M.state self.new.disk.unit.store.medium) self.old event.Tick Ticked self.new }
+        ensures dead { is_dead self.new.disk.unit.store.cached ≡ true }
+        ensures medium { self.new.disk.unit.store.medium ≡ self.old.disk.unit.store.medium }
+    {
+        match mem::replace(&mut self.pending, None) {
+            Some(pending) => self.pending = self.disk.refuse_pending(pending),
+            None => self.disk.stop(),
+        }
+    }
+
+    /// Takes a setup packet (Bulk-Only Transport 1.0, 3; USB 2.0, 9.4). A mass storage reset drops
+    /// the command that is pending: its write is the last one accepted, whole, or is not accepted.
+    /// No call of the medium is made.
+    pub fn setup(&mut self, packet: [u8; 8]) -> SetupAnswer
+        ensures step { IsLagStep (M.state self.old.disk.unit.store.medium)
+            (M.state self.new.disk.unit.store.medium) self.old (event.Setup packet)
+            (answer_to_setup result) self.new }
+        ensures unit { self.new.disk.unit ≡ self.old.disk.unit }
+    {
+        if is_reset(packet) {
+            self.pending = None;
+            return self.disk.setup(packet);
+        }
+        self.disk.setup(packet)
+    }
+
     /// What the command that is pending wants of the device.
     pub fn wants(&self) -> Option<Want>
         ensures { result ≡ want_of self.now.pending }
@@ -149,8 +190,7 @@ impl<M: Medium> Disk<M> {
 
     // Makes one step of the command that is pending. What is pending then.
     fn advance(&mut self, pending: Pending) -> Option<Pending>
-        requires unhalted { self.old.line.out_halted ≡ false }
-        requires pends { PendsOnDisk pending.wrapper self.old pending.wanted }
+        requires { AwaitsDevice self.old (Some pending) }
         ensures { PendingAdvanced M.state M.follows self.old pending result self.new }
     {
         let Pending { wrapper, wanted } = pending;
@@ -162,8 +202,10 @@ impl<M: Medium> Disk<M> {
 
     // The same of a command that takes no data.
     fn advance_wrapper(&mut self, exchange: Exchange, wanted: Wanted) -> Option<Pending>
-        requires unhalted { self.old.line.out_halted ≡ false }
-        requires pends { PendsOnDisk (Some exchange) self.old wanted }
+        requires { AwaitsDevice self.old (Some (record {
+          wrapper = Some exchange;
+          wanted = wanted;
+        })) }
         ensures { PendingAdvanced M.state M.follows self.old
             (record { wrapper = Some exchange; wanted = wanted }) result self.new }
     {
@@ -182,8 +224,7 @@ impl<M: Medium> Disk<M> {
 
     // The same of a command whose data is on the line.
     fn advance_data(&mut self, wanted: Wanted) -> Option<Pending>
-        requires unhalted { self.old.line.out_halted ≡ false }
-        requires pends { PendsOnDisk None self.old wanted }
+        requires { AwaitsDevice self.old (Some (record { wrapper = None; wanted = wanted })) }
         ensures { PendingAdvanced M.state M.follows self.old
             (record { wrapper = None; wanted = wanted }) result self.new }
     {
@@ -203,5 +244,61 @@ impl<M: Medium> Disk<M> {
             wrapper: None,
             wanted: Wanted { want, ..wanted },
         })
+    }
+
+    // The device refused a call, and nothing of the line changes.
+    fn stop(&mut self)
+        ensures disk { self.new ≡ record self.old { unit = faulted_unit false self.old.unit } }
+        ensures state { (book : Book) → state_of self.new.unit book
+            ≡ faulted_state false (state_of self.old.unit book) }
+        ensures fits { (book : Book) → FitsDisk (M.state self.old.unit.store.medium) self.old book
+            → FitsDisk (M.state self.new.unit.store.medium) self.new book }
+    {
+        self.unit.fault(false);
+    }
+
+    // The device refused a call while this is pending. What is pending then.
+    fn refuse_pending(&mut self, pending: Pending) -> Option<Pending>
+        requires { AwaitsDevice self.old (Some pending) }
+        ensures { PendingRefused M.state self.old pending result self.new }
+    {
+        let Pending { wrapper, wanted } = pending;
+        if let Want::Read = wanted.want {
+            self.stop();
+            return Some(Pending { wrapper, wanted });
+        }
+        match wrapper {
+            Some(exchange) => self.refuse_wrapper(exchange, wanted),
+            None => self.refuse_data(wanted),
+        }
+    }
+
+    // A command that takes no data, and writes or makes writes durable, ends with a write error.
+    fn refuse_wrapper(&mut self, exchange: Exchange, wanted: Wanted) -> Option<Pending>
+        requires awaits { AwaitsDevice self.old (Some (record {
+          wrapper = Some exchange;
+          wanted = wanted;
+        })) }
+        requires writes { wanted.want ≡ want.Read → ⊥ }
+        ensures { PendingRefused M.state self.old
+            (record { wrapper = Some exchange; wanted = wanted }) result self.new }
+    {
+        let progress = self.unit.refuse();
+        settle(&mut self.bulk, &exchange, progress);
+        None
+    }
+
+    // The same of a command whose data is on the line.
+    fn refuse_data(&mut self, wanted: Wanted) -> Option<Pending>
+        requires { AwaitsDevice self.old (Some (record { wrapper = None; wanted = wanted })) }
+        ensures { PendingRefused M.state self.old (record { wrapper = None; wanted = wanted })
+            result self.new }
+    {
+        let Phase::DataOut(taking) = mem::replace(&mut self.bulk.phase, Phase::Command) else {
+            unreachable!()
+        };
+        let progress = self.unit.refuse();
+        settle(&mut self.bulk, &taking.exchange, progress);
+        None
     }
 }

@@ -183,8 +183,8 @@ pub(crate) fn advance_taken<M: Medium>(
     settle(bulk, exchange, progress)
 }
 
-// Lays out the answer of a command that is over. What it wants, if it is not.
-fn settle(bulk: &mut BulkState, exchange: &Exchange, progress: Progress) -> Option<Want>
+/// Lays out the answer of a command that is over. What it wants, if it is not.
+pub(crate) fn settle(bulk: &mut BulkState, exchange: &Exchange, progress: Progress) -> Option<Want>
     requires { IsCase exchange.now.case exchange.now.command.host exchange.now.intended }
     ensures want { result ≡ want_in progress }
     ensures line { AnswerLaidOut bulk.old exchange.now progress bulk.new }

@@ -1,7 +1,7 @@
 //! Control requests (Bulk-Only Transport 1.0, 3; USB 2.0, 9.4).
-ghost use Rattle.std.specs.Prelude.{◌≡◌, ◌≢◌, MatchOption};
+ghost use Rattle.std.specs.Prelude.{◌≡◌, ◌≢◌, ◌↔◌, IsTrue, MatchOption};
 ghost use Rattle.bot_machine.specs.Refinement.{request_meant};
-ghost use Rattle.spec.specs.Requests.{Request, setup_packet};
+ghost use Rattle.spec.specs.Requests.{Request, setup_packet, mass_storage_reset};
 
 use spec::Endpoint;
 
@@ -28,4 +28,11 @@ pub(crate) fn read_request(packet: [u8; 8]) -> Option<ControlRequest>
         [0x82, 0, 0, 0, 0x02, 0, 2, 0] => Some(ControlRequest::GetStatus(Endpoint::Out)),
         _ => None,
     }
+}
+
+/// Whether a setup packet asks for a mass storage reset.
+pub(crate) fn is_reset(packet: [u8; 8]) -> bool
+    ensures { IsTrue result ↔ (packet ≡ setup_packet mass_storage_reset) }
+{
+    matches!(packet, [0x21, 0xff, 0, 0, 0, 0, 0, 0])
 }

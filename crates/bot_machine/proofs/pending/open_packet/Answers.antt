@@ -1,4 +1,4 @@
-use Rattle.std.proofs.Common.{◌∙◌, inl, inr, [], refl, sym, arith, rules}
+use Rattle.std.proofs.Common.{inl, inr, refl, arith, rules}
 use Rattle.transport_laws.proofs.Packets.{packets_of-none}
 use Rattle.spec.specs.Exchange.{finished}
 use Rattle.bot_machine.proofs.{Wrappers.{opens, waits_to_send_none}, Packets.some_bytes}
