@@ -255,6 +255,7 @@ module _ {M : Type 0} {state : M → State} {Follows : M → M → Type 0} (unit
         cuts = cuts_wrapper;
         awaits = λ free. tt;
         calls = a.calls;
+        onward = over_it.onward;
         keeps = a.passes.keeps;
         limit = a.passes.limit;
         size = ap bytes_of a.passes.size;
@@ -287,6 +288,7 @@ module _ {M : Type 0} {state : M → State} {Follows : M → M → Type 0} (unit
           },
         );
         calls = a.calls;
+        onward = on.onward;
         keeps = a.passes.keeps;
         limit = a.passes.limit;
         size = ap bytes_of a.passes.size;
@@ -323,6 +325,7 @@ module _ {M : Type 0} {state : M → State} {Follows : M → M → Type 0} (unit
             (disk_of unit from before) wanted book s) (left_data from before t is) stands) ours;
         awaits = λ free. tt;
         calls = a.calls;
+        onward = over_it.onward;
         keeps = a.passes.keeps;
         limit = a.passes.limit;
         size = ap bytes_of a.passes.size;
@@ -355,6 +358,7 @@ module _ {M : Type 0} {state : M → State} {Follows : M → M → Type 0} (unit
           (whole, moment, on.leaves.pends),
         );
         calls = a.calls;
+        onward = on.onward;
         keeps = a.passes.keeps;
         limit = a.passes.limit;
         size = ap bytes_of a.passes.size;

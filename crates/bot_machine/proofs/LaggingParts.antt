@@ -291,6 +291,7 @@ module _ {M : Type 0} {state : M → State} {Follows : M → M → Type 0} (old 
             wanted.want book f) ∙ sym can.parsed)
             (rw done at (post.line book f));
         cuts = post.cuts;
+        onward = record { fewer = λ same. absurd (let e = same in cc); follows = tt };
         leaves = laid.phase _ _ (rw same_limit_on (few_sent good (unit_limit old) answer sends));
         calls = post.makes;
         passes = record { keeps = post.keeps; limit = same_limit_on; size = laid.size };
@@ -305,6 +306,10 @@ module _ {M : Type 0} {state : M → State} {Follows : M → M → Type 0} (old 
         goes = λ book f.
             let pending : IsPending (state new.store.medium) wanted.command taken next old new book = rw wants at (post.line book f) in
             record { stays = pending.stays; fits = pending.fits };
+        onward = record {
+          fewer = λ same. post.fewer (let e = same in let w = wants in cc);
+          follows = rw wants at post.onward;
+        };
         cuts = post.cuts;
         leaves = record {
           unmoved = unmoved;

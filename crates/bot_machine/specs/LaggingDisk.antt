@@ -1,7 +1,7 @@
 -- A disk whose device may be behind: a packet is acknowledged once its bytes are all there, and its
 -- event is over when the device has done what its command asks for.
-use Rattle.std.specs.Prelude.{◌≡◌, ℕ, ◌≤◌, Bool, true, List, [], ◌++◌, length, take, Option, Some}
-use Rattle.std.specs.Prelude.{None}
+use Rattle.std.specs.Prelude.{◌≡◌, ℕ, ◌<◌, ◌≤◌, Bool, true, List, [], ◌++◌, length, take, Option}
+use Rattle.std.specs.Prelude.{Some, None, IfSome}
 use Rattle.logical_blocks.specs.Book.{Book}
 use Rattle.scsi.specs.Rules.{UnitState}
 use Rattle.spec.specs.{declared.wrapper.Cbw.Cbw, declared.way.Way.Way, declared.case.Case.Case}
@@ -11,12 +11,13 @@ use Rattle.spec.specs.{Exchange.{Script, taking}, UnitConversation.on_line}
 use Rattle.spec.specs.{Lagging.{Lagging, settled, UnitLagStep}, Disks.{event_write, pending_write}}
 use Rattle.medium.specs.{Medium.State, Moments.{LeavesOnly, EachCut}}
 use Rattle.scsi_unit.specs.{Books.FoundWith, Serving.has_refused}
-use Rattle.scsi_unit.specs.{Calls.ComesBy, Pending.{FitsPending, StepCalls}}
-use Rattle.scsi_unit.specs.UnitValue.{unit_limit, state_of}
+use Rattle.scsi_unit.specs.{Calls.ComesBy, Pending.{FitsPending, StepCalls, may_follow}}
+use Rattle.scsi_unit.specs.declared.progress.Progress.TheVariants.{Wants}
+use Rattle.scsi_unit.specs.UnitValue.{UnitValue, unit_limit, state_of}
 use Rattle.bot_machine.specs.declared.exchange.Exchange.{Exchange}
 use Rattle.bot_machine.specs.declared.pending.{Pending.Pending, Wanted.Wanted}
 use Rattle.bot_machine.specs.Disk.{DiskValue, FitsDisk, Elapses, WorksDisk, over}
-use Rattle.scsi_unit.specs.{Background.Work, declared.progress.Want.Want}
+use Rattle.scsi_unit.specs.{Background.{Work, steps_left}, declared.progress.Want.Want}
 
 -- What is seen of such a disk. The last bytes of a command that is pending are on the line, or it
 -- has none but its wrapper, of which nothing is left there.
@@ -108,6 +109,17 @@ abbrev pub IsLagStep : {M : Type 0} → State → State → LaggingValue M → E
 IsLagStep before after old event answer new =
     IsLagStepBy (has_refused before after) before after old event answer new
 
+-- what is wanted of the device
+abbrev pub want_of : Option Pending → Option Want
+want_of None = None
+want_of (Some pending) = Some pending.wanted.want
+
+-- Where a command wants the same again fewer steps are left, and else what may follow.
+pub record GoesOnward {M : Type 0} (old new : UnitValue M) (want : Want) (next : Option Want)
+    : Type 0 where
+  pub fewer : next ≡ Some want → steps_left new.store.cached < steps_left old.store.cached
+  pub follows : IfSome next (λ later. may_follow (Wants later) want ≡ true)
+
 -- what one step of a command that is pending calls, and that it goes on
 abbrev pub CallsOfStep : {M : Type 0} → Option Pending → (M → State) → DiskValue M → DiskValue M
     → Type 0
@@ -119,6 +131,8 @@ CallsOfStep (Some pending) state old new =
 pub record MakesStep {M : Type 0} (state : M → State) (Follows : M → M → Type 0)
     (old new : LaggingValue M) : Type 0 where
   pub calls : CallsOfStep old.pending state old.disk new.disk
+  pub onward : (pending : Pending) → old.pending ≡ Some pending
+      → GoesOnward old.disk.unit new.disk.unit pending.wanted.want (want_of new.pending)
   pub follows : ComesBy state Follows old.disk.unit.store new.disk.unit.store
 
 -- a step in the background is made where nothing is pending
@@ -127,8 +141,3 @@ abbrev pub WorksAside : {M : Type 0} → Work → (M → State) → (M → M →
 WorksAside work state Follows None old new =
     (new.pending ≡ None) × WorksDisk work state Follows old.disk new.disk
 WorksAside work state Follows (Some pending) old new = new ≡ old
-
--- what is wanted of the device
-abbrev pub want_of : Option Pending → Option Want
-want_of None = None
-want_of (Some pending) = Some pending.wanted.want

@@ -25,7 +25,8 @@ use Rattle.bot_machine.specs.declared.exchange.Exchange.{Exchange}
 use Rattle.bot_machine.specs.declared.bulk_state.BulkState.{BulkState}
 use Rattle.bot_machine.specs.declared.pending.{Pending.Pending, Wanted.Wanted}
 use Rattle.bot_machine.specs.Refinement.{line_of, line_with, LiesIn, LaysOutAnswer, IsInPhase}
-use Rattle.bot_machine.specs.{Disk.{DiskValue, FitsDisk, over}, LaggingDisk.StandsPending}
+use Rattle.bot_machine.specs.Disk.{DiskValue, FitsDisk, over}
+use Rattle.bot_machine.specs.LaggingDisk.{StandsPending, GoesOnward, want_of}
 
 -- ---- what holds while a command is pending
 
@@ -181,6 +182,7 @@ pub record CommandAdvanced {M : Type 0} (state : M → State) (Follows : M → M
       (length out)
   pub calls : StepCalls (state old.store.medium) (state new.store.medium) wanted.command
       wanted.want old
+  pub onward : GoesOnward old new wanted.want result
   pub passes : UnitKept state Follows old new from to
 
 -- ---- a packet, by itself
@@ -286,6 +288,7 @@ pub record PendingAdvanced {M : Type 0} (state : M → State) (Follows : M → M
   pub awaits : old.line.out_halted ≡ false → AwaitsDevice new result
   pub calls : StepCalls (state old.unit.store.medium) (state new.unit.store.medium)
       pending.wanted.command pending.wanted.want old.unit
+  pub onward : GoesOnward old.unit new.unit pending.wanted.want (want_of result)
   pub keeps : StepKeeps state Follows old.unit new.unit
   pub limit : unit_limit new.unit ≡ unit_limit old.unit
   pub size : new.line.packet_size ≡ old.line.packet_size
