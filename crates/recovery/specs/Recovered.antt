@@ -2,7 +2,7 @@
 use Rattle.std.specs.Prelude.{◌≡◌, ◌≢◌, ◌⊎◌, ℕ, ◌+◌, ◌-◌, ◌*◌, ◌^◌, ◌<◌, ◌≤◌, length, min}
 use Rattle.std.specs.Prelude.{replicate, Bool, true, false}
 use Rattle.medium.specs.{Moments.{EachCut, IsFlushed, LeavesOnly, SparesFrom}, Medium.State}
-use Rattle.medium.specs.{Medium.{Image, CutLeaves}, Sent.SendsUpTo}
+use Rattle.medium.specs.{Medium.{Image, CutLeaves, IsSound, Stays, Within}, Sent.SendsUpTo}
 use Rattle.logical_blocks.specs.Blocks.{Array}
 use Rattle.journal.specs.{declared.log_format.LogFormat.TheVariants.{Two, One}, Places.Shape}
 use Rattle.journal.specs.Places.{first_home, sectors_of, slot_sectors_of, migrated, limit_of}
@@ -33,6 +33,26 @@ pub record IsRecoveredFrom (old new : State) (answer : Recovered) : Type 0 where
   pub calls : AreTries (shape_of answer.sizes) old.content stood.head
       (min (length stood.records + 1) answer.sizes.slots)
       (old.calls + 6 + copy_calls answer.sizes.format stood.records) new.calls
+
+-- An image with these sizes fits into so many sectors, and this is a stamp of a record.
+pub record FitsRecovered (sectors : ℕ) (answer : Recovered) : Type 0 where
+  pub fits : sectors_of (shape_of answer.sizes) ≤ sectors
+  pub least : 1 ≤ answer.next
+  pub stamp_left : answer.next < 2 ^ 63
+
+-- A medium was recovered with this answer, and `now` has all that the recovery left: its contents,
+-- and no other that a cut may leave. Where the contents of before were ours, nothing in any image
+-- carries the next stamp or a later one.
+pub record LeftByRecovery (before after : State) (answer : Recovered) (now : State)
+    : Type 0 where
+  pub recovered : IsRecoveredFrom before after answer
+  pub fresh : (shape : Shape) (array : Array) (next : ℕ)
+      → IsOurs before.size shape before.content array next
+      → EachCut (IsFresh shape array next) after
+  pub sound : IsSound before
+  pub size_stays : now.size ≡ before.size
+  pub content_stays : Stays after.content now.content
+  pub sets : Within now.may_leave after.may_leave
 
 -- the image is ours
 abbrev pub IsOursForSome : ℕ → Image → Type 0

@@ -13,7 +13,7 @@ use Rattle.recovery.specs.Causes.{IsSuperCause, HasFewSlots, IsRefusalBy, Writes
 use Rattle.recovery.specs.{Causes.{IsInspected, OnlyLooks, IsLookRefusal}, Copying.Copying}
 use Rattle.recovery.specs.Copying.{CanCopy, copies_left, copy_kind, IsCopyStep}
 use Rattle.recovery.specs.{Surveying.{surveys_left, IsSurveyStep}, Recovered.LeavesAtLeast}
-use Rattle.recovery.specs.Recovered.{IsRecoveredFrom, IsFresh, HasNoneWaiting}
+use Rattle.recovery.specs.Recovered.{IsRecoveredFrom, IsFresh, HasNoneWaiting, FitsRecovered}
 use Rattle.recovery.specs.{Calls.most_reads_of, declared.surveying.Surveying.Surveying}
 use Rattle.recovery.specs.declared.{found.Found.Found, inspection.Inspection.Inspection}
 use Rattle.recovery.specs.declared.recovered.Recovered.{Recovered}
@@ -125,6 +125,7 @@ pub record CanStart (sectors : ℕ) (at : StartPoint) (survey : Surveying) (step
   pub flush : (found : Found) → at ≡ point.FlushCopies found → FitsFound sectors found
   pub move : (found : Found) → at ≡ point.WriteHead found → FitsFound sectors found
   pub last : (found : Found) → at ≡ point.FlushHead found → FitsFound sectors found
+  pub started : (answer : Recovered) → at ≡ point.Started answer → FitsRecovered sectors answer
 
 -- ---- one call on
 

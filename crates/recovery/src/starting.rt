@@ -1,5 +1,5 @@
 //! A start, call by call.
-ghost use Rattle.std.specs.Prelude.{◌≡◌, ◌<◌, ℕ, List, Ok, Err};
+ghost use Rattle.std.specs.Prelude.{◌≡◌, ◌<◌, ℕ, List, Ok, Err, IfOk};
 ghost use Rattle.std.proofs.Math.Nat.{le_refl};
 ghost use Rattle.medium.specs.Tally.{none};
 ghost use Rattle.medium.proofs.Moments.{at_exit};
@@ -7,6 +7,7 @@ ghost use Rattle.recovery.specs.Causes.{start_fault_of};
 ghost use Rattle.recovery.specs.Starting.{EndsStart, IsStarting, start_left, CanStart, IsStartStep};
 ghost use Rattle.recovery.specs.Starting.{start_kind, stage_at};
 ghost use Rattle.recovery.specs.HoldsStart.{HoldsStart, StartView, MayStart};
+ghost use Rattle.recovery.specs.Recovered.{FitsRecovered};
 ghost use Rattle.recovery.specs.declared.start_point.StartPoint.TheVariants.{Refused};
 
 use crate::copy_step::CopyStep;
@@ -27,7 +28,8 @@ use medium::{Call, Machine, Medium, MediumFault};
 /// record, and its caller lends a sector.
 #[derive(Drop)]
 pub struct Starting {
-    sectors: u64,
+    /// How many sectors the medium has.
+    pub sectors: u64,
     least: u64,
     stage: StartPoint,
     // Its reader reads the records again that are copied.
@@ -81,11 +83,14 @@ impl Starting {
     /// # Errors
     ///
     /// Those of `recover`.
-    pub fn end<M: Medium>(self) -> Result<Recovered, StartFault>
-        requires { start_left (stage_at self.stage self.survey self.step) ≡ none }
-        ensures { (least : ℕ) (start m : M) (had : List ℕ)
-            → HoldsStart M.state least (stage_at self.stage self.survey self.step) had start m
+    pub fn end<M: Medium>(&self) -> Result<Recovered, StartFault>
+        requires { start_left (stage_at self.now.stage self.now.survey self.now.step) ≡ none }
+        ensures ends { (least : ℕ) (start m : M) (had : List ℕ)
+            → HoldsStart M.state least (stage_at self.now.stage self.now.survey self.now.step)
+            had start m
             → EndsStart least (M.state start) (M.state m) result }
+        // Whatever was read, what it answers fits.
+        ensures fits { IfOk result (FitsRecovered self.now.sectors) }
     {
         match self.stage {
             StartPoint::Started(answer) => Ok(answer),

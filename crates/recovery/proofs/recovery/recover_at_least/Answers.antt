@@ -17,4 +17,4 @@ end-requires g c = at_end _ c.drive.result c.drive.ensures.driven.tallied c.driv
 pub returns : goal.returns
 returns g c =
     let so_far = held g (goal.at.returns g c).After-drive in
-    record { ends = c.end.ensures _ _ _ _ so_far; looks = so_far.looks; follows = c.drive.ensures.follows }
+    record { ends = c.end.ensures.ends _ _ _ _ so_far; looks = so_far.looks; follows = c.drive.ensures.follows }

@@ -12,5 +12,5 @@ end-requires c = subst (λ (s : Starting). start_left (stage_of s) ≡ none) (sy
 
 pub returns-in-None : goal.returns-in-None
 returns-in-None c = ended c.args.self c.end.result c.args.self.running.carried.asked refl (sym c.refusal.ensures ∙ c.in-None.is) c.requires
-    (λ least start m had held. c.end.ensures least start m had
+    (λ least start m had held. c.end.ensures.ends least start m had
     (subst (λ (s : Starting). HoldsStart state_of least (stage_of s) had start m) (sym c.into_machine.ensures) held))
