@@ -4,12 +4,12 @@ use Rattle.std.{proofs.lemmas.Bool.{Decides.nat_tests, false≢true}, specs.Prel
 use Rattle.medium.{specs.{Moments.{EachCut, IsFlushed, LeavesOnly}, Medium.{State, Image, IsSound}}, proofs.Moments.{at_exit, only_image}}
 use Rattle.logical_blocks.specs.{Blocks.{Array, Write, apply, after}, Book.{Book, opened}}
 use Rattle.journal.{proofs.StandingLaws.{StandsFor-one, HasFault-stands}, specs.{Standing.{StandsFor, Stands, IsOurs}, Formats.shape_of}}
-use Rattle.journal.specs.Places.{Shape, limit_of}
 use Rattle.redo_log.{specs.Held.{resting_view, HoldsView}, proofs.StoreFacts.empty_holds}
-use Rattle.recovery.specs.{Recovered.{IsOursForSome, StandsForOneOf, IsRecoveredFrom}, declared.start_fault.StartFault.StartFault}
+use Rattle.recovery.specs.{Recovered.{IsOursForSome, StandsForOneOf, LeftByRecovery}, declared.start_fault.StartFault.StartFault}
 use Rattle.recovery.specs.declared.recovered.Recovered.{Recovered}
-use Rattle.blocks.specs.{Started.{IsStartCause, IsStartedBy, started_log, ring_by, keeps_by}, Finding.{StandsAs, MayFind, FoundWith}}
-use Rattle.blocks.specs.{StoreValue.{Cached, layout_of, blocks_of, FitsBook}, Opening.{StandsForOpening, OpensOn, IsCauseFor}, Book.Same}
+use Rattle.blocks.specs.{Started.{IsStartCause, IsStartedFrom, started_log, cached_from, ring_by, keeps_by}, Finding.{StandsAs, MayFind}}
+use Rattle.blocks.specs.{StoreValue.{Cached, layout_of, blocks_of, FitsBook}, Opening.{Shape, StandsForOpening, OpensOn}, Book.Same}
+use Rattle.blocks.specs.{Finding.FoundWith, Opening.IsCauseFor}
 use Rattle.blocks.{specs.declared.start.Keeping.Keeping, proofs.BookTurns.{apply_same, shows_book, may_find}}
 use Rattle.journal.specs.Standing as image
 use Rattle.recovery.specs.Recovered as recovered
@@ -79,47 +79,44 @@ module _ (before after : State) (book : Book) (on : OpensOn before book) where
   is_cause_for fault h =
       grind (arith, h, no_fault image.BadSuper, no_fault image.BadVersion, no_fault image.BadSize, no_fault image.BadHead, used_up)
 
--- a store with nothing cached, whose first record takes this stamp
-abbrev pub started : Keeping → Shape → ℕ → Cached
-started keeping shape next = record {
-  log = started_log keeping shape next;
-  active = record { room = limit_of shape.format; numbers = []; bytes = [] };
-  frozen = record { room = limit_of shape.format; numbers = []; bytes = [] };
-}
-
 -- it fits a life that opens with the array that is at home
-opens : (keeping : Keeping) (shape : Shape) (array : Array) (next : ℕ) (ours : Bool) (m : State)
-    → HoldsView (started_log keeping shape next) m (resting_view array ours)
-    → FitsBook m (started keeping shape next) (opened shape.blocks array next ours)
-opens keeping shape array next ours m holds = grind (arith, resting_view)
+opens : (keeping : Keeping) (answer : Recovered) (array : Array) (ours : Bool) (m : State)
+    → HoldsView (started_log keeping (shape_of answer.sizes) answer.next) m (resting_view array ours)
+    → FitsBook m (cached_from keeping answer) (opened answer.sizes.blocks array answer.next ours)
+opens keeping answer array ours m holds = grind (arith, resting_view)
 
-module _ (keeping : Keeping) (before after : State) (answer : Recovered) (from : IsRecoveredFrom before after answer)
-    (sound : IsSound before) (size_stays : after.size ≡ before.size)
-    (fresh : (shape : Shape) (array : Array) (next : ℕ) → IsOurs before.size shape before.content array next
-    → EachCut (recovered.IsFresh shape array next) after) where
+module _ (keeping : Keeping) (before gone now : State) (answer : Recovered) (left : LeftByRecovery before gone answer now) where
   -- where the contents were ours for some array, they were ours for the one that is served
-  was_ours : EachCut (IsOursForSome before.size) before → IsOurs before.size (shape_of answer.sizes) before.content from.array answer.next
+  was_ours : EachCut (IsOursForSome before.size) before
+      → IsOurs before.size (shape_of answer.sizes) before.content left.recovered.array answer.next
   was_ours each =
-      let e = each before.content sound.holds_content in
-      let one = StandsFor-one _ _ _ _ _ _ _ _ _ from.stood e.3.stands in grind (arith, from.stood, e, one)
+      let e = each before.content left.sound.holds_content in
+      let one = StandsFor-one _ _ _ _ _ _ _ _ _ left.recovered.stood e.3.stands in grind (arith, left.recovered.stood, e, one)
+
+  -- nothing in any image carries the next stamp
+  fresh_now : IsOurs before.size (shape_of answer.sizes) before.content left.recovered.array answer.next
+      → EachCut (recovered.IsFresh (shape_of answer.sizes) left.recovered.array answer.next) now
+  fresh_now ours image cut =
+      left.fresh (shape_of answer.sizes) left.recovered.array answer.next ours image (λ s. left.sets s (image s) (cut s))
 
   -- under the premise the log and the medium hold what a cut may leave, too
   fits : (ours : Bool) → (ours ≡ true → EachCut (IsOursForSome before.size) before)
-      → FitsBook after (started keeping (shape_of answer.sizes) answer.next) (opened answer.sizes.blocks from.array answer.next ours)
+      → FitsBook now (cached_from keeping answer) (opened answer.sizes.blocks left.recovered.array answer.next ours)
   fits ours premise =
-      opens keeping (shape_of answer.sizes) from.array answer.next ours after (empty_holds (shape_of answer.sizes) answer.next
-      (ring_by keeping answer.sizes.slots) (keeps_by keeping) from.array ours after (omega (arith, from.stood.fits, size_stays))
-      (grind (arith)) (λ is image cut.
-      let left = fresh (shape_of answer.sizes) from.array answer.next (was_ours (premise is)) image cut in search (rules, arith, left)))
+      let from = left.recovered in
+      opens keeping answer from.array ours now (empty_holds (shape_of answer.sizes) answer.next
+      (ring_by keeping answer.sizes.slots) (keeps_by keeping) from.array ours now (omega (arith, from.stood.fits, left.size_stays))
+      (grind (arith, left.content_stays)) (λ is image cut.
+      let fresh = fresh_now (was_ours (premise is)) image cut in search (rules, arith, fresh)))
 
-  pub starts : IsStartedBy keeping before after (started keeping (shape_of answer.sizes) answer.next)
-  starts = record {
+  pub starts : IsStartedFrom keeping before now (cached_from keeping answer)
+  starts = let from = left.recovered in record {
     array = from.array;
     next = answer.next;
     stood = from.stood;
     stamp_left = from.stamp_left;
     fits = fits;
-    serves = serves before after (started keeping (shape_of answer.sizes) answer.next) from.array answer.next from.stood fits;
+    serves = serves before now (cached_from keeping answer) from.array answer.next from.stood fits;
     opens = record { opens = refl; stands = (shape_of answer.sizes, refl, from.stood); ours = λ ours. absurd (false≢true ours) };
     live = refl;
     empty = refl;
@@ -127,9 +124,7 @@ module _ (keeping : Keeping) (before after : State) (answer : Recovered) (from :
     log = refl;
     opened = λ ours. record {
       is = refl;
-      fits = omega (arith, from.stood.fits, size_stays);
-      rests = λ image cut.
-          let left = fresh (shape_of answer.sizes) from.array answer.next ours image cut in search (rules, arith, left);
+      fits = omega (arith, from.stood.fits, left.size_stays);
+      rests = λ image cut. let fresh = fresh_now ours image cut in search (rules, arith, fresh);
     };
-    recovered = (answer, from);
   }

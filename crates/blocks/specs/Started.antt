@@ -3,7 +3,7 @@ use Rattle.std.specs.Prelude.{◌≡◌, ◌⊎◌, ℕ, ◌+◌, ◌*◌, ◌^�
 use Rattle.std.specs.Prelude.{◌&&◌}
 use Rattle.medium.specs.{Medium.{State, Image}, Moments.{EachCut, LeavesOnly, IsFlushed}}
 use Rattle.logical_blocks.specs.{Blocks.Array, Book.{Book, opened}}
-use Rattle.journal.specs.{Places.Shape, declared.super_sector.Super.Super, Standing.StandsFor}
+use Rattle.journal.specs.{Places.{Shape, limit_of}, Formats.shape_of, Standing.StandsFor}
 use Rattle.journal.specs.Standing.{IsOurs, HasShape}
 use Rattle.redo_log.specs.Value.{LogValue, empty_from}
 use Rattle.theorems.specs.{Ahead.may_go_by, Headroom.HasHeadroom, Steady.{IsFilling, ReachesSteady}}
@@ -11,10 +11,12 @@ use Rattle.theorems.specs.{LogRuns.opened_with, Ordering.Opens}
 use Rattle.recovery.specs.{Causes.{IsCause, IsDeviceFault}, Calls.most_start_of}
 use Rattle.recovery.specs.Recovered.{IsRecoveredFrom, IsOursForSome, IsOursWithNext, StandsForOneOf}
 use Rattle.recovery.specs.Recovered.{RecoverySends, SparesTheRest}
-use Rattle.recovery.specs.declared.recovered.Recovered.{Recovered}
+-- handed on to the layers above
+pub use Rattle.recovery.specs.Recovered.{FitsRecovered, LeftByRecovery}
+pub use Rattle.recovery.specs.declared.recovered.Recovered.{Recovered}
 use Rattle.recovery.specs.declared.start_fault.StartFault.{TheVariants.NoMemory, StartFault}
 use Rattle.blocks.specs.declared.start.Keeping.{TheVariants.{ReadBack, Kept}, Keeping}
-use Rattle.blocks.specs.{Finding.MayFind, Kept.Invariant, Opening.OpensOn, StoreValue.Cached}
+use Rattle.blocks.specs.{Finding.MayFind, Opening.OpensOn, StoreValue.Cached}
 use Rattle.blocks.specs.StoreValue.{layout_of, blocks_of, is_dead, active_of, steps_left, FitsBook}
 use Rattle.blocks.specs.StoreValue.{StoreValue, slots_of}
 use Rattle.recovery.specs.Calls as recovery
@@ -33,9 +35,17 @@ abbrev pub started_log : Keeping → Shape → ℕ → LogValue
 started_log keeping shape next =
     empty_from shape next (ring_by keeping shape.slots) (keeps_by keeping)
 
+-- a store with nothing cached, behind a recovery with this answer
+abbrev pub cached_from : Keeping → Recovered → Cached
+cached_from keeping found = let limit : ℕ = limit_of found.sizes.format in record {
+  log = started_log keeping (shape_of found.sizes) found.next;
+  active = record { room = limit; numbers = []; bytes = [] };
+  frozen = record { room = limit; numbers = []; bytes = [] };
+}
+
 -- A store that has started serves the array for which the contents stood. It fits a life that opens
 -- with it, as ours where every image was. Nothing is cached, or left to do.
-pub record IsStartedBy (keeping : Keeping) (before after : State) (new : Cached) : Type 0 where
+pub record IsStartedFrom (keeping : Keeping) (before after : State) (new : Cached) : Type 0 where
   pub array : Array
   pub next : ℕ
   pub stood : StandsFor before.size (layout_of new) before.content array next
@@ -53,6 +63,11 @@ pub record IsStartedBy (keeping : Keeping) (before after : State) (new : Cached)
   -- where the contents were ours, that log is one that was opened
   pub opened : IsOurs before.size (layout_of new) before.content array next
       → Opens (opened_with (layout_of new) array next) after
+
+-- It was started by its own recovery of the medium.
+pub record IsStartedBy (keeping : Keeping) (before after : State) (new : Cached) : Type 0 where
+  pub from : IsStartedFrom keeping before after new
+  pub open from use *
   -- the medium was recovered, and nothing was done to it afterwards
   pub recovered : (answer : Recovered) × IsRecoveredFrom before after answer
 
@@ -113,17 +128,11 @@ pub record LeavesMedium {M : Type 0} (state : M → State) (Follows : M → M �
   -- where no record waits, the super, the head, or what tells that the next record is not there
   pub fresh_looks : recovery.LooksAtFresh (state old) (state new)
 
--- The medium was recovered, and what a store on it keeps in memory was made.
-pub record MakesParts (keeping : Keeping) (before after : State) (sizes : Super) (cached : Cached)
+-- What is known of the log of a store that has started, which goes ahead where that was asked for
+-- and its log allows it. Records alone fill its ring, which is steady after a sync for each slot
+-- but one, and never full.
+pub record HasStartedLog {M : Type 0} (keeping : Keeping) (ahead : Bool) (store : StoreValue M)
     : Type 0 where
-  pub started : IsStartedBy keeping before after cached
-  pub kept : Invariant after.size sizes cached false false
-
--- A store that was started so, and goes ahead where that was asked for and its log allows it.
--- Records alone fill its ring, which is steady after a sync for each slot but one, and never full.
-pub record StartsBy {M : Type 0} (keeping : Keeping) (ahead : Bool) (state : M → State)
-    (Follows : M → M → Type 0) (medium : M) (store : StoreValue M) : Type 0 where
-  pub started : IsStartedBy keeping (state medium) (state store.medium) store.cached
   pub keeps : store.cached.log.keeps ≡ keeps_by keeping
   pub ring : store.cached.log.ring ≡ ring_by keeping (slots_of store.cached)
   pub policy : store.goes_ahead ≡ (ahead
@@ -131,7 +140,26 @@ pub record StartsBy {M : Type 0} (keeping : Keeping) (ahead : Bool) (state : M �
   pub filling : store.goes_ahead ≡ true → IsFilling store.cached.log
   pub reaches : store.goes_ahead ≡ true → ReachesSteady store.cached.log
   pub headroom : store.goes_ahead ≡ true → HasHeadroom store.cached.log
+
+-- A store that was started so, on a medium that it recovered.
+pub record StartsBy {M : Type 0} (keeping : Keeping) (ahead : Bool) (state : M → State)
+    (Follows : M → M → Type 0) (medium : M) (store : StoreValue M) : Type 0 where
+  pub started : IsStartedBy keeping (state medium) (state store.medium) store.cached
+  pub has_log : HasStartedLog keeping ahead store
+  pub open has_log use *
   pub leaves : LeavesMedium state Follows medium store.medium
+
+-- A store that was started behind a recovery with this answer. Nothing was done to its medium. If
+-- that is as the recovery left it, the store is started as one that recovered it itself.
+pub record StartFromPost {M : Type 0} (keeping : Keeping) (ahead : Bool) (state : M → State)
+    (found : Recovered) (medium : M) (store : StoreValue M) : Type 0 where
+  pub medium_stays : store.medium ≡ medium
+  pub cached_is : store.cached ≡ cached_from keeping found
+  pub has_log : HasStartedLog keeping ahead store
+  pub open has_log use *
+  pub started : (before after : M)
+      → LeftByRecovery (state before) (state after) found (state medium)
+      → IsStartedFrom keeping (state before) (state medium) store.cached
 
 -- one that goes ahead where its log allows it
 abbrev pub StartsAhead : {M : Type 0} → (M → State) → (M → M → Type 0) → M → StoreValue M → Type 0

@@ -25,7 +25,7 @@ mod write_step;
 
 pub use fault::StoreFault;
 pub use laws::{flush_laws, run_laws};
-pub use recovery::StartFault;
+pub use recovery::{RecoveredMedium, StartFault};
 pub use stage::Stage;
 pub use start::Keeping;
 pub use start_error::StartError;

@@ -1,21 +1,20 @@
 //! How a store starts.
-ghost use Rattle.std.specs.Prelude.{◌≡◌, ◌⊎◌, ◌<◌, ◌≤◌, ◌^◌, ◌&&◌, ℕ, [], false, IfOk, IfErr};
+ghost use Rattle.std.specs.Prelude.{◌≡◌, ◌⊎◌, ◌<◌, ◌≤◌, ◌^◌, ◌&&◌, ℕ, false, IfOk, IfErr};
 ghost use Rattle.std.specs.Prelude.{MatchResult};
 ghost use Rattle.logical_blocks.specs.Blocks.{Array};
-ghost use Rattle.journal.specs.Places.{Shape, limit_of};
+ghost use Rattle.journal.specs.Places.{Shape};
 ghost use Rattle.journal.specs.Standing.{StandsFor};
-ghost use Rattle.journal.specs.Formats.{shape_of};
 ghost use Rattle.recovery.specs.Causes.{IsDeviceFault};
 ghost use Rattle.theorems.specs.Ahead.{may_go_by};
 ghost use Rattle.blocks.specs.Started.{IsStarted, IsStartCause, LeavesMedium};
-ghost use Rattle.blocks.specs.Started.{StartsAhead, StartsKeeping, RefusesStart, MakesParts};
-ghost use Rattle.blocks.specs.Started.{started_log, ring_by, StartsBy};
+ghost use Rattle.blocks.specs.Started.{StartsAhead, StartsKeeping, RefusesStart};
+ghost use Rattle.blocks.specs.Started.{cached_from, ring_by, StartsBy, StartFromPost};
 
 use crate::{StartError, Store};
 use cache::{Batch, Frozen};
 use journal::Super;
 use medium::Medium;
-use recovery::{Recovered, StartFault, recover};
+use recovery::{Recovered, RecoveredMedium, StartFault, recover};
 use redo_log::Log;
 use std::alloc::Global;
 
@@ -38,32 +37,12 @@ struct Parts {
 }
 
 impl Parts {
-    // Recovers a medium, and makes what a store on it keeps in memory.
-    fn recovered<M: Medium>(
-        alloc: Global,
-        medium: &mut M,
-        keeping: Keeping,
-    ) -> Result<Parts, StartFault>
-        ensures ok { IfOk result (λ parts. MakesParts keeping (M.state medium.old)
-            (M.state medium.new) parts.sizes
-            (record { log = parts.log; active = parts.active; frozen = parts.frozen })) }
-        ensures refused { IfErr result
-            (RefusesStart M.state M.follows medium.old medium.new) }
-        ensures leaves { LeavesMedium M.state M.follows medium.old medium.new }
-    {
-        let recovered = recover(medium)?;
-        Parts::new(alloc, &recovered, keeping)
-    }
-
     // A log without records and two empty batches. No other call takes memory.
     fn new(alloc: Global, recovered: &Recovered, keeping: Keeping) -> Result<Parts, StartFault>
         requires stamp { (1 ≤ recovered.now.next) × (recovered.now.next < 2 ^ 63) }
-        ensures ok { IfOk result (λ parts. parts ≡ record {
-          sizes = recovered.now.sizes;
-          log = started_log keeping (shape_of recovered.now.sizes) recovered.now.next;
-          active = record { room = limit_of recovered.now.sizes.format; numbers = []; bytes = [] };
-          frozen = record { room = limit_of recovered.now.sizes.format; numbers = []; bytes = [] };
-        }) }
+        ensures ok { IfOk result (λ parts. (parts.sizes ≡ recovered.now.sizes)
+            × (record { log = parts.log; active = parts.active; frozen = parts.frozen }
+            ≡ cached_from keeping recovered.now)) }
         ensures err { IfErr result (λ fault. fault ≡ StartFault.NoMemory) }
     {
         let made = match keeping {
@@ -135,7 +114,34 @@ impl<M: Medium> Store<M> {
             RefusesStart M.state M.follows medium error.medium error.fault) }
     {
         let mut medium = medium;
-        match Parts::recovered(alloc, &mut medium, keeping) {
+        match recover(&mut medium) {
+            Ok(found) => {
+                Store::start_from(alloc, RecoveredMedium { medium, found }, keeping, ahead)
+            }
+            Err(why) => Err(StartError { fault: why, medium }),
+        }
+    }
+
+    /// Starts a store on a medium that was recovered already: it makes the room for the log and for
+    /// both batches, and no call of the medium. It goes ahead where that is asked for and its log
+    /// allows it. Of each medium that was recovered with this answer, and to which nothing was done
+    /// since, it serves the blocks for which the contents of before stood, as from `start`.
+    ///
+    /// # Errors
+    ///
+    /// `NoMemory`. The medium comes back.
+    pub fn start_from(
+        alloc: Global,
+        on: RecoveredMedium<M>,
+        keeping: Keeping,
+        ahead: bool,
+    ) -> Result<Store<M>, StartError<M>>
+        ensures { MatchResult result
+            (λ store. StartFromPost keeping ahead M.state on.found on.medium store)
+            (λ error. (error.fault ≡ StartFault.NoMemory) × (error.medium ≡ on.medium)) }
+    {
+        let RecoveredMedium { medium, found } = on;
+        match Parts::new(alloc, &found, keeping) {
             Ok(parts) => {
                 let goes_ahead = goes_ahead_by(&parts.sizes, keeping, ahead);
                 Ok(Store {

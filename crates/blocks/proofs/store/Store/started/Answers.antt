@@ -1,34 +1,53 @@
-use Rattle.std.proofs.Common.{◌≡◌, ◌&&◌, arith, refl, Bool, true}
-use Rattle.medium.specs.Medium.{State}
-use Rattle.journal.specs.declared.super_sector.Super.{Super}
-use Rattle.theorems.{specs.Ahead.may_go_by, proofs.{Headroom.empty_has_room, Steady.{empty_fills, empty_reaches}}}
-use Rattle.blocks.specs.{StoreValue.{Cached, slots_of}, Started.{ring_by, keeps_by, MakesParts}, declared.start.Keeping.Keeping}
+use Rattle.std.proofs.Common.{Result, arith, rules, inl, inr, refl}
+use Rattle.std.specs.Prelude.{IfOk, IfErr, MatchResult}
+use Rattle.recovery.specs.Recovered.{LeftByRecovery}
+use Rattle.blocks.proofs.store.Store.started.Goals.{In-Ok}
 use Rattle.blocks.proofs.store.Store.started.Goals as goal
 
--- what is known of its log, by whose ring it goes ahead
-policy : (keeping : Keeping) (ahead told : Bool) (before after : State) (sizes : Super) (s : Cached)
-    → MakesParts keeping before after sizes s → told ≡ (ahead && may_go_by sizes.format (ring_by keeping sizes.slots))
-    → (s.log.keeps ≡ keeps_by keeping) × (s.log.ring ≡ ring_by keeping (slots_of s))
-    × (told ≡ (ahead && may_go_by s.log.shape.format s.log.ring)) × (told ≡ true → may_go_by s.log.shape.format s.log.ring ≡ true)
-policy keeping ahead told before after sizes s made is =
-    let ring : s.log.ring ≡ ring_by keeping s.log.shape.slots = rw made.started.log refl in
-    let by : told ≡ (ahead && may_go_by s.log.shape.format s.log.ring) = rw (ring, made.kept.shape) is in
-    (rw made.started.log refl, ring, by, λ on. grind (arith, by, on))
+-- nothing was done to the medium since
+left : (g : _) (c : In-Ok g) → LeftByRecovery (g.M.Medium.state c.args.medium) (g.M.Medium.state c.recover.new.m) c.in-Ok.found
+    (g.M.Medium.state c.recover.new.m)
+left g c = record {
+  recovered = c.in-Ok.ensures.ok;
+  fresh = c.in-Ok.ensures.fresh;
+  sound = g.met.M.Medium.sound c.args.medium;
+  size_stays = c.recover.ensures.leaves.moments.size_stays;
+  content_stays = λ s. refl;
+  sets = λ s x may. may;
+}
 
-pub invariant_of-result : goal.invariant_of-result
-invariant_of-result g c = grind (arith, c.in-Ok.ensures.ok, c.goes_ahead_by-goes_ahead.ensures)
+good : {X Y : Type 0} (P Q : X → Type 0) (R : Y → Type 0) (result : Result X Y) → MatchResult result P R → ((x : X) → P x → Q x)
+    → IfOk result Q
+good P Q R result told means = grind (arith, told, means)
+
+refused : {X Y : Type 0} (P : X → Type 0) (Q R : Y → Type 0) (result : Result X Y) → MatchResult result P Q → ((y : Y) → Q y → R y)
+    → IfErr result R
+refused P Q R result told means = grind (arith, told, means)
 
 pub returns-in-Ok-clause-ok : goal.returns-in-Ok-clause-ok
 returns-in-Ok-clause-ok g c =
-    let made = c.in-Ok.ensures.ok in
-    let log = policy _ _ _ _ _ _ _ made c.goes_ahead_by-goes_ahead.ensures in
+    good _ _ _ c.start_from.result c.start_from.ensures (λ store post. record {
+      started = rw post.medium_stays (record {
+        from = post.started _ _ (left g (goal.at.returns-in-Ok-clause-ok g c).In-Ok);
+        recovered = (c.in-Ok.found, c.in-Ok.ensures.ok);
+      });
+      has_log = post.has_log;
+      leaves = rw post.medium_stays (search rules);
+    })
+
+pub returns-in-Ok-clause-refused : goal.returns-in-Ok-clause-refused
+returns-in-Ok-clause-refused g c =
+    refused _ _ _ c.start_from.result c.start_from.ensures (λ error is. rw (is.0, is.1) (record {
+      cause = inr (refl, c.in-Ok.found, c.in-Ok.ensures.ok);
+      served = λ shape array next stands left. inr refl;
+      leaves = search rules;
+    }))
+
+pub returns-in-Err-clause-refused : goal.returns-in-Err-clause-refused
+returns-in-Err-clause-refused g c =
+    let why = c.in-Err.ensures.err in
     record {
-      started = made.started;
-      keeps = log.0;
-      ring = log.1;
-      policy = log.2;
-      filling = λ on. empty_fills _ _ _ _ _ made.started.log (log.3 on) (omega (arith, made.started.stood.next_is));
-      reaches = λ on. empty_reaches _ _ _ _ _ made.started.log (log.3 on) (omega (arith, made.started.stood.next_is));
-      headroom = λ on. empty_has_room _ _ _ _ _ made.started.log (log.3 on);
-      leaves = c.in-Ok.ensures.leaves;
+      cause = inl why.cause;
+      served = λ shape array next stands left. inl (why.served shape array next stands left);
+      leaves = search rules;
     }
