@@ -15,6 +15,9 @@ pub use Rattle.blocks.specs.Limit.{HasLimit}
 pub use Rattle.blocks.specs.Opening.{IsOursForSome, Stands, StandsForOpening, StandsForSome}
 pub use Rattle.blocks.specs.Opening.{OpensOn, IsCauseFor}
 pub use Rattle.blocks.specs.Started.{IsStarted, IsStartedBy, IsStartCause, StartLeaves}
+-- behind a recovery that was made before
+pub use Rattle.blocks.specs.Started.{IsStartedFrom, cached_from, Recovered, FitsRecovered}
+pub use Rattle.blocks.specs.Started.{LeftByRecovery}
 -- what it leaves of its medium, and which sectors its reads name
 pub use Rattle.blocks.specs.Started.{LeavesMedium}
 -- for the number of blocks with which a life opened
@@ -83,3 +86,28 @@ pub record StoreRefuses {M : Type 0} (state : M → State) (Follows : M → M �
 abbrev pub HasStore : State → State → Type 0
 HasStore before after = (keeping : Keeping) × (store : Cached)
     × IsStartedBy keeping before after store
+
+-- A store that was started for a unit behind a recovery with this answer, and retires as that
+-- asked. Nothing was done to its medium.
+pub record StoreFromPost {M : Type 0} (retiring : Retiring) (state : M → State) (found : Recovered)
+    (medium : M) (store : StoreValue M) : Type 0 where
+  pub medium_stays : store.medium ≡ medium
+  pub cached_is : store.cached ≡ cached_from (keeping_of retiring) found
+  pub policy : store.goes_ahead ≡ goes_ahead_by retiring (layout_of store.cached)
+  pub headroom : store.goes_ahead ≡ true → HasHeadroom store.cached.log
+  pub started : (before after : M)
+      → LeftByRecovery (state before) (state after) found (state medium)
+      → IsStartedFrom (keeping_of retiring) (state before) (state medium) store.cached
+
+-- A unit that was started behind a recovery with this answer. Nothing was done to its medium. If
+-- that is as the recovery left it, the unit is as one that recovered it itself.
+pub record UnitStartFromPost {M : Type 0} (retiring : Retiring) (state : M → State)
+    (found : Recovered) (medium : M) (identity : Identification) (unit : UnitValue M)
+    : Type 0 where
+  pub store : StoreFromPost retiring state found medium unit.store
+  pub retires : RetiresBy retiring unit
+  pub opened : (book : Book) → state_of unit book ≡ opened_unit (unit_limit unit) identity book
+  -- its limit is that of the image
+  pub limit : (before after : M)
+      → LeftByRecovery (state before) (state after) found (state medium)
+      → HasLimit (state before).size (unit_limit unit) (state before).content

@@ -22,7 +22,7 @@ mod store_calls;
 mod transfers;
 mod unit;
 
-pub use blocks::{StartError, StartFault, Work};
+pub use blocks::{RecoveredMedium, StartError, StartFault, Work};
 pub use laws::{pending_laws, unit_laws};
 pub use progress::{Progress, Want};
 pub use reading::HomeSectors;

@@ -1,13 +1,14 @@
 //! How a unit starts.
-ghost use Rattle.std.specs.Prelude.{ℕ, IfOk, IfErr, MatchResult};
+ghost use Rattle.std.specs.Prelude.{◌≡◌, ℕ, IfOk, IfErr, MatchResult};
 ghost use Rattle.medium.specs.Moments.{EachCut, LeavesOnly};
 ghost use Rattle.blocks.specs.Started.{StartLeaves, LeavesMedium};
 ghost use Rattle.blocks.specs.Limit.{HasLimit};
 ghost use Rattle.scsi_unit.specs.Starting.{IsOursForSome, IsUnitStarted, IsNotStarted};
 ghost use Rattle.scsi_unit.specs.Starting.{StartsUnit, RefusesUnit, StoreStartsBy, StoreRefuses};
+ghost use Rattle.scsi_unit.specs.Starting.{UnitStartFromPost, StoreFromPost};
 
 use crate::{Retiring, Unit};
-use blocks::{StartError, Store};
+use blocks::{Keeping, RecoveredMedium, StartError, StartFault, Store};
 use medium::Medium;
 use scsi_commands::Identity;
 use std::alloc::Global;
@@ -63,6 +64,27 @@ impl<M: Medium> Unit<M> {
         let store = start_store(alloc, medium, retiring)?;
         Ok(Unit::new(store, identity))
     }
+
+    /// Starts a unit on a medium that was recovered already: it makes the room for the store, and
+    /// no call of the medium. On a medium to which nothing was done since it was recovered with
+    /// this answer it is as one that `start_by` starts.
+    ///
+    /// # Errors
+    ///
+    /// `NoMemory`. The medium comes back.
+    pub fn start_from(
+        alloc: Global,
+        on: RecoveredMedium<M>,
+        identity: Identity,
+        retiring: Retiring,
+    ) -> Result<Unit<M>, StartError<M>>
+        ensures { MatchResult result
+            (λ unit. UnitStartFromPost retiring M.state on.found on.medium identity unit)
+            (λ error. (error.fault ≡ StartFault.NoMemory) × (error.medium ≡ on.medium)) }
+    {
+        let store = store_from(alloc, on, retiring)?;
+        Ok(Unit::new(store, identity))
+    }
 }
 
 // Starts the store of a unit that retires so.
@@ -79,5 +101,22 @@ fn start_store<M: Medium>(
         Retiring::Late => Store::start(alloc, medium),
         Retiring::Ahead => Store::start_ahead(alloc, medium),
         Retiring::Kept(count) => Store::start_keeping(alloc, medium, count),
+    }
+}
+
+// Starts the store of a unit that retires so, behind a recovery.
+fn store_from<M: Medium>(
+    alloc: Global,
+    on: RecoveredMedium<M>,
+    retiring: Retiring,
+) -> Result<Store<M>, StartError<M>>
+    ensures { MatchResult result
+        (λ store. StoreFromPost retiring M.state on.found on.medium store)
+        (λ error. (error.fault ≡ StartFault.NoMemory) × (error.medium ≡ on.medium)) }
+{
+    match retiring {
+        Retiring::Late => Store::start_from(alloc, on, Keeping::ReadBack, false),
+        Retiring::Ahead => Store::start_from(alloc, on, Keeping::ReadBack, true),
+        Retiring::Kept(count) => Store::start_from(alloc, on, Keeping::Kept(count), true),
     }
 }
