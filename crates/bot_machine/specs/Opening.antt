@@ -6,7 +6,7 @@ use Rattle.scsi_unit.specs.Costs.{HasHeadroom}
 use Rattle.scsi_unit.specs.Retiring.{RetiresBy, keeping_of}
 use Rattle.scsi_unit.specs.StartFaults.{StartFault, NoMemory}
 use Rattle.scsi_unit.specs.Starting.{IsStartedBy, IsStartCause, HasStore, HasLimit, OpensOn}
-use Rattle.scsi_unit.specs.Starting.{IsCauseFor}
+use Rattle.scsi_unit.specs.Starting.{IsCauseFor, UnitStartFromPost}
 use Rattle.scsi.specs.Rules.{opened_unit}
 use Rattle.scsi_unit.specs.UnitValue.{unit_limit, state_of}
 use Rattle.bot_machine.specs.Device.{Device}
@@ -14,6 +14,8 @@ use Rattle.spec.specs.Exchange.{at_rest}
 use Rattle.bot_machine.specs.Disk.{DiskValue}
 -- what a start leaves is what the start of its unit does
 pub use Rattle.scsi_unit.specs.Starting.{StartLeaves, LeavesMedium, LeavesStarted}
+-- behind a recovery that was made before
+pub use Rattle.scsi_unit.specs.Starting.{Recovered, FitsRecovered, LeftByRecovery, IsStartedFrom}
 
 -- A disk that has started: its store has, a command wrapper is expected, and the unit is one that
 -- was just opened, and retires as is known of the disk.
@@ -46,3 +48,11 @@ pub record RefusesDisk {M : Type 0} (state : M → State) (Follows : M → M →
     (medium back : M) (fault : StartFault) : Type 0 where
   pub cause : IsNotOpened (state medium) (state back) fault
   pub leaves : LeavesStarted state Follows medium back
+
+-- A disk that was started behind a recovery with this answer: a command wrapper is expected.
+-- Nothing was done to its medium. If that is as the recovery left it, the unit is as one that
+-- recovered it itself.
+pub record DiskStartFromPost {M : Type 0} (state : M → State) (found : Recovered) (medium : M)
+    (device : Device) (disk : DiskValue M) : Type 0 where
+  pub line : disk.line ≡ at_rest device.packet_size
+  pub unit : UnitStartFromPost device.retiring state found medium device.identity disk.unit

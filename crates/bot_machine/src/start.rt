@@ -2,15 +2,17 @@
 ghost use Rattle.std.specs.Prelude.{◌≡◌, ◌*◌, ℕ, length, IfOk, IfErr, IfSome, MatchResult};
 ghost use Rattle.medium.specs.Moments.{EachCut, LeavesOnly};
 ghost use Rattle.scsi_unit.specs.Starting.{HasLimit, IsOursForSome};
-ghost use Rattle.bot_machine.specs.Device.{device_by, device_of};
+ghost use Rattle.spec.specs.{Exchange.{at_rest}, Packets.{bytes_of}};
+ghost use Rattle.bot_machine.specs.Device.{device_by, device_of, device_with};
 ghost use Rattle.bot_machine.specs.Opening.{IsOpened, IsNotOpened, StartLeaves, LeavesMedium};
-ghost use Rattle.bot_machine.specs.Opening.{StartsDisk, RefusesDisk};
+ghost use Rattle.bot_machine.specs.Opening.{StartsDisk, RefusesDisk, DiskStartFromPost};
 ghost use Rattle.spec.specs.declared.packet_size.PacketSize.TheVariants.{High512};
 
+use crate::DiskSetup;
 use crate::bulk_state::BulkState;
 use crate::disk::Disk;
 use medium::Medium;
-use scsi_unit::{Identity, Retiring, StartError, StartFault, Unit};
+use scsi_unit::{Identity, RecoveredMedium, Retiring, StartError, StartFault, Unit};
 use spec::PacketSize;
 use std::alloc::Global;
 
@@ -84,6 +86,40 @@ impl<M: Medium> Disk<M> {
             (λ error. RefusesDisk M.state M.follows medium error.medium error.fault) }
     {
         let unit = Unit::start_by(alloc, medium, identity, retiring)?;
+        Disk::over(alloc, unit, size)
+    }
+
+    /// Starts a disk on a medium that was recovered already: it makes the room for all that is kept
+    /// in memory, and no call of the medium. On a medium to which nothing was done since it was
+    /// recovered with this answer it is as one that `start_by` starts.
+    ///
+    /// # Errors
+    ///
+    /// `NoMemory`. The medium comes back.
+    pub fn start_from(
+        alloc: Global,
+        on: RecoveredMedium<M>,
+        setup: DiskSetup,
+    ) -> Result<Disk<M>, StartError<M>>
+        ensures { MatchResult result
+            (λ disk. DiskStartFromPost M.state on.found on.medium (device_with setup) disk)
+            (λ error. (error.fault ≡ StartFault.NoMemory) × (error.medium ≡ on.medium)) }
+    {
+        let DiskSetup {
+            identity,
+            size,
+            retiring,
+        } = setup;
+        let unit = Unit::start_from(alloc, on, identity, retiring)?;
+        Disk::over(alloc, unit, size)
+    }
+
+    // A disk over a unit that has just started.
+    fn over(alloc: Global, unit: Unit<M>, size: PacketSize) -> Result<Disk<M>, StartError<M>>
+        ensures { MatchResult result
+            (λ disk. (disk.line ≡ at_rest (bytes_of size)) × (disk.unit ≡ unit))
+            (λ error. (error.fault ≡ StartFault.NoMemory) × (error.medium ≡ unit.store.medium)) }
+    {
         let Some(transfer) = buffer_for(alloc, unit.limit()) else {
             return Err(StartError {
                 fault: StartFault::NoMemory,

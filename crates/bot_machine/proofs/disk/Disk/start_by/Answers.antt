@@ -1,6 +1,5 @@
-use Rattle.std.proofs.Common.{rules, inl, inr, refl}
-use Rattle.std.proofs.lemmas.List.{places}
-use Rattle.std.proofs.lemmas.Result.{err_from_is_err_and}
+use Rattle.std.proofs.Common.{inl, inr, refl}
+use Rattle.std.proofs.lemmas.Result.{err_from_is_err_and, MatchResult-weaker}
 use Rattle.bot_machine.proofs.disk.Disk.start_by.Goals as goal
 
 pub returns-in_err-unit : goal.returns-in_err-unit
@@ -12,32 +11,23 @@ returns-in_err-unit g c =
       leaves = refuses.leaves;
     })
 
-pub returns-in_default : goal.returns-in_default
-returns-in_default g c = rw c.into_medium.ensures (record {
-  cause = record {
-    cause = inr (refl, (_, c.in_ok-unit.unit.store.cached, c.in_ok-unit.ensures.started.store));
-    possible = λ book on. tt;
-  };
-  leaves = c.in_ok-unit.ensures.leaves;
-})
-
-pub invariant_of-result : goal.invariant_of-result
-invariant_of-result g c = record {
-  room = search (rules, places);
-  phase_holds = c.at_rest.ensures.phase _ _;
-}
-
 pub returns : goal.returns
 returns g c =
     let started = c.in_ok-unit.ensures.started in
-    record {
+    MatchResult-weaker c.over.result c.over.ensures (λ disk is. rw is.1 (record {
       opened = record {
         store = started.store;
-        line = c.at_rest.ensures.line _;
+        line = is.0;
         retires = started.retires;
         headroom = started.headroom;
         unit = started.opened;
         limit = started.limit;
       };
       leaves = c.in_ok-unit.ensures.leaves;
-    }
+    })) (λ error is. rw (is.0, is.1) (record {
+      cause = record {
+        cause = inr (refl, (_, c.in_ok-unit.unit.store.cached, started.store));
+        possible = λ book on. tt;
+      };
+      leaves = c.in_ok-unit.ensures.leaves;
+    }))
