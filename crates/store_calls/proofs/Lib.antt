@@ -11,5 +11,6 @@ pub mod Hearing
 pub mod AtRest
 pub mod Doing
 pub mod MachineStarted
+pub mod MachineBegun
 pub mod Living
 pub mod CarriedOut

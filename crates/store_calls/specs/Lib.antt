@@ -14,4 +14,5 @@ pub mod Serving
 pub mod Asking
 pub mod Transfers
 pub mod MachineStart
+pub mod MachineBehind
 pub mod StoreLives
