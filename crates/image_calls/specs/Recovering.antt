@@ -1,7 +1,7 @@
 -- The recovery of an image, which a device carries out in runs of neighbouring sectors.
 use Rattle.std.specs.Prelude.{◌≡◌, ◌⊎◌, ℕ, ◌≤◌, min, Bool, true, false, List, [], length, Result}
 use Rattle.std.specs.Prelude.{Ok, Err}
-use Rattle.medium.specs.{Medium.Image, Tally.{Tally, none}, Writes.sector_of}
+use Rattle.medium.specs.{Medium.{Image, Stays}, Tally.{Tally, none}, Writes.sector_of}
 use Rattle.window.specs.{Story.{given, are_whole}, OutboxMedium.sent, Parts.CoversParts}
 use Rattle.window.specs.{Window.{Window, state_of, mirror_of}, declared.ask.DeviceAsk.DeviceAsk}
 use Rattle.window.specs.{declared.done_fault.DoneFault.DoneFault}
@@ -10,11 +10,14 @@ use Rattle.image_calls.specs.Running.{IsRunning, RunAsks, RunEnds, HandedOut, ha
 use Rattle.image_calls.specs.{Running.IsReading, declared.asked.Asked.Asked, Near.IsNear}
 use Rattle.image_calls.specs.{declared.recovering.Recovering.Recovering}
 use Rattle.recovery.specs.{Causes.start_fault_of, HoldsStart.{HoldsStart, StartView, MayStart}}
-use Rattle.recovery.specs.{Recovered.RecoveryLeaves, Stages.{StartStage, stage_at}}
+use Rattle.recovery.specs.{Recovered.{RecoveryLeaves, LeftByRecovery}, Stages.StartStage}
+use Rattle.recovery.specs.{Stages.stage_at}
 use Rattle.recovery.specs.Starting.{EndsStart, IsStarting, IsStartStep, start_left, start_kind}
 use Rattle.recovery.specs.{declared.recovered.Recovered.Recovered}
 use Rattle.recovery.specs.{declared.start_fault.StartFault.StartFault}
 use Rattle.recovery.specs.{declared.starting.Starting.Starting}
+use Rattle.store_calls.specs.{MachineBehind.IsMediumBehind}
+use Rattle.store_calls.specs.declared.recovered_device.RecoveredDevice.{RecoveredDevice}
 use Rattle.window.specs.OutboxMedium as outbox
 use Rattle.image_calls.specs.declared.asked.Asked.TheVariants as asked
 use Rattle.recovery.specs.declared.start_point.StartPoint.TheVariants as point
@@ -159,3 +162,16 @@ EndsAt (asked.Refused kind) m n result = result ≡ Err (start_fault_of kind)
 
 abbrev pub Ends : Recovering → Result Recovered StartFault → Type 0
 Ends s result = (m n : Window) → IsRecovering m s n → EndsAt s.running.carried.asked m n result
+
+-- what was found, if it is good
+abbrev pub found_of : Result RecoveredDevice StartFault → Result Recovered StartFault
+found_of (Ok on) = Ok on.found
+found_of (Err why) = Err why
+
+-- Where the device holds what the recovery left, a medium of it that knows no more than the super
+-- is as the recovery left it.
+abbrev pub IsLeftBy : Recovering → RecoveredDevice → Type 0
+IsLeftBy s on = (holds : List ℕ) (room : ℕ) (first m n : Window)
+    → IsMediumBehind on holds room first → IsRecovering m s n
+    → Stays (state_of n).content (state_of first).content
+    → LeftByRecovery (state_of m) (state_of n) on.found (state_of first)

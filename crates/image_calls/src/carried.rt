@@ -168,10 +168,10 @@ impl<T: Machine<WindowMedium>> Carried<T> {
     }
 
     /// The machine, as far as it has come.
-    pub fn into_machine(self) -> T
-        ensures { result ≡ self.machine }
+    pub fn machine(&self) -> &T
+        ensures { result.now ≡ self.now.machine }
     {
-        self.machine
+        &self.machine
     }
 
     /// Does nothing. Wherever in what it was told the device is, what a loss of power leaves of it

@@ -120,10 +120,10 @@ impl<T: Machine<WindowMedium>> Running<T> {
     }
 
     /// The machine, as far as it has come.
-    pub fn into_machine(self) -> T
-        ensures { result ≡ self.carried.machine }
+    pub fn machine(&self) -> &T
+        ensures { result.now ≡ self.now.carried.machine }
     {
-        self.carried.into_machine()
+        self.carried.machine()
     }
 
     /// Does nothing. Wherever in what it was told the device is, what a loss of power leaves of it

@@ -1,13 +1,14 @@
 //! The recovery of an image, which a device carries out in runs of neighbouring sectors.
-ghost use Rattle.std.specs.Prelude.{◌≡◌, ◌≤◌, ◌/◌, length};
+ghost use Rattle.std.specs.Prelude.{◌≡◌, ◌≤◌, ◌/◌, length, IfOk};
 ghost use Rattle.image_calls.specs.Recovering.{BeginsRecovery, AsksToRecover, GoesOnAsked};
 ghost use Rattle.image_calls.specs.Recovering.{HearsOfRecovery, GoesOnHeard, IsSafe, ReachesTo};
-ghost use Rattle.image_calls.specs.Recovering.{IsOver, TellsOver, Ends};
+ghost use Rattle.image_calls.specs.Recovering.{IsOver, TellsOver, Ends, found_of, IsLeftBy};
 
 use crate::near::near_in;
 use crate::run::Run;
 use crate::running::Running;
-use recovery::{Recovered, StartFault, Starting};
+use recovery::{StartFault, Starting};
+use store_calls::RecoveredDevice;
 use window::{DeviceAsk, DoneFault, SECTOR, WindowMedium, device_laws};
 
 /// The recovery of an image, which a device carries out in runs of neighbouring sectors. It holds
@@ -89,13 +90,24 @@ impl Recovering {
     ///
     /// # Errors
     /// Those of `recover`.
-    pub fn end(self) -> Result<Recovered, StartFault>
-        requires { IsOver self }
-        ensures { Ends self result }
+    pub fn end(&self) -> Result<RecoveredDevice, StartFault>
+        requires { IsOver self.now }
+        ensures ends { Ends self.now (found_of result) }
+        // A medium of a device that holds what the recovery left is as it left it.
+        ensures left { IfOk result (IsLeftBy self.now) }
     {
         match self.running.refusal() {
             Some(kind) => Err(StartFault::from(kind)),
-            None => self.running.into_machine().end::<WindowMedium>(),
+            None => {
+                let starting = self.running.machine();
+                match starting.end::<WindowMedium>() {
+                    Ok(found) => Ok(RecoveredDevice {
+                        sectors: starting.sectors,
+                        found,
+                    }),
+                    Err(why) => Err(why),
+                }
+            }
         }
     }
 
