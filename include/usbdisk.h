@@ -230,11 +230,9 @@ struct usbdisk_options {
 /* Starts a disk: on what the device holds, which it recovers from whatever a loss of power left.
  * The device is to carry out the recovery first: a FLUSH, READs of the first sectors, up to 64 at a
  * time, a FLUSH, a WRITE of the head and a FLUSH; where power was lost, blocks are read and written
- * too, as many in a row as lie in one. Then it is to read the sectors 0 and 1, and of the slot of
- * the next record one sector, in format 1 all 50; and to carry out three flushes and a write of the
- * head. Until it has, the disk is STARTING. Where there is no disk on the device, or it refuses a
- * call of the recovery or one of these READs, it is FAILED, and nothing is left but to stop it; of
- * a device of no sectors at once, by BAD_SUPER.
+ * too, as many in a row as lie in one. Until it has, the disk is STARTING. Where there is no disk
+ * on the device, or it refuses a call of the recovery, it is FAILED, and nothing is left but to stop
+ * it; of a device of no sectors at once, by BAD_SUPER.
  *
  * The first command behind a start, other than INQUIRY and REQUEST SENSE, ends with CHECK CONDITION
  * and 6/29/00: the power was off. REQUEST SENSE tells it too, and ends it.

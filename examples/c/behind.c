@@ -36,8 +36,7 @@ static struct {
 } book;
 
 static struct {
-    uint64_t cuts, opening, starting,
-        faulted;               /* of them while a start reads, and while it writes */
+    uint64_t cuts, starting, faulted; /* of them while a start is under way, and behind a refusal */
     uint64_t stops, unflushed; /* with no cut, and of them with unflushed sectors */
     uint64_t writes, behind, parts, reads, refused, ahead, failed, resets, waiting, wrong;
 } counts;
@@ -47,10 +46,8 @@ static struct bench bench;
 static bool cut(unsigned kept, uint32_t found[BLOCKS])
 {
     uint32_t fault;
-    bool is_starting = usbdisk_state(&bench.disk, &fault) == USBDISK_STARTING;
     counts.cuts++;
-    counts.opening += is_starting && bench.host.is_opening;
-    counts.starting += is_starting && !bench.host.is_opening;
+    counts.starting += usbdisk_state(&bench.disk, &fault) == USBDISK_STARTING;
     counts.faulted += bench.is_faulted;
     return finds_what_it_may(&bench.device, kept, &history, found);
 }
@@ -205,9 +202,7 @@ static bool play_idle(void)
 static bool cut_start(void)
 {
     uint32_t fault;
-    bool is_writing = !bench.host.is_opening || bench.is_mending || !bench.opened;
-    bool is_ended = is_writing && bench.device.call.kind == USBDISK_NOTHING;
-    if (!is_ended || !book.is_unflushed)
+    if (bench.device.call.kind != USBDISK_NOTHING || !book.is_unflushed)
         return true;
     book.is_unflushed = usbdisk_state(&bench.disk, &fault) == USBDISK_STARTING;
     return cut_here();
@@ -362,10 +357,9 @@ static bool play_lives(uint32_t format, long lives)
         }
     }
     printf("format %u: %ld lives, each start finds what it may\n", format, lives);
-    printf("  %" PRIu64 " cuts, %" PRIu64 " of them while a start read, ", counts.cuts,
-           counts.opening);
-    printf("%" PRIu64 " while it wrote, %" PRIu64 " behind a refusal; %" PRIu64 " starts failed\n",
-           counts.starting, counts.faulted, counts.failed);
+    printf("  %" PRIu64 " cuts, %" PRIu64 " of them in a start, ", counts.cuts, counts.starting);
+    printf("%" PRIu64 " behind a refusal; %" PRIu64 " starts failed\n", counts.faulted,
+           counts.failed);
     printf("  %" PRIu64 " stops with no cut, %" PRIu64 " of them with unflushed sectors\n",
            counts.stops, counts.unflushed);
     printf("  %" PRIu64 " writes accepted, %" PRIu64 " of them while a call was under way, %" PRIu64

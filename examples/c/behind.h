@@ -93,8 +93,7 @@ struct host {
     bool waits;               /* a promise was asked for, and the disk may wait for its device */
     bool is_dropped;          /* the promise that it may wait for was dropped by a class reset */
     bool is_refused;          /* the last packet was, or the last token */
-    bool is_opening;          /* the image is recovered, or its first sectors are read: requests may
-                                 be refused */
+    bool is_opening;          /* the image is recovered: requests may be refused */
     unsigned commands, parts; /* how many there were, and transfers that were taken in part */
 };
 
@@ -158,11 +157,9 @@ struct bench {
     struct host host;
     bool rests;      /* nothing is under way, and the disk has nothing for the device */
     bool is_faulted; /* the device refused a WRITE or a FLUSH */
-    bool is_mending; /* the image is recovered, before its first sectors are read */
-    unsigned mended; /* the flushes of that which have ended */
-    bool has_failed; /* it refused a call of that, or a READ of the first sectors */
+    unsigned mended; /* the flushes of the recovery which have ended */
+    bool has_failed; /* it refused a call of that */
     uint32_t fault;  /* which, of enum usbdisk_fault */
-    uint64_t opened; /* how many of these were read */
     uint64_t behind; /* the sector behind the last one that it was to read */
     bool is_unread;  /* it could not read this sector, */
     uint64_t unread;

@@ -11,8 +11,7 @@ bool bench_start(struct bench *bench, unsigned packet)
     };
     bench->rests = bench->is_faulted = bench->has_failed = bench->is_unread = false;
     bench->reads_ahead = false;
-    bench->is_mending = true;
-    bench->opened = bench->mended = 0;
+    bench->mended = 0;
     bench->wish.kind = USBDISK_NOTHING;
     bench->host = (struct host){ .disk = &bench->disk, .packet = packet, .is_opening = true };
     return !usbdisk_start(&bench->disk, &options) || fails("a start is refused");
@@ -52,34 +51,6 @@ static bool note_rest(struct bench *bench)
     return true;
 }
 
-/* The sectors that a start reads next behind its recovery: the first two, and then those of the
- * slot of the next record that tell whether it is there: all of them in format 1, and the last in
- * format
- * 2. The head has the stamp of that record. */
-static struct usbdisk_call next_of_start(const struct bench *bench)
-{
-    const uint8_t *super = bench->device.now, *head = super + 512;
-    struct usbdisk_layout layout;
-    struct usbdisk_log log = { 0 }; /* that ends with the slot */
-    uint64_t stamp = 0, read = bench->opened;
-    if (read < 2 || usbdisk_look(super, &layout))
-        return (struct usbdisk_call){ USBDISK_READ, read, 2 - read };
-    for (unsigned i = 8; i > 0; i--)
-        stamp = stamp << 8 | head[7 + i];
-    usbdisk_log_of(layout.format, stamp % layout.slots + 1, 1, &log);
-    uint64_t count = (layout.format == 1 ? log.slot_sectors : 1) - (read - 2);
-    return (struct usbdisk_call){ USBDISK_READ, log.end - count, count };
-}
-
-/* Whether a start is to read these: its recovery reads a few sectors ahead. */
-static bool is_next(const struct bench *bench, const struct usbdisk_call *call)
-{
-    struct usbdisk_call next = next_of_start(bench);
-    if (bench->is_mending)
-        return call->count <= MENDS;
-    return call->sector == next.sector && call->count <= next.count;
-}
-
 /* A READ: of a start; of what is wished for; or of what a host lacks. */
 static bool judge_read(struct bench *bench, size_t room)
 {
@@ -90,8 +61,8 @@ static bool judge_read(struct bench *bench, size_t room)
     bench->reads_ahead = wish->kind != USBDISK_NOTHING;
     bench->wish.kind = USBDISK_NOTHING;
     bench->behind = call->sector + call->count;
-    if (bench->host.is_opening && (!is_next(bench, call) || 512 * call->count > room))
-        return fails("a start reads other sectors than the next ones");
+    if (bench->host.is_opening && (call->count > MENDS || 512 * call->count > room))
+        return fails("a start reads too many sectors at a time");
     if (bench->reads_ahead && (call->sector != wish->sector || call->count != wish->count))
         return fails("other sectors are read than were wished for");
     if (is_again && bench->host.stage == WRAPPER && !bench->reads_ahead)
@@ -115,20 +86,14 @@ static bool begin(struct bench *bench)
     if (room < sizeof device->buffer && *behind != was)
         return fails("a byte behind the buffer has changed");
     bool is_read = device->call.kind == USBDISK_READ;
-    bench->host.is_opening &= is_read || bench->is_mending;
     return (!is_read || judge_read(bench, room)) && device_begin(device);
 }
 
-/* A call of a start has ended. The third flush is the last call of the recovery, and the first
- * sectors and those of a slot are read behind it. */
+/* A call of a start has ended. The third flush is the last one. */
 static void note_opening(struct bench *bench, const struct usbdisk_call *call)
 {
-    if (!bench->is_mending) {
-        bench->opened += call->count;
-        return;
-    }
     bench->mended += call->kind == USBDISK_FLUSH;
-    bench->is_mending = bench->mended < 3;
+    bench->host.is_opening = bench->mended < 3;
 }
 
 static void note_refusal(struct bench *bench, struct usbdisk_call call)
@@ -229,7 +194,7 @@ bool bench_run(struct bench *bench, const struct command *command)
     return outcome == ENDED;
 }
 
-/* What a disk whose first sectors could not be read answers. */
+/* What a disk answers that could not be recovered. */
 static bool is_refused_at_all(struct bench *bench)
 {
     static const uint8_t max_lun[8] = { 0xA1, 0xFE, 0, 0, 0, 0, 1 };

@@ -14,8 +14,8 @@ enum { BLOCKS = 500, PAGE = 200 };
 enum { BLOCKS_AT = 16 };
 #define MOST_BLOCKS ((uint64_t)1 << 31)
 
-/* What a start takes and gives back: its recovery, and the first that it reads of the log. What a
- * handle takes of which nothing is left to do. */
+/* What a start takes and gives back: its recovery. What a handle takes of which nothing is left to
+ * do. */
 enum { RECOVERY = 37472, HANDLE = 944 };
 
 static uint8_t *medium;
@@ -67,15 +67,14 @@ static bool are_taken(const char *what, uint64_t now, uint64_t most, uint64_t ta
 }
 
 /* Whether it serves, in so many bytes, and took on the way what a start takes. It stops. */
-static bool serves_in(struct usbdisk *handle, const char *what, uint32_t format, uint64_t told)
+static bool serves_in(struct usbdisk *handle, const char *what, uint64_t told)
 {
     uint32_t fault;
     carry_all(handle, medium);
     bool good = usbdisk_state(handle, &fault) == USBDISK_SERVING;
     if (!good)
         printf("%s: it does not serve, fault %u\n", what, fault);
-    uint64_t read = format == 1 ? log_of(format, 1).slot_sectors : 1;
-    good &= are_taken(what, told, told, told + RECOVERY + 512 * read);
+    good &= are_taken(what, told, told, told + RECOVERY);
     usbdisk_stop(handle);
     return good && heap_blocks == 0;
 }
@@ -92,10 +91,10 @@ static bool is_memory_told(uint32_t format, uint64_t slots, bool tells)
     struct usbdisk disk = USBDISK_NONE, store = USBDISK_NONE;
     uint64_t told = usbdisk_memory_kept(format, slots, options.kept);
     count_anew();
-    bool good = !usbdisk_start(&disk, &options) && serves_in(&disk, "a disk", format, told);
+    bool good = !usbdisk_start(&disk, &options) && serves_in(&disk, "a disk", told);
     uint64_t less = told - store_takes_less(format);
     count_anew();
-    good &= !usbdisk_store_start(&store, &options) && serves_in(&store, "a store", format, less);
+    good &= !usbdisk_store_start(&store, &options) && serves_in(&store, "a store", less);
     if (!good || tells)
         printf("format %u, %llu slots, %u kept: told %llu bytes\n", format,
                (unsigned long long)slots, options.kept, (unsigned long long)told);

@@ -117,27 +117,21 @@ static void begin_image(uint64_t slots)
     memcpy(kept, medium, sizeof medium);
 }
 
-/* The call of this number is refused: one of a recovery or a READ of a start ends it, another one
- * faults it, and each ends the work on an image. False: there are fewer calls. */
+/* The call of this number is refused: it ends a start, and the work on an image. False: there are
+ * fewer calls. */
 static bool refuse_call(enum kind kind, unsigned number)
 {
     static const uint32_t refused[] = { 0, USBDISK_WRITE_REFUSED, USBDISK_FLUSH_REFUSED,
                                         USBDISK_READ_REFUSED };
     struct usbdisk handle = USBDISK_NONE;
     struct usbdisk_call call = { .kind = USBDISK_NOTHING };
-    unsigned flushes = 0;
     must(!start(&handle, kind), "a start");
-    for (unsigned i = 1; i < number; i++) {
+    for (unsigned i = 1; i < number; i++)
         must(carry_one(&handle, medium, &call), "a call before the refused one");
-        flushes += call.kind == USBDISK_FLUSH;
-    }
     must(!usbdisk_next(&handle, &call, bytes, 512), "the next call");
     bool is_one = call.kind != USBDISK_NOTHING, begins = kind < FORMAT_WORK;
+    must(!is_one || !usbdisk_done(&handle, false, bytes, 0), "a refused call");
     if (is_one)
-        must(!usbdisk_done(&handle, false, bytes, 0), "a refused call");
-    if (is_one && begins && call.kind != USBDISK_READ && flushes >= 3)
-        state_of(&handle, USBDISK_FAULTED);
-    else if (is_one)
         must(state_of(&handle, USBDISK_FAILED) == refused[call.kind], "why it failed");
     else
         state_of(&handle, begins ? USBDISK_SERVING : USBDISK_DONE);

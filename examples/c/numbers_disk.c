@@ -5,9 +5,6 @@
 #include "image.h"
 #include <string.h>
 
-/* How many sectors a start reads behind its recovery: the two first ones, and a slot. */
-enum { READS = USBDISK_LOG_END(FORMAT, 1) };
-
 static uint8_t bytes[1024];
 
 static void begin(struct usbdisk *disk)
@@ -48,6 +45,14 @@ static void end_read(struct usbdisk *disk, const struct usbdisk_call *call)
     must(!usbdisk_done(disk, true, place, 512 * call->count), "a READ that ends");
 }
 
+/* A WRITE or a FLUSH ends. Its bytes are not looked at. */
+static void end_other(struct usbdisk *disk, const struct usbdisk_call *call)
+{
+    if (call->kind == USBDISK_WRITE)
+        memcpy(medium + 512 * call->sector, bytes, 512 * call->count);
+    must(!usbdisk_done(disk, true, bytes, 7), "the bytes of a call that is no READ are looked at");
+}
+
 /* The image is recovered first. Sector 0 is read alone, then up to 64 sectors at a time, none of
  * them a block. Of one that was left in order the head alone is written, between three flushes. */
 static bool is_of_mending(const struct usbdisk_call *call)
@@ -60,71 +65,40 @@ static bool is_of_mending(const struct usbdisk_call *call)
 static void play_mending(struct usbdisk *disk)
 {
     struct usbdisk_call call;
-    unsigned writes = 0;
-    for (unsigned flushes = 0; flushes < 3; flushes += call.kind == USBDISK_FLUSH) {
-        must(carry_one(disk, medium, &call), "a recovery without an end");
-        writes += call.kind == USBDISK_WRITE;
+    unsigned writes = 0, flushes = 0;
+    while (flushes < 3) {
+        state_of(disk, USBDISK_STARTING);
+        must(!usbdisk_next(disk, &call, bytes, sizeof bytes) && call.kind, "a recovery has no end");
         must(is_of_mending(&call), "a recovery asks for something else");
         must(call.count <= 64 && call.sector + call.count <= FIRST, "a recovery reads too far");
-        state_of(disk, USBDISK_STARTING);
+        writes += call.kind == USBDISK_WRITE;
+        flushes += call.kind == USBDISK_FLUSH;
+        if (call.kind == USBDISK_READ)
+            end_read(disk, &call);
+        else
+            end_other(disk, &call);
     }
     must(writes == 1, "the head is not written once");
 }
 
-/* The sector that is read behind so many: of the two first ones, and then of the slot of the next
- * record, whose stamp the head has. */
-static uint64_t next_sector(uint64_t read)
-{
-    uint64_t stamp = 0;
-    for (unsigned i = 8; i > 0; i--)
-        stamp = stamp << 8 | medium[512 + 7 + i];
-    return read < 2 ? read : USBDISK_LOG_END(FORMAT, stamp % SLOTS) + read - 2;
-}
-
-/* Behind it these are read in order, as many at once as there is room for. */
+/* Behind its recovery a disk serves, and asks its device for nothing. */
 static void play_opening(void)
 {
     struct usbdisk disk = USBDISK_NONE;
     struct usbdisk_call call;
-    uint64_t read = 0;
     uint32_t size = UNTOLD;
     begin(&disk);
     play_before(&disk);
     play_mending(&disk);
-    while (!usbdisk_next(&disk, &call, bytes, 1024) && call.kind == USBDISK_READ) {
-        must(call.sector == next_sector(read) && call.count >= 1 && call.count <= 2,
-             "not the next sectors");
-        read += call.count;
-        end_read(&disk, &call);
-    }
-    must(read == READS, "other sectors are read than those that a start wants");
-    must(usbdisk_setup(&disk, max_lun, bytes, &size) == USBDISK_ACK && size == 1 && !bytes[0],
-         "a request while the start writes");
-    must(!usbdisk_done(&disk, true, bytes, 7), "the bytes of a call that is no READ are looked at");
-    carry_all(&disk, medium);
     state_of(&disk, USBDISK_SERVING);
+    must(!usbdisk_next(&disk, &call, bytes, 1024) && !call.kind, "a call behind the recovery");
+    must(usbdisk_setup(&disk, max_lun, bytes, &size) == USBDISK_ACK && size == 1 && !bytes[0],
+         "a request behind the recovery");
     end(&disk);
 }
 
-/* What a start on an image that was left in order writes: twice three flushes and the head. */
-static void play_recovery(void)
-{
-    struct usbdisk disk = USBDISK_NONE;
-    struct usbdisk_call call;
-    unsigned flushes = 0, heads = 0;
-    begin(&disk);
-    while (carry_one(&disk, medium, &call)) {
-        bool is_head = call.kind == USBDISK_WRITE && call.sector == 1 && call.count == 1;
-        flushes += call.kind == USBDISK_FLUSH;
-        heads += is_head;
-        must(call.kind != USBDISK_WRITE || is_head, "a start writes something else");
-    }
-    must(flushes == 6 && heads == 2, "the calls of a start");
-    end(&disk);
-}
-
-/* What comes while a disk starts: `read` of its sectors were read, behind the recovery. */
-static void play_bus_between(struct usbdisk *disk, uint64_t read)
+/* What comes while a disk starts. */
+static void play_bus_between(struct usbdisk *disk)
 {
     uint32_t fault;
     size_t moved = UNTOLD;
@@ -133,7 +107,7 @@ static void play_bus_between(struct usbdisk *disk, uint64_t read)
          "a packet while a disk starts");
     must(usbdisk_in(disk, bytes, 512, &moved) == USBDISK_NAK && !moved, "nothing is to be sent");
     must(serves || !usbdisk_ahead(disk, FIRST, 1), "sectors ahead while a disk starts");
-    must(usbdisk_idle(disk) == (read < READS), "steps are left until the first sectors are read");
+    must(usbdisk_idle(disk) == !serves, "steps are left until the disk serves");
     moved = UNTOLD;
     must(usbdisk_in(disk, bytes, 511, &moved) == USBDISK_BAD_LENGTH && moved == UNTOLD,
          "room for no packet");
@@ -144,15 +118,10 @@ static void play_bus(void)
 {
     struct usbdisk disk = USBDISK_NONE;
     struct usbdisk_call call = { .kind = USBDISK_NOTHING };
-    uint64_t read = 0;
-    unsigned flushes = 0;
     size_t moved = UNTOLD;
     begin(&disk);
-    for (bool goes_on = true; goes_on; goes_on = carry_one(&disk, medium, &call)) {
-        flushes += call.kind == USBDISK_FLUSH;
-        read += call.kind == USBDISK_READ && flushes >= 3 ? call.count : 0;
-        play_bus_between(&disk, read);
-    }
+    for (bool goes_on = true; goes_on; goes_on = carry_one(&disk, medium, &call))
+        play_bus_between(&disk);
     state_of(&disk, USBDISK_SERVING);
     must(!usbdisk_out(&disk, bytes, 0, &moved) && !moved, "an empty packet");
     must(usbdisk_out(&disk, bytes, 31, &moved) == USBDISK_STALL && !moved, "behind no wrapper");
@@ -242,7 +211,6 @@ static void play_hit(void)
 void play_disk(void)
 {
     play_opening();
-    play_recovery();
     play_bus();
     play_ahead();
     play_wish();

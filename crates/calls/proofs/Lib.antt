@@ -1,4 +1,5 @@
 pub mod Values
 pub mod Shown
 pub mod Begun
+pub mod BegunBehind
 pub mod Holding

@@ -8,6 +8,7 @@ pub mod Reserve
 pub mod Kept
 pub mod Sights
 pub mod Beginning
+pub mod Behind
 pub mod Recovers
 pub mod Starting
 pub mod Plans

@@ -10,11 +10,10 @@ use Rattle.recovery.specs.Recovered.{most_migration_sends}
 use Rattle.image_calls.specs.Formats.{most_of_part}
 use Rattle.calls.specs.Kept.{ring_of}
 
--- By measure, where so many records may stand in the log at once: the first two sectors, what the
--- disk keeps in view, the outbox, and 120 bytes more than the disk takes, for what it was started
--- for.
+-- By measure, where so many records may stand in the log at once: the super, what the disk keeps in
+-- view, the outbox, and 120 bytes more than the disk takes, for what it was started for.
 abbrev pub memory_on : LogFormat → ℕ → ℕ
-memory_on format ring = disk.memory_of 1024 ring (span_of format) (room_of format) format + 120
+memory_on format ring = disk.memory_of 512 ring (span_of format) (room_of format) format + 120
 
 abbrev pub TellsMemory : ℕ → ℕ → ℕ → ℕ → Type 0
 TellsMemory format slots kept told =

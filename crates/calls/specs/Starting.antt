@@ -8,7 +8,7 @@ use Rattle.store_calls.specs.declared.sight.Sight.{Sight}
 use Rattle.scsi.specs.Identification.{IsLegible}
 use Rattle.spec.specs.declared.packet_size.PacketSize.{PacketSize}
 use Rattle.spec.specs.Packets.{bytes_of}
-use Rattle.bot_machine.specs.Device.{Device, device_by, Kept}
+use Rattle.bot_machine.specs.Device.{Device}
 use Rattle.disk_machine.specs.Codes.{EMPTY, STARTED, BAD_IDENTITY, BAD_PACKET_SIZE}
 use Rattle.disk_machine.specs.Plays.{Disk, Begins, EndsIn}
 use Rattle.disk_machine.specs.Refusals.{HoldsLog}
@@ -20,6 +20,7 @@ use Rattle.image_calls.specs.declared.reach.Reach.{Reach}
 use Rattle.calls.specs.Beginning.{BeginsStore, BeginsFormat, BeginsLog, BeginsMigration}
 use Rattle.calls.specs.Handles.{Held}
 use Rattle.calls.specs.Recovers.{IsFirst}
+pub use Rattle.calls.specs.Behind.{device_of}
 use Rattle.calls.specs.Kept.{kept_by}
 use Rattle.calls.specs.Reserve.{IsReserve}
 use Rattle.calls.specs.Sights.{IsSightOf, WasSeen}
@@ -31,10 +32,6 @@ use Rattle.calls.specs.declared.held.Stage.TheVariants as stage
 use Rattle.calls.specs.declared.options.UsbDiskOptions.{UsbDiskOptions}
 
 -- ---- what begins
-
--- one that keeps the records of its log
-abbrev pub device_of : DiskPlan → Device
-device_of plan = device_by plan.identity plan.size (Kept plan.kept)
 
 -- The medium of a device of so many sectors, of which these were read, and which holds this content
 -- in the others, with the room that an image wants.

@@ -55,9 +55,11 @@ EndsRead content (Ok end) o old new code =
 EndsRead content (Err why) o old new code = (code ≡ code_of_fault why) × (new ≡ old)
 
 -- what was told of a call of the recovery is taken, or nothing changes
-abbrev pub EndsCall : Result (Unit {0}) DoneFault → Recovering → ℕ → Held → Held → ℕ → Type 0
-EndsCall (Ok done) s sectors old new code = (code ≡ 0) × ComesBehind s sectors new.stage
-EndsCall (Err why) s sectors old new code =
+abbrev pub EndsCall : List ℕ → Result (Unit {0}) DoneFault → Recovering → ℕ → Held → Held → ℕ
+    → Type 0
+EndsCall content (Ok done) s sectors old new code =
+    (code ≡ 0) × ComesBehind content old.purpose s sectors new.stage
+EndsCall content (Err why) s sectors old new code =
     (code ≡ code_of_fault why) × IsRecoveryOf s sectors new.stage
 
 -- What the device was asked for last has ended, good or not; of a read these are the bytes. Behind
@@ -66,7 +68,7 @@ abbrev pub HearsAt : List ℕ → Bool → List ℕ → Stage → Held → Held 
 HearsAt content ok bytes (stage.Recovering b sectors) old new code =
     (result : Result (Unit {0}) DoneFault) × (s' : Recovering)
     × (new ≡ record old { stage = new.stage }) × HearsOfRecovery b.value ok bytes result s'
-    × GoesOnHeard b.value ok bytes result s' × EndsCall result s' sectors old new code
+    × GoesOnHeard b.value ok bytes result s' × EndsCall content result s' sectors old new code
 HearsAt content ok bytes (stage.Opening o) old new code = (result : Result ReadEnd DoneFault)
     × (o' : Reading) × HasRead o ok bytes result o' × EndsRead content result o' old new code
 HearsAt content ok bytes (stage.Disk s) old new code = (result : Result (Unit {0}) DoneFault)

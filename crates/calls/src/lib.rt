@@ -5,6 +5,7 @@
 mod asking;
 mod asks;
 mod beginning;
+mod behind;
 mod bus;
 mod codes;
 mod handle;

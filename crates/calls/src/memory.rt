@@ -44,7 +44,7 @@ fn memory_on(format: LogFormat, ring: u64) -> u64
     let limit = u64::from(format.limit());
     let shown = 512 * u64::from(span_of(format));
     let waiting = 528 * room_for(format);
-    NEAR + shown + waiting + 1_584 * limit + record_memory(format) * ring + HELD
+    SECTOR + shown + waiting + 1_584 * limit + record_memory(format) * ring + HELD
 }
 
 // How many bytes each of these records takes.

@@ -1,13 +1,14 @@
-//! The device carries out a recovery, in runs, before its first sectors are read.
-ghost use Rattle.std.specs.Prelude.{◌≡◌, MatchOption};
-ghost use Rattle.calls.specs.Recovers.{IsFirst, RecoversOn, ComesBehind, behind};
+//! The device carries out a recovery, in runs, and a disk or a store begins behind it.
+ghost use Rattle.std.specs.Prelude.{ℕ, List, MatchOption, IfOk};
+ghost use Rattle.image_calls.specs.Recovering.{IsOver, Ends, found_of, IsLeftBy};
+ghost use Rattle.calls.specs.Recovers.{IsFirst, RecoversOn, ComesBehind};
 
-use crate::held::{Held, Stage};
+use crate::held::{Held, Purpose, Stage};
 use bot_machine::StartFault;
-use image_calls::{Opening, Reach, Recovering, Run};
-use recovery::Recovered;
+use image_calls::{Recovering, Run};
 use std::alloc::Global;
 use std::mem;
+use store_calls::RecoveredDevice;
 
 /// The recovery of the image on a device of `sectors` sectors; none where there is no memory. Of a
 /// device without any there is no image. It stands apart, so that the machine does not lie on the
@@ -27,37 +28,44 @@ pub(crate) fn first_call(alloc: Global, sectors: u64) -> Option<Stage>
 }
 
 impl Held {
-    /// A call of the recovery has ended. Behind its last one the first sectors are to be read, or
-    /// there is nothing.
+    /// A call of the recovery has ended. Behind its last one a disk or a store begins, or there is
+    /// nothing.
     #[inline(never)]
     pub(crate) fn recover_on(&mut self, alloc: Global)
-        ensures { RecoversOn self.old.stage self.old self.new }
+        ghost content: { List ℕ }
+        ensures { RecoversOn content self.old.stage self.old self.new }
     {
         let stage = mem::replace(&mut self.stage, Stage::Failed(StartFault::NoMemory));
         self.stage = match stage {
-            Stage::Recovering(recovering, sectors) => go_on(alloc, recovering, sectors),
+            Stage::Recovering(recovering, sectors) => {
+                self.purpose.recover_on(alloc, recovering, sectors)
+            }
             other => other,
         };
     }
 }
 
-// A recovery goes on, unless it is over.
-fn go_on(alloc: Global, recovering: Box<Recovering>, sectors: u64) -> Stage
-    ensures { ComesBehind recovering.value sectors result }
-{
-    if recovering.is_over() {
-        behind(alloc, Box::into_inner(recovering).end(), sectors)
-    } else {
-        Stage::Recovering(recovering, sectors)
+impl Purpose {
+    // A recovery goes on, unless it is over.
+    fn recover_on(&self, alloc: Global, recovering: Box<Recovering>, sectors: u64) -> Stage
+        ghost content: { List ℕ }
+        ensures { ComesBehind content self.now recovering.value sectors result }
+    {
+        if !recovering.is_over() {
+            return Stage::Recovering(recovering, sectors);
+        }
+        match end_of(recovering) {
+            Ok(on) => self.begin_behind(alloc, &on),
+            Err(why) => Stage::Failed(why),
+        }
     }
 }
 
-// What comes behind a recovery that ended so.
-fn behind(alloc: Global, ended: Result<Recovered, StartFault>, sectors: u64) -> Stage
-    ensures { result ≡ behind ended sectors }
+// How a recovery ended. Its memory is given back before a disk or a store takes any.
+fn end_of(recovering: Box<Recovering>) -> Result<RecoveredDevice, StartFault>
+    requires { IsOver recovering.value }
+    ensures ends { Ends recovering.value (found_of result) }
+    ensures left { IfOk result (IsLeftBy recovering.value) }
 {
-    match ended {
-        Ok(_) => Stage::Opening(Opening::new(alloc, sectors, Reach::Start)),
-        Err(why) => Stage::Failed(why),
-    }
+    recovering.end()
 }
