@@ -271,8 +271,8 @@ uint32_t usbdisk_next(struct usbdisk *disk, struct usbdisk_call *call, uint8_t *
 /* The call that is under way has ended. ok: the device carried it out. Of a READ `bytes` are what
  * it gave, 512 for each sector; of the others they are not looked at: pass any address, and 0.
  *
- * Not ok, a call of the recovery, a READ of the first sectors, or any call of the work on an
- * image: it is FAILED. Not ok, a READ behind the start: the READ of the host that lacks these
+ * Not ok, a call of the recovery, or any call of the work on an image: it is FAILED. Not ok, a READ
+ * behind the start: the READ of the host that lacks these
  * sectors ends with CHECK CONDITION and 3/11/00, when its packet is handed in again, and the disk
  * goes on. Not ok, a WRITE or FLUSH of a disk or a store: it is FAULTED. No promise is told that
  * was not told before, and the device is asked for nothing more. A good status that was not handed
@@ -328,16 +328,16 @@ uint32_t usbdisk_in(struct usbdisk *disk, uint8_t *room, size_t size, size_t *gi
  * host. A class reset drops an answer that waits, and takes no accepted write back. Calls of the
  * device that wait or are under way go on behind it, so Bulk-In answers NAK while a status that
  * promises would have waited for them. It is answered
- * whatever the device is at, but by STALL until the first sectors are read: connect to the bus when
- * the state is SERVING. Answers ACK, STALL, EMPTY or OTHER_KIND. */
+ * whatever the device is at, but by STALL until it is recovered: connect to the bus when the state
+ * is SERVING. Answers ACK, STALL, EMPTY or OTHER_KIND. */
 uint32_t usbdisk_setup(struct usbdisk *disk, const uint8_t setup[8], uint8_t data[2],
                        uint32_t *size);
 
 /* Background work, up to 32 steps, while few calls wait for the device and no promise does; of a
  * store where no call waits. Call it while the bus is idle; it may be called at any time. Answers
  * 1 while steps are left, or EMPTY or OTHER_KIND; 0 where every accepted write is durable and at
- * its home place once the device has carried out what waits. While the first sectors are read, and
- * of what failed or faulted, it answers 1. */
+ * its home place once the device has carried out what waits. While it is recovered, and of what
+ * failed or faulted, it answers 1. */
 uint32_t usbdisk_idle(struct usbdisk *disk);
 
 /* The device is to read `count` sectors from sector `first` of the device on before a READ of the
@@ -398,7 +398,7 @@ uint32_t usbdisk_migrate(struct usbdisk *image, const struct usbdisk_plan *plan)
  *
  * Where one of the calls answers BUSY, nothing happened that has to be undone: have the device
  * carry out what usbdisk_next tells, until it tells NOTHING, and make the same call again. While
- * the first sectors are read each of these calls answers BUSY, whatever it is given.
+ * it is recovered each of these calls answers BUSY, whatever it is given.
  *
  * Starts a store, as usbdisk_start starts a disk; of the options it reads `sectors` and `kept`. In
  * format 2 with three records kept or more it brings blocks home ahead of the flush of its next

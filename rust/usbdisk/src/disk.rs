@@ -38,8 +38,7 @@ impl Disk {
     /// Starts a disk on a device of so many sectors, on what it holds. `packet` is 64 at full speed, 512
     /// at high speed. It keeps four records: see [`Disk::start_keeping`].
     ///
-    /// It is [`State::Starting`](crate::State) until the device has carried out what that takes: the
-    /// first sectors are read, and the recovery is written.
+    /// It is [`State::Starting`](crate::State) until the device has carried out its recovery.
     ///
     /// [`Misuse::BadPacketSize`], [`Misuse::BadIdentity`], or [`Fault::NoMemory`](crate::Fault).
     pub fn start(sectors: u64, identity: &Identity, packet: u32) -> Result<Self, Refusal> {
@@ -99,8 +98,8 @@ impl Disk {
     /// A request came for the mass storage interface or one of its endpoints (0, 81h and 02h): its setup
     /// packet. The answer, and how many bytes of `data` go to the host.
     ///
-    /// It is answered whatever the device is at, but by [`Answer::Stall`] until the first sectors are
-    /// read: connect to the bus when the disk serves.
+    /// It is answered whatever the device is at, but by [`Answer::Stall`] until it is recovered:
+    /// connect to the bus when the disk serves.
     pub fn setup(&mut self, request: &[u8; 8], data: &mut [u8; 2]) -> (Answer, usize) {
         let (mut size, from, to) = (0, request.as_ptr(), data.as_mut_ptr());
         // SAFETY: the handle is lent to this call alone, 8 bytes, and 2.
@@ -118,8 +117,8 @@ impl Disk {
     }
 
     /// Steps in the background, for when the bus is idle: whether more are left. False: every accepted
-    /// write is durable and at home once the device has carried out what waits. While the first sectors
-    /// are read, and of a disk that failed or faulted, it stays true.
+    /// write is durable and at home once the device has carried out what waits. While it is recovered, and
+    /// of a disk that failed or faulted, it stays true.
     pub fn idle(&mut self) -> bool {
         // SAFETY: the handle is lent to this call alone.
         unsafe { sys::usbdisk_idle(self.handle(KEY)) == 1 }
