@@ -335,7 +335,7 @@ def it_goes_on_where_the_device_refuses_a_write():
 def it_goes_on_where_the_device_refuses_a_flush():
     make_image("disk.img", 2, BLOCKS, SLOTS)
     promised, told = bytes(5120), set()
-    for number in range(1, 11):
+    for number in range(1, 8):
         server = Server(f"{PROGRAM}.refusing", "disk.img", env=os.environ | {"FLUSHES": str(number)})
         data = pattern(number, 10)
         if server.port:
