@@ -131,7 +131,6 @@ static bool read_super(struct disk *disk)
     usbdisk_look(sector, &layout);
     disk->format = layout.format;
     disk->blocks = layout.blocks;
-    disk->slots = layout.slots;
     usbdisk_log_of(layout.format, layout.slots, 1, &disk->log);
     return true;
 }
@@ -165,11 +164,9 @@ static bool refuse_start(struct disk *disk, uint32_t fault)
     return refuse(disk, fault == USBDISK_NO_MEMORY ? STATUS_MEMORY : STATUS_REFUSED, cause);
 }
 
-/* Begins a disk, and has the device carry out its start. False: said why, but where the records of
- * the log do not fit each other. */
-static bool try_start(struct disk *disk, uint32_t packet, bool *is_unfit)
+/* Begins a disk, and has the device carry out its start. False: said why. */
+static bool try_start(struct disk *disk, uint32_t packet)
 {
-    *is_unfit = false;
     disk_stop(disk);
     disk->has_faulted = disk->is_held = false;
     uint32_t fault = usbdisk_io_begin(&disk->io, &disk->device, &disk->identity, packet);
@@ -183,32 +180,17 @@ static bool try_start(struct disk *disk, uint32_t packet, bool *is_unfit)
     fault = fault_of(disk);
     unlock(disk);
     errno = disk->cause;
-    *is_unfit = fault == USBDISK_READ_REFUSED && !disk->cause;
-    if (fault)
-        return !*is_unfit && refuse_start(disk, fault);
-    return !disk_has_faulted(disk);
+    return fault ? refuse_start(disk, fault) : !disk_has_faulted(disk);
 }
 
-/* A device that told a record as durable and lost it may have kept a part of a later one. A start
- * goes behind the lost one, meets that part where the log has to be empty, and reads no further:
- * the next start goes behind that one too. A slot holds one part at most. */
 bool disk_start(struct disk *disk, uint32_t packet)
 {
-    bool is_unfit = true, is_started = false;
     disk->device = (struct usbdisk_io_device){ disk,      disk->sectors, read_for,
                                                write_for, flush_for,     0 };
-    for (uint64_t tries = 0; is_unfit && tries <= disk->slots; tries++) {
-        is_started = try_start(disk, packet, &is_unfit);
-        if (is_unfit && !tries)
-            say("%s: the log's records do not fit each other: the device lost what it had flushed. "
-                "Those that fit are taken",
-                disk->path);
-    }
-    if (is_unfit)
-        refuse(disk, STATUS_REFUSED, "refused: the log's records do not fit each other");
-    if (!is_started)
-        disk_stop(disk);
-    return is_started;
+    if (try_start(disk, packet))
+        return true;
+    disk_stop(disk);
+    return false;
 }
 
 int disk_ended(const struct disk *disk)

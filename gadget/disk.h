@@ -47,7 +47,7 @@ struct disk {
     int file;
     int locked[LOCKS_MOST]; /* the files under it, where it is a loop device */
     unsigned locks;         /* how many */
-    uint64_t sectors, slots;
+    uint64_t sectors;
     uint64_t blocks; /* how many blocks the host sees */
     uint32_t format; /* 1 or 2 */
     struct usbdisk_log log;

