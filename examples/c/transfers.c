@@ -85,10 +85,10 @@ static struct usbdisk_io *start(uint32_t packet)
     struct usbdisk_io *io = NULL;
     must(!usbdisk_look(device[0], &layout), "no image");
     must(!usbdisk_log_of(layout.format, layout.slots, 1, &log), "its log");
-    size_t told = usbdisk_memory_kept(layout.format, layout.slots, memory.kept) + 512 * log.limit;
+    size_t least = usbdisk_memory_kept(layout.format, layout.slots, memory.kept) + 512 * log.limit;
     heap_most = heap_now;
     must(!usbdisk_io_start(&io, &memory, &who, packet), "a start");
-    must(heap_now > told && heap_now < told + 256 && heap_most == heap_now, "its memory");
+    must(heap_now > least && heap_now < least + 256 && heap_most == heap_now, "its memory");
     attend(io);
     return io;
 }

@@ -41,7 +41,7 @@ pub const VERSION: u32 = 0x010E00;
 pub const SECTOR: usize = 512;
 
 /// Bytes of a buffer that suffices for every image: those of the longest transfer of format 2. One of
-/// format 1 needs fewer: [`Log::limit`] tells the sectors.
+/// format 1 needs fewer: [`Log::limit`] has the sectors.
 pub const BUFFER: usize = Log::limit_of(2) * SECTOR;
 
 /// A device of sectors of 512 bytes. What it has to promise `docs/MAKERS.md` tells.

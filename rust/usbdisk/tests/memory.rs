@@ -54,9 +54,9 @@ fn library_and_crate_are_of_one_version() {
 fn a_log_is_the_same_at_compile_time() {
     for (format, slots) in (1..=2).flat_map(|format| (1..=64).map(move |slots| (format, slots))) {
         let (limit, end) = (Log::limit_of(format) as u64, Log::end_of(format, slots));
-        let told = log_of(format, slots, 1).unwrap();
-        assert_eq!((told.limit, told.end, told.home), (limit, end, end));
-        assert_eq!(told.slot_sectors, Log::end_of(format, 1) - 2);
+        let log = log_of(format, slots, 1).unwrap();
+        assert_eq!((log.limit, log.end, log.home), (limit, end, end));
+        assert_eq!(log.slot_sectors, Log::end_of(format, 1) - 2);
     }
     assert_eq!(log_of(2, 4, 128).map(|log| log.home), Ok(1024));
     for (format, slots, page) in [(1, 4, 128), (2, 4, 0), (2, 65, 1), (3, 4, 1)] {
