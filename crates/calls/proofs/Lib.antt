@@ -1,5 +1,2 @@
 pub mod Values
-pub mod Shown
-pub mod Begun
 pub mod BegunBehind
-pub mod Holding

@@ -19,30 +19,28 @@ use Rattle.calls.specs.Asks.{told_as}
 use Rattle.calls.specs.Handles.{Held}
 use Rattle.calls.specs.Recovers.{IsRecoveryOf}
 use Rattle.calls.specs.declared.asks.UsbDiskCall.{UsbDiskCall}
-use Rattle.calls.specs.declared.held.Stage.{Stage}
-use Rattle.calls.specs.declared.held.Stage.TheVariants as stage
+use Rattle.calls.specs.declared.held.Held.TheVariants as held
 
 -- What the device is asked for: the next call of the recovery, the next of the first sectors, or
 -- what the disk, the store or the work asks for. The bytes of a write lie at the front of the room.
 -- Where there is nothing, it is asked for nothing. A disk and a store work ahead before they are
 -- asked, where their device has nothing to do.
-abbrev pub Asks : Stage → List ℕ → DeviceAsk → Held → Held → List ℕ → Type 0
-Asks (stage.Recovering b sectors) room what old new filled = (s' : Recovering)
-    × (new ≡ record old { stage = new.stage }) × IsRecoveryOf s' sectors new.stage
+abbrev pub Asks : Held → List ℕ → DeviceAsk → Held → Held → List ℕ → Type 0
+Asks (held.Recovering b sectors service) room what old new filled = (s' : Recovering)
+    × IsRecoveryOf s' sectors service new
     × AsksToRecover b.value room what s' filled × GoesOnAsked b.value what s' filled
-Asks (stage.Opening o) room what old new filled = (o' : Reading)
-    × (new ≡ record old { stage = stage.Opening o' }) × (filled ≡ room)
-    × AsksToRead o (length room / 512) what o'
-Asks (stage.Disk s) room what old new filled = (mid : Machine) × (s' : Machine)
-    × (new ≡ record old { stage = stage.Disk s' }) × WorksAhead s mid
-    × AsksFor mid room what s' filled × StaysSafe mid s'
-Asks (stage.Store s) room what old new filled = (mid : store.Machine) × (s' : store.Machine)
-    × (new ≡ record old { stage = stage.Store s' }) × transfers.WorksStoreAhead s mid
+Asks (held.Opening o work) room what old new filled = (o' : Reading)
+    × (new ≡ held.Opening o' work) × (filled ≡ room) × AsksToRead o (length room / 512) what o'
+Asks (held.Disk s) room what old new filled = (mid : Machine) × (s' : Machine)
+    × (new ≡ held.Disk s') × WorksAhead s mid × AsksFor mid room what s' filled × StaysSafe mid s'
+Asks (held.Store s) room what old new filled = (mid : store.Machine) × (s' : store.Machine)
+    × (new ≡ held.Store s') × transfers.WorksStoreAhead s mid
     × stores.TellsNext mid room what s' filled
-Asks (stage.Image s) room what old new filled = (s' : images.Machine)
-    × (new ≡ record old { stage = stage.Image s' }) × images.Asks s room what s' filled
-    × images.GoesOn s s'
-Asks (stage.Failed why) room what old new filled =
+Asks (held.Image s) room what old new filled = (s' : images.Machine)
+    × (new ≡ held.Image s') × images.Asks s room what s' filled × images.GoesOn s s'
+Asks (held.Failed service why) room what old new filled =
+    (what ≡ ask.Nothing) × (new ≡ old) × (filled ≡ room)
+Asks (held.NoWork why) room what old new filled =
     (what ≡ ask.Nothing) × (new ≡ old) × (filled ≡ room)
 
 -- The next call is told. Room for no sector, or for a part of one, changes nothing.
@@ -51,4 +49,4 @@ HandsOut call room call' filled old new code =
     (IsNoRoom (length room) × (code ≡ BAD_LENGTH) × (new ≡ old) × (call' ≡ call)
     × (filled ≡ room))
     ⊎ ((¬ IsNoRoom (length room)) × (code ≡ 0)
-    × ((what : DeviceAsk) × (call' ≡ told_as what) × Asks old.stage room what old new filled))
+    × ((what : DeviceAsk) × (call' ≡ told_as what) × Asks old room what old new filled))

@@ -10,13 +10,11 @@ use Rattle.store_calls.specs.declared.recovered_device.RecoveredDevice.{Recovere
 use Rattle.bot_machine.specs.{Device.{Device, device_by, Kept}, Opening.DiskStartFromPost}
 use Rattle.disk_machine.specs.{Machine.Machine, Room.room_of, Refusals.HoldsLog}
 use Rattle.disk_machine.specs.Moves.{begun, ServesAtRest, LeavesOfStart, HasRoomBeside}
-use Rattle.image_calls.specs.Reading.{unread}
-use Rattle.image_calls.specs.declared.reach.Reach.TheVariants as reach
+use Rattle.calls.specs.Handles.{Held}
 use Rattle.calls.specs.declared.held.DiskPlan.{DiskPlan}
-use Rattle.calls.specs.declared.held.Purpose.{Purpose}
-use Rattle.calls.specs.declared.held.Purpose.TheVariants as purpose
-use Rattle.calls.specs.declared.held.Stage.{Stage}
-use Rattle.calls.specs.declared.held.Stage.TheVariants as stage
+use Rattle.calls.specs.declared.held.Service.{Service}
+use Rattle.calls.specs.declared.held.Service.TheVariants as service
+use Rattle.calls.specs.declared.held.Held.TheVariants as held
 
 -- one that keeps the records of its log
 abbrev pub device_of : DiskPlan → Device
@@ -42,26 +40,19 @@ abbrev pub StoreBehindPost : RecoveredDevice → List ℕ → ℕ → store.Mach
 StoreBehindPost on content kept new = stores.BeginBehindPost on content kept new
 
 -- it is there, or why not
-abbrev pub disk_stage : Result Machine StartFault → Stage
-disk_stage (Ok s) = stage.Disk s
-disk_stage (Err why) = stage.Failed why
+abbrev pub held_disk : Service → Result Machine StartFault → Held
+held_disk what (Ok s) = held.Disk s
+held_disk what (Err why) = held.Failed what why
 
-abbrev pub store_stage : Result store.Machine StartFault → Stage
-store_stage (Ok s) = stage.Store s
-store_stage (Err why) = stage.Failed why
+abbrev pub held_store : Service → Result store.Machine StartFault → Held
+held_store what (Ok s) = held.Store s
+held_store what (Err why) = held.Failed what why
 
--- the first sectors are to be read
-abbrev first_read : RecoveredDevice → Stage
-first_read on = stage.Opening (unread on.sectors reach.Start)
-
--- A disk or a store begins, or there is no memory for it. The work on an image reads first.
-abbrev pub BeginBehindPost : List ℕ → Purpose → RecoveredDevice → Stage → Type 0
-BeginBehindPost content (purpose.Disk plan) on new = (result : Result Machine StartFault)
-    × (new ≡ disk_stage result) × MatchResult result
+-- A disk or a store begins, or there is no memory for it.
+abbrev pub BeginBehindPost : List ℕ → Service → RecoveredDevice → Held → Type 0
+BeginBehindPost content (service.Disk plan) on new = (result : Result Machine StartFault)
+    × (new ≡ held_disk (service.Disk plan) result) × MatchResult result
     (DiskBehindPost on content (device_of plan)) (λ why. why ≡ start.NoMemory)
-BeginBehindPost content (purpose.Store kept) on new = (result : Result store.Machine StartFault)
-    × (new ≡ store_stage result) × MatchResult result
+BeginBehindPost content (service.Store kept) on new = (result : Result store.Machine StartFault)
+    × (new ≡ held_store (service.Store kept) result) × MatchResult result
     (StoreBehindPost on content kept) (λ why. why ≡ start.NoMemory)
-BeginBehindPost content (purpose.Format plan) on new = new ≡ first_read on
-BeginBehindPost content (purpose.LayLog plan) on new = new ≡ first_read on
-BeginBehindPost content purpose.Migration on new = new ≡ first_read on

@@ -4,9 +4,7 @@ pub mod Lending
 pub mod Codes
 pub mod Asks
 pub mod Handles
-pub mod Reserve
 pub mod Kept
-pub mod Sights
 pub mod Beginning
 pub mod Behind
 pub mod Recovers

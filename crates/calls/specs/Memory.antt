@@ -11,9 +11,9 @@ use Rattle.image_calls.specs.Formats.{most_of_part}
 use Rattle.calls.specs.Kept.{ring_of}
 
 -- By measure, where so many records may stand in the log at once: the super, what the disk keeps in
--- view, the outbox, and 120 bytes more than the disk takes, for what it was started for.
+-- view, the outbox, and 72 bytes more than the disk takes, for what the handle may hold beside it.
 abbrev pub memory_on : LogFormat → ℕ → ℕ
-memory_on format ring = disk.memory_of 512 ring (span_of format) (room_of format) format + 120
+memory_on format ring = disk.memory_of 512 ring (span_of format) (room_of format) format + 72
 
 abbrev pub TellsMemory : ℕ → ℕ → ℕ → ℕ → Type 0
 TellsMemory format slots kept told =
@@ -23,7 +23,7 @@ TellsMemory format slots kept told =
 -- By measure, of work that has read so many sectors, and of which so many calls wait at most:
 -- these, and what the box behind a handle takes.
 abbrev pub memory_of_work : ℕ → ℕ → ℕ
-memory_of_work read waiting = 512 * read + 528 * waiting + 944
+memory_of_work read waiting = 512 * read + 528 * waiting + 896
 
 -- an image is made, or a log laid: sector 0 is read, and a part waits at a time
 abbrev pub TellsMemoryToFormat : ℕ → ℕ → ℕ → Type 0

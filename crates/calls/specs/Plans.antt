@@ -9,8 +9,8 @@ use Rattle.image_calls.specs.declared.reach.Reach.TheVariants as reach
 use Rattle.disk_machine.specs.Codes.{STARTED, BAD_SIZES}
 use Rattle.calls.specs.Handles.{Held}
 use Rattle.calls.specs.Starting.{Opens}
-use Rattle.calls.specs.declared.held.Purpose.{Purpose}
-use Rattle.calls.specs.declared.held.Purpose.TheVariants as purpose
+use Rattle.calls.specs.declared.held.ImageWork.{ImageWork}
+use Rattle.calls.specs.declared.held.ImageWork.TheVariants as work
 use Rattle.calls.specs.declared.options.UsbDiskPlan.{UsbDiskPlan}
 
 -- the plan of C, in this format
@@ -39,19 +39,19 @@ IsNoPlan given = ((given.format ≢ 1) × (given.format ≢ 2))
 
 -- What is there stays. Sizes that do not fit are told before anything is done. Else sector 0 is to
 -- be read.
-abbrev pub StartsBy : (ImagePlan → Purpose) → UsbDiskPlan → Option Held → Option Held → ℕ → Type 0
+abbrev pub StartsBy : (ImagePlan → ImageWork) → UsbDiskPlan → Option Held → Option Held → ℕ → Type 0
 StartsBy What given (Some old) new code = (code ≡ STARTED) × (new ≡ Some old)
 StartsBy What given None new code = (IsNoPlan given × (code ≡ BAD_SIZES) × (new ≡ None))
     ⊎ ((plan : ImagePlan) × IsPlan given plan
     × Opens (What plan) given.sectors reach.First None new code)
 
 abbrev pub Formats : UsbDiskPlan → Option Held → Option Held → ℕ → Type 0
-Formats given old new code = StartsBy purpose.Format given old new code
+Formats given old new code = StartsBy work.Format given old new code
 
 abbrev pub LaysLog : UsbDiskPlan → Option Held → Option Held → ℕ → Type 0
-LaysLog given old new code = StartsBy purpose.LayLog given old new code
+LaysLog given old new code = StartsBy work.LayLog given old new code
 
 -- a migration, of which the plan tells the sectors alone
 abbrev pub Migrates : UsbDiskPlan → Option Held → Option Held → ℕ → Type 0
 Migrates given (Some old) new code = (code ≡ STARTED) × (new ≡ Some old)
-Migrates given None new code = Opens purpose.Migration given.sectors reach.Near None new code
+Migrates given None new code = Opens work.Migration given.sectors reach.Near None new code

@@ -11,8 +11,7 @@ use Rattle.image_calls.specs.declared.state.ImageState.{ImageState}
 use Rattle.image_calls.specs.declared.state.ImageState.TheVariants as image
 use Rattle.recovery.specs.declared.start_fault.StartFault.TheVariants as start
 use Rattle.calls.specs.Handles.{Held}
-use Rattle.calls.specs.declared.held.Stage.{Stage}
-use Rattle.calls.specs.declared.held.Stage.TheVariants as stage
+use Rattle.calls.specs.declared.held.Held.TheVariants as held
 
 abbrev pub code_of_state : MachineState → ℕ
 code_of_state state.Starting = 0
@@ -27,14 +26,15 @@ IsImageAt (image.Refused kind.Write) fault code = (code ≡ 4) × (fault ≡ num
 IsImageAt (image.Refused kind.Flush) fault code = (code ≡ 4) × (fault ≡ number_of start.Flush)
 
 -- The number of what it is at. Why there is nothing is told, and else 0.
-abbrev pub IsAt : Stage → ℕ → ℕ → Type 0
-IsAt (stage.Recovering b sectors) fault code = (code ≡ 0) × (fault ≡ 0)
-IsAt (stage.Opening o) fault code = (code ≡ 0) × (fault ≡ 0)
-IsAt (stage.Disk s) fault code = (code ≡ code_of_state (state_of s)) × (fault ≡ 0)
-IsAt (stage.Store s) fault code = (code ≡ code_of_state (store.stage_of s)) × (fault ≡ 0)
-IsAt (stage.Image s) fault code = IsImageAt (images.state_of s) fault code
-IsAt (stage.Failed why) fault code = (code ≡ 4) × (fault ≡ number_of why)
+abbrev pub IsAt : Held → ℕ → ℕ → Type 0
+IsAt (held.Recovering b sectors what) fault code = (code ≡ 0) × (fault ≡ 0)
+IsAt (held.Opening o work) fault code = (code ≡ 0) × (fault ≡ 0)
+IsAt (held.Disk s) fault code = (code ≡ code_of_state (state_of s)) × (fault ≡ 0)
+IsAt (held.Store s) fault code = (code ≡ code_of_state (store.stage_of s)) × (fault ≡ 0)
+IsAt (held.Image s) fault code = IsImageAt (images.state_of s) fault code
+IsAt (held.Failed what why) fault code = (code ≡ 4) × (fault ≡ number_of why)
+IsAt (held.NoWork why) fault code = (code ≡ 4) × (fault ≡ number_of why)
 
 -- and it stays
 abbrev pub TellsState : ℕ → Held → Held → ℕ → Type 0
-TellsState fault old new code = (new ≡ old) × IsAt old.stage fault code
+TellsState fault old new code = (new ≡ old) × IsAt old fault code

@@ -6,7 +6,7 @@ ghost use Rattle.calls.specs.Asking.{HandsOut, Asks};
 
 use crate::asks::{UsbDiskCall, told};
 use crate::handle::UsbDisk;
-use crate::held::{Held, Stage};
+use crate::held::Held;
 use crate::lending::held_in;
 use disk_machine::{ACK, BAD_LENGTH, EMPTY};
 use window::{DeviceAsk, SECTOR};
@@ -37,21 +37,21 @@ impl Held {
     // What the device is to do next. A disk and a store work ahead before they are asked.
     fn ask(&mut self, buffer: &mut [u8]) -> DeviceAsk
         requires { ¬ IsNoRoom (length buffer.old) }
-        ensures { Asks self.old.stage buffer.old result self.old self.new buffer.new }
+        ensures { Asks self.old buffer.old result self.old self.new buffer.new }
     {
-        match &mut self.stage {
-            Stage::Recovering(recovering, _) => recovering.next(buffer),
-            Stage::Opening(opening) => opening.next((buffer.len() / SECTOR) as u64),
-            Stage::Disk(disk) => {
+        match self {
+            Held::Recovering(recovering, _, _) => recovering.next(buffer),
+            Held::Opening(opening, _) => opening.next((buffer.len() / SECTOR) as u64),
+            Held::Disk(disk) => {
                 disk.work_ahead();
                 disk.next(buffer)
             }
-            Stage::Store(store) => {
+            Held::Store(store) => {
                 store.work_ahead();
                 store.next(buffer)
             }
-            Stage::Image(image) => image.next(buffer),
-            Stage::Failed(_) => DeviceAsk::Nothing,
+            Held::Image(image) => image.next(buffer),
+            Held::Failed(_, _) | Held::NoWork(_) => DeviceAsk::Nothing,
         }
     }
 }

@@ -1,34 +1,28 @@
 //! A disk or a store begins behind the recovery of its device: nothing more is read or written.
 ghost use Rattle.std.specs.Prelude.{◌≡◌, ℕ, List, Result, MatchResult};
-ghost use Rattle.calls.specs.Behind.{BeginBehindPost, DiskBehindPost, disk_stage, store_stage};
+ghost use Rattle.calls.specs.Behind.{BeginBehindPost, DiskBehindPost, held_disk, held_store};
 ghost use Rattle.calls.specs.Behind.{StoreBehindPost, device_of};
-ghost use Rattle.image_calls.specs.Reading.{unread};
-ghost use Rattle.image_calls.specs.declared.reach.Reach.TheVariants.{Start};
 
-use crate::held::{DiskPlan, Purpose, Stage};
+use crate::held::{DiskPlan, Held, Service};
 use bot_machine::{Disk, DiskSetup, Retiring, StartFault};
 use disk_machine::{DiskMachine, room_for};
-use image_calls::{Opening, Reach};
 use std::alloc::Global;
 use store_calls::{RecoveredDevice, StoreMachine, begin_behind, device_holding, medium_behind};
 
 // How many calls a step in the background makes at most.
 const STEP: usize = 2;
 
-impl Purpose {
-    /// What was started begins on a device that was recovered. It stands apart, so that an event
-    /// does not take the stack of a start. The work on an image reads first.
+impl Service {
+    /// What was started begins on a device that was recovered, or does not. It stands apart, so
+    /// that an event does not take the stack of a start.
     #[inline(never)]
-    pub(crate) fn begin_behind(&self, alloc: Global, on: &RecoveredDevice) -> Stage
+    pub(crate) fn begin_behind(&self, alloc: Global, on: &RecoveredDevice) -> Held
         ghost content: { List ℕ }
         ensures { BeginBehindPost content self.now on.now result }
     {
         match self {
-            Purpose::Disk(plan) => stage_of_disk(disk_behind(alloc, on, plan)),
-            Purpose::Store(kept) => stage_of_store(store_behind(alloc, on, *kept)),
-            Purpose::Format(_) => first_read(alloc, on.sectors),
-            Purpose::LayLog(_) => first_read(alloc, on.sectors),
-            Purpose::Migration => first_read(alloc, on.sectors),
+            Service::Disk(plan) => held_disk(disk_behind(alloc, on, plan), *self),
+            Service::Store(kept) => held_store(store_behind(alloc, on, *kept), *self),
         }
     }
 }
@@ -70,29 +64,22 @@ fn store_behind(alloc: Global, on: &RecoveredDevice, kept: u8) -> Result<StoreMa
     begin_behind(alloc, on, &device, kept)
 }
 
-// The first sectors are to be read.
-fn first_read(alloc: Global, sectors: u64) -> Stage
-    ensures { result ≡ Stage.Opening (unread sectors Start) }
-{
-    Stage::Opening(Opening::new(alloc, sectors, Reach::Start))
-}
-
 // The disk is there, or why not.
-fn stage_of_disk(begun: Result<DiskMachine, StartFault>) -> Stage
-    ensures { result ≡ disk_stage begun }
+fn held_disk(begun: Result<DiskMachine, StartFault>, what: Service) -> Held
+    ensures { result ≡ held_disk what begun }
 {
     match begun {
-        Ok(disk) => Stage::Disk(disk),
-        Err(why) => Stage::Failed(why),
+        Ok(disk) => Held::Disk(disk),
+        Err(why) => Held::Failed(what, why),
     }
 }
 
 // The store is there, or why not.
-fn stage_of_store(begun: Result<StoreMachine, StartFault>) -> Stage
-    ensures { result ≡ store_stage begun }
+fn held_store(begun: Result<StoreMachine, StartFault>, what: Service) -> Held
+    ensures { result ≡ held_store what begun }
 {
     match begun {
-        Ok(store) => Stage::Store(store),
-        Err(why) => Stage::Failed(why),
+        Ok(store) => Held::Store(store),
+        Err(why) => Held::Failed(what, why),
     }
 }

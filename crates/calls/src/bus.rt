@@ -6,7 +6,7 @@ ghost use Rattle.calls.specs.Bus.{WaitsOut, WaitsIn, IsStalled};
 
 use crate::codes::OTHER_KIND;
 use crate::handle::UsbDisk;
-use crate::held::{Held, Purpose, Stage};
+use crate::held::{Held, Service};
 use crate::lending::held_in;
 use disk_machine::{BAD_LENGTH, EMPTY, NAK, STALL};
 
@@ -48,12 +48,11 @@ impl Held {
     fn take(&mut self, bytes: &[u8], taken: &mut usize) -> u32
         ensures { TakesOut bytes.now taken.old taken.new self.old self.new result }
     {
-        match &mut self.stage {
-            Stage::Disk(disk) => disk.take_transfer(bytes, taken),
-            Stage::Recovering(_, _) | Stage::Opening(_) | Stage::Failed(_) => self
-                .purpose
-                .wait_out(taken),
-            Stage::Store(_) | Stage::Image(_) => OTHER_KIND,
+        match self {
+            Held::Disk(disk) => disk.take_transfer(bytes, taken),
+            Held::Recovering(_, _, what) => what.wait_out(taken),
+            Held::Failed(what, _) => what.wait_out(taken),
+            Held::Opening(_, _) | Held::Store(_) | Held::Image(_) | Held::NoWork(_) => OTHER_KIND,
         }
     }
 
@@ -61,12 +60,11 @@ impl Held {
     fn send(&mut self, room: &mut [u8], given: &mut usize) -> u32
         ensures { SendsIn room.old given.old room.new given.new self.old self.new result }
     {
-        match &mut self.stage {
-            Stage::Disk(disk) => disk.send_transfer(room, given),
-            Stage::Recovering(_, _) | Stage::Opening(_) | Stage::Failed(_) => self
-                .purpose
-                .wait_in(room, given),
-            Stage::Store(_) | Stage::Image(_) => OTHER_KIND,
+        match self {
+            Held::Disk(disk) => disk.send_transfer(room, given),
+            Held::Recovering(_, _, what) => what.wait_in(room, given),
+            Held::Failed(what, _) => what.wait_in(room, given),
+            Held::Opening(_, _) | Held::Store(_) | Held::Image(_) | Held::NoWork(_) => OTHER_KIND,
         }
     }
 
@@ -74,27 +72,26 @@ impl Held {
     fn answer(&mut self, packet: &[u8; 8], to: &mut [u8; 2], size: &mut u32) -> u32
         ensures { AnswersSetup packet.now to.old size.old to.new size.new self.old self.new result }
     {
-        match &mut self.stage {
-            Stage::Disk(disk) => disk.setup(packet, to, size),
-            Stage::Recovering(_, _) | Stage::Opening(_) | Stage::Failed(_) => self
-                .purpose
-                .stall(size),
-            Stage::Store(_) | Stage::Image(_) => OTHER_KIND,
+        match self {
+            Held::Disk(disk) => disk.setup(packet, to, size),
+            Held::Recovering(_, _, what) => what.stall(size),
+            Held::Failed(what, _) => what.stall(size),
+            Held::Opening(_, _) | Held::Store(_) | Held::Image(_) | Held::NoWork(_) => OTHER_KIND,
         }
     }
 }
 
-impl Purpose {
+impl Service {
     // Bytes to Bulk-Out of a disk that is not there yet: they are to come again.
     fn wait_out(&self, taken: &mut usize) -> u32
         ensures { WaitsOut taken.old self.now taken.new result }
     {
         match self {
-            Purpose::Disk(_) => {
+            Service::Disk(_) => {
                 *taken = 0;
                 NAK
             }
-            _ => OTHER_KIND,
+            Service::Store(_) => OTHER_KIND,
         }
     }
 
@@ -103,7 +100,7 @@ impl Purpose {
     fn wait_in(&self, room: &[u8], given: &mut usize) -> u32
         ensures { WaitsIn room.now given.old self.now given.new result }
     {
-        let Purpose::Disk(plan) = self else {
+        let Service::Disk(plan) = self else {
             return OTHER_KIND;
         };
         if room.len() < plan.size.bytes() as usize {
@@ -118,11 +115,11 @@ impl Purpose {
         ensures { IsStalled size.old self.now size.new result }
     {
         match self {
-            Purpose::Disk(_) => {
+            Service::Disk(_) => {
                 *size = 0;
                 STALL
             }
-            _ => OTHER_KIND,
+            Service::Store(_) => OTHER_KIND,
         }
     }
 }

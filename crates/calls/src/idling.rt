@@ -1,11 +1,11 @@
 //! What is done while the bus rests.
 ghost use Rattle.std.specs.Prelude.{◌≡◌};
 ghost use Rattle.calls.specs.Handles.{InHandle};
-ghost use Rattle.calls.specs.Idling.{MakesSteps, ReadsAhead, Rests, ReadsNone, code_of_bool};
+ghost use Rattle.calls.specs.Idling.{MakesSteps, ReadsAhead, ReadsNone, code_of_bool};
 
 use crate::codes::OTHER_KIND;
 use crate::handle::UsbDisk;
-use crate::held::{Held, Purpose, Stage};
+use crate::held::{Held, Service};
 use crate::lending::held_in;
 use disk_machine::EMPTY;
 
@@ -34,11 +34,12 @@ impl Held {
     fn idle(&mut self) -> u32
         ensures { MakesSteps self.old self.new result }
     {
-        match &mut self.stage {
-            Stage::Disk(disk) => code_of(disk.idle()),
-            Stage::Store(store) => code_of(store.idle()),
-            Stage::Recovering(_, _) | Stage::Opening(_) | Stage::Failed(_) => self.purpose.rests(),
-            Stage::Image(_) => OTHER_KIND,
+        match self {
+            Held::Disk(disk) => code_of(disk.idle()),
+            Held::Store(store) => code_of(store.idle()),
+            // Steps are always left of what is not there yet.
+            Held::Recovering(_, _, _) | Held::Failed(_, _) => 1,
+            Held::Opening(_, _) | Held::Image(_) | Held::NoWork(_) => OTHER_KIND,
         }
     }
 
@@ -46,34 +47,23 @@ impl Held {
     fn wish(&mut self, first: u64, count: u32) -> u32
         ensures { ReadsAhead first count self.old self.new result }
     {
-        match &mut self.stage {
-            Stage::Disk(disk) => code_of(disk.look_ahead(first, count)),
-            Stage::Recovering(_, _) | Stage::Opening(_) | Stage::Failed(_) => self
-                .purpose
-                .reads_none(),
-            Stage::Store(_) | Stage::Image(_) => OTHER_KIND,
+        match self {
+            Held::Disk(disk) => code_of(disk.look_ahead(first, count)),
+            Held::Recovering(_, _, what) => what.reads_none(),
+            Held::Failed(what, _) => what.reads_none(),
+            Held::Opening(_, _) | Held::Store(_) | Held::Image(_) | Held::NoWork(_) => OTHER_KIND,
         }
     }
 }
 
-impl Purpose {
-    // Whether steps are left of what is not there yet: always.
-    fn rests(&self) -> u32
-        ensures { Rests self.now result }
-    {
-        match self {
-            Purpose::Disk(_) | Purpose::Store(_) => 1,
-            Purpose::Format(_) | Purpose::LayLog(_) | Purpose::Migration => OTHER_KIND,
-        }
-    }
-
+impl Service {
     // Whether sectors are read ahead of what is not there yet: never.
     fn reads_none(&self) -> u32
         ensures { ReadsNone self.now result }
     {
         match self {
-            Purpose::Disk(_) => 0,
-            _ => OTHER_KIND,
+            Service::Disk(_) => 0,
+            Service::Store(_) => OTHER_KIND,
         }
     }
 }

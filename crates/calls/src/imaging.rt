@@ -3,7 +3,7 @@ ghost use Rattle.std.specs.Prelude.{◌≡◌, MatchOption};
 ghost use Rattle.calls.specs.Plans.{Formats, LaysLog, Migrates, IsPlan, IsNoPlan};
 
 use crate::handle::UsbDisk;
-use crate::held::Purpose;
+use crate::held::ImageWork;
 use crate::moves::holds_any;
 use crate::options::UsbDiskPlan;
 use crate::starting::open;
@@ -22,7 +22,13 @@ pub fn format(alloc: Global, h: &mut UsbDisk, plan: &UsbDiskPlan) -> u32
     let Some(fits) = plan_of(plan) else {
         return BAD_SIZES;
     };
-    open(alloc, h, Purpose::Format(fits), plan.sectors, Reach::First)
+    open(
+        alloc,
+        h,
+        ImageWork::Format(fits),
+        plan.sectors,
+        Reach::First,
+    )
 }
 
 /// An image is made around the blocks that are at home.
@@ -35,7 +41,13 @@ pub fn lay_log(alloc: Global, h: &mut UsbDisk, plan: &UsbDiskPlan) -> u32
     let Some(fits) = plan_of(plan) else {
         return BAD_SIZES;
     };
-    open(alloc, h, Purpose::LayLog(fits), plan.sectors, Reach::First)
+    open(
+        alloc,
+        h,
+        ImageWork::LayLog(fits),
+        plan.sectors,
+        Reach::First,
+    )
 }
 
 /// An image of format 1 is made one of format 2. Of the plan it reads the sectors alone.
@@ -45,7 +57,7 @@ pub fn migrate(alloc: Global, h: &mut UsbDisk, plan: &UsbDiskPlan) -> u32
     if holds_any(h) {
         return STARTED;
     }
-    open(alloc, h, Purpose::Migration, plan.sectors, Reach::Near)
+    open(alloc, h, ImageWork::Migration, plan.sectors, Reach::Near)
 }
 
 // The plan of C, where it fits.

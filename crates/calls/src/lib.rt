@@ -4,7 +4,6 @@
 
 mod asking;
 mod asks;
-mod beginning;
 mod behind;
 mod bus;
 mod codes;
@@ -19,7 +18,6 @@ mod moves;
 mod options;
 mod parts;
 mod recover;
-mod reserve;
 mod starting;
 mod state;
 mod storing;

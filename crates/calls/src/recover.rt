@@ -3,7 +3,7 @@ ghost use Rattle.std.specs.Prelude.{ℕ, List, MatchOption, IfOk};
 ghost use Rattle.image_calls.specs.Recovering.{IsOver, Ends, found_of, IsLeftBy};
 ghost use Rattle.calls.specs.Recovers.{IsFirst, RecoversOn, ComesBehind};
 
-use crate::held::{Held, Purpose, Stage};
+use crate::held::{Held, Service};
 use bot_machine::StartFault;
 use image_calls::{Recovering, Run};
 use std::alloc::Global;
@@ -14,15 +14,15 @@ use store_calls::RecoveredDevice;
 /// device without any there is no image. It stands apart, so that the machine does not lie on the
 /// stack of a start.
 #[inline(never)]
-pub(crate) fn first_call(alloc: Global, sectors: u64) -> Option<Stage>
-    ensures { MatchOption result (Unit {0}) (IsFirst sectors) }
+pub(crate) fn first_call(alloc: Global, sectors: u64, what: Service) -> Option<Held>
+    ensures { MatchOption result (Unit {0}) (IsFirst what sectors) }
 {
     if sectors == 0 {
-        return Some(Stage::Failed(StartFault::BadSuper));
+        return Some(Held::Failed(what, StartFault::BadSuper));
     }
     let run = Run::new(alloc)?;
     match Box::new(alloc, Recovering::new(run, sectors)) {
-        Ok(recovering) => Some(Stage::Recovering(recovering, sectors)),
+        Ok(recovering) => Some(Held::Recovering(recovering, sectors, what)),
         Err(_) => None,
     }
 }
@@ -33,30 +33,29 @@ impl Held {
     #[inline(never)]
     pub(crate) fn recover_on(&mut self, alloc: Global)
         ghost content: { List ℕ }
-        ensures { RecoversOn content self.old.stage self.old self.new }
+        ensures { RecoversOn content self.old self.old self.new }
     {
-        let stage = mem::replace(&mut self.stage, Stage::Failed(StartFault::NoMemory));
-        self.stage = match stage {
-            Stage::Recovering(recovering, sectors) => {
-                self.purpose.recover_on(alloc, recovering, sectors)
+        *self = match mem::replace(self, Held::NoWork(StartFault::NoMemory)) {
+            Held::Recovering(recovering, sectors, what) => {
+                what.recover_on(alloc, recovering, sectors)
             }
             other => other,
         };
     }
 }
 
-impl Purpose {
+impl Service {
     // A recovery goes on, unless it is over.
-    fn recover_on(&self, alloc: Global, recovering: Box<Recovering>, sectors: u64) -> Stage
+    fn recover_on(&self, alloc: Global, recovering: Box<Recovering>, sectors: u64) -> Held
         ghost content: { List ℕ }
         ensures { ComesBehind content self.now recovering.value sectors result }
     {
         if !recovering.is_over() {
-            return Stage::Recovering(recovering, sectors);
+            return Held::Recovering(recovering, sectors, *self);
         }
         match end_of(recovering) {
             Ok(on) => self.begin_behind(alloc, &on),
-            Err(why) => Stage::Failed(why),
+            Err(why) => Held::Failed(*self, why),
         }
     }
 }

@@ -4,11 +4,11 @@ ghost use Rattle.std.specs.Option.{SomeIff};
 ghost use Rattle.spec.specs.Packets.{bytes_of};
 ghost use Rattle.scsi.specs.Identification.{IsLegible};
 ghost use Rattle.disk_machine.specs.Starting.{identity_of};
-ghost use Rattle.calls.specs.Starting.{StartsDisk, StartsStore, Opens, Stops, started, first_stage};
+ghost use Rattle.calls.specs.Starting.{StartsDisk, StartsStore, Opens, Stops, started};
 ghost use Rattle.calls.specs.Starting.{Recovers};
 
 use crate::handle::UsbDisk;
-use crate::held::{DiskPlan, Held, Purpose, Stage};
+use crate::held::{DiskPlan, Held, ImageWork, Service};
 use crate::moves::{adopt, holds_any, reclaim};
 use crate::options::{UsbDiskOptions, kept_by};
 use crate::recover::first_call;
@@ -38,7 +38,7 @@ pub fn start_disk(alloc: Global, h: &mut UsbDisk, options: &UsbDiskOptions) -> u
         size,
         kept,
     };
-    recover(alloc, h, Purpose::Disk(plan), options.sectors)
+    recover(alloc, h, Service::Disk(plan), options.sectors)
 }
 
 /// A store starts behind a handle that holds nothing. Of the options it reads how many sectors the
@@ -49,7 +49,7 @@ pub fn start_store(alloc: Global, h: &mut UsbDisk, options: &UsbDiskOptions) -> 
     if holds_any(h) {
         return STARTED;
     }
-    let store = Purpose::Store(kept_by(options.kept));
+    let store = Service::Store(kept_by(options.kept));
     recover(alloc, h, store, options.sectors)
 }
 
@@ -63,26 +63,26 @@ pub fn stop(alloc: Global, h: &mut UsbDisk) -> u32
     ACK
 }
 
-/// What is started goes into a handle that holds nothing.
+/// Work on an image goes into a handle that holds nothing.
 pub(crate) fn open(
     alloc: Global,
     h: &mut UsbDisk,
-    purpose: Purpose,
+    work: ImageWork,
     sectors: u64,
     reach: Reach,
 ) -> u32
-    ensures { Opens purpose sectors reach h.old.held h.new.held result }
+    ensures { Opens work sectors reach h.old.held h.new.held result }
 {
-    let stage = first_stage(alloc, sectors, reach);
-    hold(alloc, h, Held { purpose, stage })
+    let held = first_read(alloc, work, sectors, reach);
+    hold(alloc, h, held)
 }
 
 // What is started goes into a handle that holds nothing. Its image is to be recovered first.
-fn recover(alloc: Global, h: &mut UsbDisk, purpose: Purpose, sectors: u64) -> u32
-    ensures { Recovers purpose sectors h.old.held h.new.held result }
+fn recover(alloc: Global, h: &mut UsbDisk, what: Service, sectors: u64) -> u32
+    ensures { Recovers what sectors h.old.held h.new.held result }
 {
-    match first_call(alloc, sectors) {
-        Some(stage) => hold(alloc, h, Held { purpose, stage }),
+    match first_call(alloc, sectors, what) {
+        Some(held) => hold(alloc, h, held),
         None => number_of(StartFault::NoMemory),
     }
 }
@@ -102,13 +102,13 @@ fn hold(alloc: Global, h: &mut UsbDisk, held: Held) -> u32
 }
 
 // The first sectors are to be read. Of a device without any there is no image.
-fn first_stage(alloc: Global, sectors: u64, reach: Reach) -> Stage
-    ensures { result ≡ first_stage sectors reach }
+fn first_read(alloc: Global, work: ImageWork, sectors: u64, reach: Reach) -> Held
+    ensures { result ≡ started work sectors reach }
 {
     if sectors == 0 {
-        return Stage::Failed(StartFault::BadSuper);
+        return Held::NoWork(StartFault::BadSuper);
     }
-    Stage::Opening(Opening::new(alloc, sectors, reach))
+    Held::Opening(Opening::new(alloc, sectors, reach), work)
 }
 
 // The size of a packet of `bytes` bytes.

@@ -4,7 +4,7 @@ ghost use Rattle.calls.specs.Handles.{InHandle};
 ghost use Rattle.calls.specs.State.{TellsState, IsAt, IsImageAt, code_of_state};
 
 use crate::handle::UsbDisk;
-use crate::held::{Held, Stage};
+use crate::held::Held;
 use crate::lending::held_in;
 use bot_machine::StartFault;
 use disk_machine::{EMPTY, number_of};
@@ -31,15 +31,15 @@ pub fn tell_state(h: &mut UsbDisk, fault: &mut u32) -> u32
 impl Held {
     // The number of what it is at, and of why there is nothing.
     fn state(&self, fault: &mut u32) -> u32
-        ensures { IsAt self.now.stage fault.new result }
+        ensures { IsAt self.now fault.new result }
     {
         *fault = 0;
-        match &self.stage {
-            Stage::Recovering(_, _) | Stage::Opening(_) => code_of(MachineState::Starting),
-            Stage::Disk(disk) => code_of(disk.state()),
-            Stage::Store(store) => code_of(store.state()),
-            Stage::Image(image) => code_of_image(image.state(), fault),
-            Stage::Failed(why) => {
+        match self {
+            Held::Recovering(_, _, _) | Held::Opening(_, _) => code_of(MachineState::Starting),
+            Held::Disk(disk) => code_of(disk.state()),
+            Held::Store(store) => code_of(store.state()),
+            Held::Image(image) => code_of_image(image.state(), fault),
+            Held::Failed(_, why) | Held::NoWork(why) => {
                 *fault = number_of(*why);
                 FAILED
             }

@@ -6,7 +6,7 @@ ghost use Rattle.calls.specs.Storing.{code_before, code_of_store_fault, code_of_
 
 use crate::codes::{BUSY, OTHER_KIND};
 use crate::handle::UsbDisk;
-use crate::held::{Held, Purpose, Stage};
+use crate::held::{Held, Service};
 use crate::lending::held_in;
 use disk_machine::{ACK, BAD_LENGTH, BAD_RANGE, DEAD, EMPTY, UNREAD, number_of};
 use store_calls::StoreFault;
@@ -57,61 +57,61 @@ impl Held {
     fn sizes(&self, blocks: &mut u64, limit: &mut u32) -> u32
         ensures { TellsSizes blocks.old limit.old blocks.new limit.new self.now self.now result }
     {
-        match &self.stage {
-            Stage::Store(store) => {
+        match self {
+            Held::Store(store) => {
                 let sizes = store.sizes();
                 *blocks = sizes.blocks;
                 *limit = sizes.limit;
                 ACK
             }
-            Stage::Recovering(_, _) | Stage::Opening(_) => self.purpose.code_before(BUSY),
-            Stage::Failed(why) => self.purpose.code_before(number_of(*why)),
-            Stage::Disk(_) | Stage::Image(_) => OTHER_KIND,
+            Held::Recovering(_, _, what) => what.code_before(BUSY),
+            Held::Failed(what, why) => what.code_before(number_of(*why)),
+            Held::Opening(_, _) | Held::Disk(_) | Held::Image(_) | Held::NoWork(_) => OTHER_KIND,
         }
     }
 
     fn read(&mut self, block: u64, to: &mut [u8]) -> u32
         ensures { ReadsBlocks block to.old to.new self.old self.new result }
     {
-        match &mut self.stage {
-            Stage::Store(store) => code_of(store.read(block, to)),
-            Stage::Recovering(_, _) | Stage::Opening(_) => self.purpose.code_before(BUSY),
-            Stage::Failed(why) => self.purpose.code_before(number_of(*why)),
-            Stage::Disk(_) | Stage::Image(_) => OTHER_KIND,
+        match self {
+            Held::Store(store) => code_of(store.read(block, to)),
+            Held::Recovering(_, _, what) => what.code_before(BUSY),
+            Held::Failed(what, why) => what.code_before(number_of(*why)),
+            Held::Opening(_, _) | Held::Disk(_) | Held::Image(_) | Held::NoWork(_) => OTHER_KIND,
         }
     }
 
     fn write(&mut self, block: u64, bytes: &[u8]) -> u32
         ensures { WritesBlocks block bytes.now self.old self.new result }
     {
-        match &mut self.stage {
-            Stage::Store(store) => code_of(store.write(block, bytes)),
-            Stage::Recovering(_, _) | Stage::Opening(_) => self.purpose.code_before(BUSY),
-            Stage::Failed(why) => self.purpose.code_before(number_of(*why)),
-            Stage::Disk(_) | Stage::Image(_) => OTHER_KIND,
+        match self {
+            Held::Store(store) => code_of(store.write(block, bytes)),
+            Held::Recovering(_, _, what) => what.code_before(BUSY),
+            Held::Failed(what, why) => what.code_before(number_of(*why)),
+            Held::Opening(_, _) | Held::Disk(_) | Held::Image(_) | Held::NoWork(_) => OTHER_KIND,
         }
     }
 
     fn sync(&mut self) -> u32
         ensures { SyncsStore self.old self.new result }
     {
-        match &mut self.stage {
-            Stage::Store(store) => code_of(store.sync()),
-            Stage::Recovering(_, _) | Stage::Opening(_) => self.purpose.code_before(BUSY),
-            Stage::Failed(why) => self.purpose.code_before(number_of(*why)),
-            Stage::Disk(_) | Stage::Image(_) => OTHER_KIND,
+        match self {
+            Held::Store(store) => code_of(store.sync()),
+            Held::Recovering(_, _, what) => what.code_before(BUSY),
+            Held::Failed(what, why) => what.code_before(number_of(*why)),
+            Held::Opening(_, _) | Held::Disk(_) | Held::Image(_) | Held::NoWork(_) => OTHER_KIND,
         }
     }
 }
 
-impl Purpose {
+impl Service {
     // What a store is told that is not there, by this number; of another kind OTHER_KIND.
     fn code_before(&self, code: u32) -> u32
         ensures { result ≡ code_before code self.now }
     {
         match self {
-            Purpose::Store(_) => code,
-            _ => OTHER_KIND,
+            Service::Store(_) => code,
+            Service::Disk(_) => OTHER_KIND,
         }
     }
 }

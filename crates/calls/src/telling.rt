@@ -1,16 +1,14 @@
 //! What the device tells of what it was asked for.
 ghost use Rattle.std.specs.Prelude.{◌≡◌, ℕ, List};
 ghost use Rattle.calls.specs.Handles.{InHandle};
-ghost use Rattle.calls.specs.Telling.{TellsDone, EndsSo, BeginsAt};
-ghost use Rattle.calls.specs.Telling.{code_of_fault, code_of_done};
+ghost use Rattle.calls.specs.Telling.{TellsDone, code_of_fault, code_of_done};
 
 use crate::codes::NOT_ASKED;
 use crate::handle::UsbDisk;
-use crate::held::{Held, Stage};
+use crate::held::Held;
 use crate::lending::held_in;
-use bot_machine::StartFault;
 use disk_machine::{ACK, BAD_LENGTH, EMPTY};
-use image_calls::{Opening, Reach, ReadEnd};
+use image_calls::{Opening, Reach};
 use std::alloc::Global;
 use std::mem;
 use window::DoneFault;
@@ -33,48 +31,27 @@ impl Held {
         ghost content: { List ℕ }
         ensures { TellsDone content ok bytes.now self.old self.new result }
     {
-        match &mut self.stage {
-            Stage::Recovering(recovering, _) => match recovering.done(ok, bytes) {
+        match self {
+            Held::Recovering(recovering, _, _) => match recovering.done(ok, bytes) {
                 Ok(()) => {
                     self.recover_on(alloc);
                     ACK
                 }
                 Err(fault) => code_of(fault),
             },
-            Stage::Opening(opening) => match opening.done(ok, bytes) {
+            Held::Opening(opening, work) => match opening.done(ok, bytes) {
                 Ok(end) => {
-                    self.go_on(alloc, end);
+                    let read = mem::replace(opening, Opening::new(alloc, 0, Reach::First));
+                    let work = *work;
+                    work.go_on(alloc, read, end, self);
                     ACK
                 }
                 Err(fault) => code_of(fault),
             },
-            Stage::Disk(disk) => code_for(disk.done(ok, bytes)),
-            Stage::Store(store) => code_for(store.done(ok, bytes)),
-            Stage::Image(image) => code_for(image.done(ok)),
-            Stage::Failed(_) => NOT_ASKED,
-        }
-    }
-
-    // A read of the first sectors has ended so.
-    fn go_on(&mut self, alloc: Global, end: ReadEnd)
-        ghost content: { List ℕ }
-        ensures { EndsSo content end self.old.stage self.old self.new }
-    {
-        match end {
-            ReadEnd::Taken => self.begin(alloc),
-            ReadEnd::Refused => self.stage = Stage::Failed(StartFault::Read),
-            ReadEnd::NoMemory => self.stage = Stage::Failed(StartFault::NoMemory),
-        }
-    }
-
-    // Where the first sectors are read, what was started begins.
-    fn begin(&mut self, alloc: Global)
-        ghost content: { List ℕ }
-        ensures { BeginsAt content self.old.stage self.old self.new }
-    {
-        if let Stage::Opening(opening) = &mut self.stage {
-            let read = mem::replace(opening, Opening::new(alloc, 0, Reach::First));
-            self.purpose.begin(alloc, read, &mut self.stage);
+            Held::Disk(disk) => code_for(disk.done(ok, bytes)),
+            Held::Store(store) => code_for(store.done(ok, bytes)),
+            Held::Image(image) => code_for(image.done(ok)),
+            Held::Failed(_, _) | Held::NoWork(_) => NOT_ASKED,
         }
     }
 }

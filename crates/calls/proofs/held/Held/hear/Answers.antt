@@ -7,7 +7,7 @@ returns-in-Ok g c =
     let hears = rw same at c.in-Ok.ensures.hears in
     let goes_on = rw same at c.in-Ok.ensures.goes_on in
     rw c.in-Recovering.is
-    (Ok c.in-Ok.field-0, c.done.new.self, c.recover_on.ensures.0, hears, goes_on, (refl, c.recover_on.ensures.1))
+    (Ok c.in-Ok.field-0, c.done.new.self, hears, goes_on, (refl, c.recover_on.ensures))
 
 pub returns-in-Err : goal.returns-in-Err
 returns-in-Err g c =
@@ -15,4 +15,4 @@ returns-in-Err g c =
     let hears = rw same at c.in-Err.ensures.hears in
     let goes_on = rw same at c.in-Err.ensures.goes_on in
     rw c.in-Recovering.is
-    (Err c.in-Err.fault, c.done.new.self, refl, hears, goes_on, (c.code_of.ensures, (refl, refl)))
+    (Err c.in-Err.fault, c.done.new.self, hears, goes_on, (c.code_of.ensures, (refl, refl, refl)))

@@ -1,4 +1,4 @@
-use Rattle.calls.proofs.held.Held.begin.Given as goal
+use Rattle.calls.proofs.held.ImageWork.go_on.Given as goal
 
 abbrev pub ghost-begin : goal.ghost-begin
 ghost-begin g a = g.content

@@ -1,4 +1,4 @@
-use Rattle.calls.proofs.held.Purpose.begin_behind.Given as goal
+use Rattle.calls.proofs.held.Service.begin_behind.Given as goal
 
 abbrev pub ghost-disk_behind : goal.ghost-disk_behind
 ghost-disk_behind g a = g.content

@@ -1,10 +1,4 @@
-use Rattle.calls.proofs.held.Purpose.begin.Given as goal
-
-abbrev pub ghost-begin_disk : goal.ghost-begin_disk
-ghost-begin_disk g a = g.content
-
-abbrev pub ghost-begin_store : goal.ghost-begin_store
-ghost-begin_store g a = g.content
+use Rattle.calls.proofs.held.ImageWork.begin.Given as goal
 
 abbrev pub ghost-begin_format : goal.ghost-begin_format
 ghost-begin_format g a = g.content
