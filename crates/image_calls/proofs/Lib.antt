@@ -3,8 +3,6 @@ pub mod Carrying
 pub mod Handing
 pub mod Stepped
 pub mod Until
-pub mod ReadBeside
-pub mod FreshRead
 pub mod Kept
 pub mod Recoveries
 pub mod Laid

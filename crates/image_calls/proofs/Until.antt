@@ -12,7 +12,6 @@ first_stays near bytes le = take-append-le 512 near bytes le
 pub goes_on : (r : Reach) (sectors : ℕ) (near bytes : List ℕ) (until : ℕ) → 512 ≤ length near → IsUntil r sectors near until
     → IsUntil r sectors (near ++ bytes) until
 goes_on reach.First sectors near bytes until some is = is
-goes_on reach.Start sectors near bytes until some is = is
 goes_on reach.Near sectors [] bytes until some is = absurd (omega (arith, some))
 goes_on reach.Near sectors (b ∷ near) bytes until some is =
     (is.0, subst (λ (sector : List ℕ). IsNear sector is.0) (sym (first_stays (b ∷ near) bytes some)) is.1, is.2)

@@ -3,7 +3,6 @@ pub mod Runs
 pub mod Stepping
 pub mod Running
 pub mod Near
-pub mod Beside
 pub mod Reading
 pub mod Room
 pub mod Inside

@@ -6,7 +6,6 @@
 
 mod asked;
 mod asking;
-mod beside;
 mod carried;
 mod device;
 mod going;

@@ -1,44 +1,33 @@
-//! The first sectors of a device are read, and others beside them.
-ghost use Rattle.std.specs.Prelude.{◌≡◌, ◌≢◌, ◌<◌, ◌≤◌, ◌*◌, ◌/◌, ◌++◌, ◌+◌, ◌↔◌, length};
-ghost use Rattle.std.specs.Prelude.{IsTrue, take, IfSome, IfNone};
-ghost use Rattle.image_calls.specs.Reading.{unread, IsSound, IsWhole, AsksToRead, HasRead};
-ghost use Rattle.image_calls.specs.Reading.{IsUntil, TakesRead, TakesFirstRead, AreNextFirst};
-ghost use Rattle.image_calls.specs.Reading.{left, first_of, IsNext};
+//! The first sectors of a device are read.
+ghost use Rattle.std.specs.Prelude.{◌≡◌, ◌≢◌, ◌<◌, ◌≤◌, ◌*◌, ◌/◌, ◌++◌, ◌+◌, ◌↔◌};
+ghost use Rattle.std.specs.Prelude.{length, IsTrue, take};
+ghost use Rattle.image_calls.specs.Reading.{unread, left, IsSound, IsWhole, AsksToRead, HasRead};
+ghost use Rattle.image_calls.specs.Reading.{IsUntil, TakesRead, AreNext};
 ghost use Rattle.image_calls.specs.Room.{MakesRoom};
 
-use crate::beside::beside_of;
 use crate::near::near_in;
 use crate::reach::Reach;
 use crate::read_end::ReadEnd;
 use std::alloc::Global;
 use std::marker::Model;
-use store_calls::Sight;
 use window::{DeviceAsk, DeviceRead, DoneFault, SECTOR};
 
 // How many sectors are read at a time at most.
-const MOST: u32 = 240;
+const MOST: u64 = 240;
 
-/// The first sectors of a device, which are read a run at a time, from sector 0 on; and then those
-/// beside them that these tell, where a start reads no further.
+/// The first sectors of a device, which are read a run at a time, from sector 0 on.
 #[derive(Drop)]
 pub struct Opening {
     alloc: Global,
-    // Room for all that is read from sector 0 on, once that is: what was read lies at its front.
+    // Room for all that is read, once that is known: what was read lies at its front.
     bytes: Vec<u8>,
     // How many sectors were read.
     read: u64,
-    // Room for all that is read beside, once it is known: what was read lies at its front.
-    beside: Vec<u8>,
-    // How many of these were read.
-    taken: u64,
     // How many sectors the device has.
     sectors: u64,
     reach: Reach,
-    // How many sectors are read from sector 0 on, as far as it is known.
+    // How many sectors are read, as far as it is known.
     until: u64,
-    // From which sector on others are read, and how many.
-    at: u64,
-    more: u64,
     // How many the device is reading.
     asked: u32,
 }
@@ -64,13 +53,9 @@ impl Opening {
             alloc,
             bytes: Vec::new(alloc),
             read: 0,
-            beside: Vec::new(alloc),
-            taken: 0,
             sectors,
             reach,
-            until: first_of(reach).min(sectors),
-            at: 0,
-            more: 0,
+            until: sectors.min(1),
             asked: 0,
         }
     }
@@ -96,14 +81,14 @@ impl Opening {
         requires { 0 < room }
         ensures { AsksToRead self.old room result self.new }
     {
-        let next = self.to_read();
-        if self.asked != 0 || next.count == 0 {
+        let left = self.left();
+        if self.asked != 0 || left == 0 {
             return DeviceAsk::Nothing;
         }
-        let count = room.min(u64::from(next.count.min(MOST))) as u32;
+        let count = room.min(left.min(MOST)) as u32;
         self.asked = count;
         DeviceAsk::Read(DeviceRead {
-            first: next.first,
+            first: self.read,
             count,
         })
     }
@@ -133,28 +118,11 @@ impl Opening {
         ensures is { result ≡ left self.now }
         ensures sound { IsSound self.now }
     {
-        self.until - self.read + (self.more - self.taken)
+        self.until - self.read
     }
 
-    // All that is left to read in one row: of the first sectors, and of the others where none of
-    // these is left.
-    fn to_read(&self) -> DeviceRead
-        ensures { IsNext self.now result.first result.count }
-    {
-        if self.read < self.until {
-            DeviceRead {
-                first: self.read,
-                count: (self.until - self.read) as u32,
-            }
-        } else {
-            DeviceRead {
-                first: self.at + self.taken,
-                count: (self.more - self.taken) as u32,
-            }
-        }
-    }
-
-    // A good read of these bytes has ended.
+    // A good read of these bytes has ended. Where there is no memory for what is read, nothing
+    // changes.
     fn take(&mut self, bytes: &[u8]) -> Result<ReadEnd, DoneFault>
         requires { self.old.asked ≢ 0 }
         ensures { TakesRead self.old bytes.now result self.new }
@@ -162,44 +130,20 @@ impl Opening {
         if bytes.len() != SECTOR * self.asked as usize {
             return Err(DoneFault::BadLength);
         }
-        if self.read < self.until {
-            return Ok(self.take_first(bytes));
+        let until = self.until_with(bytes);
+        if !make_room(self.alloc, &mut self.bytes, self.read, until) {
+            return Ok(ReadEnd::NoMemory);
         }
-        put(&mut self.beside, self.taken as usize * SECTOR, bytes);
-        self.taken += u64::from(self.asked);
+        put(&mut self.bytes, self.read as usize * SECTOR, bytes);
+        self.read += u64::from(self.asked);
+        self.until = until;
         self.asked = 0;
         Ok(ReadEnd::Taken)
     }
 
-    // These bytes are the next of the first sectors. Where there is no memory for what they tell,
-    // they are not read.
-    fn take_first(&mut self, bytes: &[u8]) -> ReadEnd
-        requires { AreNextFirst self.old bytes.now }
-        ensures { TakesFirstRead self.old bytes.now result self.new }
-    {
-        let until = self.until_with(bytes);
-        if !make_room(self.alloc, &mut self.bytes, self.read, until) {
-            return ReadEnd::NoMemory;
-        }
-        put(&mut self.bytes, self.read as usize * SECTOR, bytes);
-        let read = self.read + u64::from(self.asked);
-        let near = &self.bytes[..read as usize * SECTOR];
-        let others = beside_of(self.reach, self.sectors, near);
-        let Some(room) = room_for(self.alloc, others.count) else {
-            return ReadEnd::NoMemory;
-        };
-        self.beside = room;
-        self.at = others.first;
-        self.more = u64::from(others.count);
-        self.until = until;
-        self.read = read;
-        self.asked = 0;
-        ReadEnd::Taken
-    }
-
-    // How many sectors are read from sector 0 on, where these bytes are those that are read next.
+    // How many sectors are read, where these bytes are those that are read next.
     fn until_with(&self, bytes: &[u8]) -> u64
-        requires { AreNextFirst self.now bytes.now }
+        requires { AreNext self.now bytes.now }
         ensures is { IsUntil self.now.reach self.now.sectors (self.now.near ++ bytes.now) result }
         ensures few { result ≤ 16384 }
         ensures within { length (self.now.near ++ bytes.now) / 512 ≤ result }
@@ -209,7 +153,7 @@ impl Opening {
             return self.until;
         }
         match self.reach {
-            Reach::First | Reach::Start => self.until,
+            Reach::First => self.until,
             Reach::Near => near_in(bytes).min(self.sectors),
         }
     }
@@ -219,28 +163,6 @@ impl Opening {
         ensures { result.items ≡ self.near }
     {
         front_of(self.bytes, self.read)
-    }
-
-    /// What was read.
-    pub fn into_sight(self) -> Sight
-        ensures { (result.near.items ≡ self.near) × (result.at ≡ self.at)
-            × (result.beside.items ≡ self.beside) }
-    {
-        Sight {
-            near: front_of(self.bytes, self.read),
-            at: self.at,
-            beside: front_of(self.beside, self.taken),
-        }
-    }
-}
-
-// How many sectors are read from sector 0 on before that tells more.
-fn first_of(reach: Reach) -> u64
-    ensures { result ≡ first_of reach }
-{
-    match reach {
-        Reach::First | Reach::Near => 1,
-        Reach::Start => 2,
     }
 }
 
@@ -257,18 +179,6 @@ fn make_room(alloc: Global, bytes: &mut Vec<u8>, read: u64, until: u64) -> bool
     };
     *bytes = room;
     true
-}
-
-// Room for so many sectors, if there is memory. None takes none.
-fn room_for(alloc: Global, count: u32) -> Option<Vec<u8>>
-    requires { count ≤ 16384 }
-    ensures some { IfSome result (λ room. length room.items ≡ 512 * count) }
-    ensures none { IfNone result (count ≢ 0) }
-{
-    if count == 0 {
-        return Some(Vec::new(alloc));
-    }
-    vec![in alloc; 0u8; count as usize * SECTOR].ok()
 }
 
 // Copies these bytes behind the first ones.
