@@ -1,5 +1,5 @@
 -- What is done to a store whose device has carried out all.
-use Rattle.std.proofs.Common.{◌≡◌, ◌++◌, ℕ, true, false, List, [], ◌∷◌, length, inl, inr, refl, sym, ◌∙◌, ap, arith, length-append}
+use Rattle.std.proofs.Common.{◌≡◌, ◌++◌, ℕ, true, false, List, [], ◌∷◌, length, inl, inr, refl, ◌∙◌, ap, arith, length-append}
 use Rattle.std.proofs.lemmas.List.{take-append-le, append-nil}
 use Rattle.medium.specs.{Medium.Image}
 use Rattle.window.specs.{Story.given, declared.call.DeviceCall.DeviceCall, Window.{Window, mirror_of, ComesAfter, kept_out}}
@@ -9,18 +9,13 @@ use Rattle.blocks.specs.{Finding.MayFind, StoreValue.{Cached, is_dead, layout_of
 use Rattle.blocks.proofs.{BookTurns.settles, EmptyBatches.none_of}
 use Rattle.store_calls.specs.{Calls.{IsWritten, KeepsAll}, Idling.IsShort, Rooms.{Appends, Foresees}, WritingBack.{IsLeft, WritesBack}}
 use Rattle.store_calls.specs.{declared.writing_back.Aim.Aim}
-use Rattle.store_calls.specs.Serving.{StaysSafe, LeavesNoMore, LeavesSince, ServesAtRest, ServesOn, WaitsForDevice}
-use Rattle.store_calls.specs.{StoreMachine.{Machine, IsCaughtUp, is_behind, under_way}, Stores.Store}
+use Rattle.store_calls.specs.Serving.{StaysSafe, LeavesNoMore, LeavesSince, ServesAtRest, ServesOn}
+use Rattle.store_calls.specs.{StoreMachine.{Machine, IsCaughtUp, under_way}, Stores.Store}
 use Rattle.store_calls.specs.{Transfers.{IsDoneFree, Accepts, Waits, Promises, PutsOff}, declared.store_fault.StoreFault.StoreFault}
 use Rattle.store_calls.proofs.{Served.appends_none, WrittenBack.some_made, Standing.{IsSentStill, stays_safe, left_on, keeps_going, wishes}}
 use Rattle.window.specs.Window as window
-use Rattle.window.specs.declared.asked.Asked.TheVariants as asked
 
 -- ---- where nothing waits
-
--- a start waits for a device that is behind alone
-not_starting : (calls : List DeviceCall) (a : Asked) → a ≡ asked.Nothing → calls ≡ [] → is_behind a calls ≡ true → ⊥
-not_starting calls a none empty is = cc (sym ((λ i. is_behind (none i) (empty i))) ∙ is)
 
 module _ {Room : Type 0} (old new : Machine) (free : IsCaughtUp old)
     (others : new ≡ record old { store = new.store; put_off = new.put_off })
@@ -36,17 +31,13 @@ module _ {Room : Type 0} (old new : Machine) (free : IsCaughtUp old)
     ap (λ (l : List DeviceCall). length l) free.none_waits,
   )) left.are left.cut
 
-  waits : WaitsForDevice old → WaitsForDevice new
-  waits before is = absurd (not_starting old.store.medium.outbox old.asked free.at_none free.none_waits
-      (before (sym (ap (λ (s : Machine). s.starting) others) ∙ is)))
-
   pub done_free : layout_of new.store.cached ≡ layout_of old.store.cached
       → new.store.cached.log.keeps ≡ old.store.cached.log.keeps → IsDoneFree old new
   done_free layout keeps = record {
     free = free;
     others = others;
     since = since;
-    goes_on = keeps_going old new layout keeps appends.follows.room_stays appends.follows.near_stays waits;
+    goes_on = keeps_going old new layout keeps appends.follows.room_stays appends.follows.near_stays;
   }
 
   pub turn_serves : IsTurn (window.state_of old.store.medium) (window.state_of new.store.medium) old.store.cached new.store.cached
@@ -77,17 +68,15 @@ module _ (write : Write) (old new : Machine) (others : new ≡ record old { stor
   no_more : LeavesNoMore old new
   no_more image left = rw (asked_stays, same) at left
 
-  pub accepts : old.starting ≡ false → Accepts write old new
-  accepts started =
+  pub accepts : Accepts write old new
+  accepts =
       let turn = written.keeps.turn in record {
-        started = started;
         others = others;
         written = written;
         leaves = no_more;
         since = λ first since image left. rw same (since image (no_more image left));
         goes_on = keeps_going old new turn.goes_on.layout_stays turn.goes_on.keeps_stays (ap (λ (w : Window). w.room) same)
-            (ap (λ (w : Window). w.near) same)
-            (λ before is. (λ i. is_behind (asked_stays i) (same i).outbox) ∙ before (sym (ap (λ (s : Machine). s.starting) others) ∙ is));
+            (ap (λ (w : Window). w.near) same);
         serves = λ book serves. record {
           fits = turn.fits book serves.fits;
           keeps = λ ours image left. rw turn.goes_on.size_stays
@@ -121,8 +110,7 @@ module _ (old new : Store) (address count : ℕ) (all : KeepsAll address count o
 pub read_safe : (old new : Machine) (address count : ℕ) → new ≡ record old { store = new.store }
     → KeepsAll address count old.store new.store → StaysSafe old new
 read_safe old new address count others all =
-    let same : new.asked ≡ old.asked = ap (λ (s : Machine). s.asked) others in
-    let outbox = outbox_stays old.store new.store address count all in stays_safe old new (record {
+    let same : new.asked ≡ old.asked = ap (λ (s : Machine). s.asked) others in stays_safe old new (record {
       sent = read_sent old.store new.store address count all;
       reaches = omega (
         arith,
@@ -132,13 +120,12 @@ read_safe old new address count others all =
       fits = all.turn.fits;
       layout = ap (λ (s : Cached). layout_of s) all.keeps.stays;
       keeps = ap (λ (s : Cached). s.log.keeps) all.keeps.stays;
-      waits = λ before is. (λ i. is_behind (same i) (outbox i)) ∙ before (sym (ap (λ (s : Machine). s.starting) others) ∙ is);
     })
 
 -- only the wish changes
 pub wait_safe : (old new : Machine) (missing : DeviceRead) (why : StoreFault) → Waits old missing new why → StaysSafe old new
-wait_safe old new missing why (inl told) = wishes old new (rw told.2) (rw told.2) (rw told.2)
-wait_safe old new missing why (inr busy) = wishes old new (rw busy.2) (rw busy.2) (rw busy.2)
+wait_safe old new missing why (inl told) = wishes old new (rw told.2) (rw told.2)
+wait_safe old new missing why (inr busy) = wishes old new (rw busy.2) (rw busy.2)
 
 -- ---- a sync
 

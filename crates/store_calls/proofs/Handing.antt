@@ -9,7 +9,7 @@ use Rattle.window.specs.{declared.asked.Asked.Asked}
 use Rattle.blocks.specs.StoreValue.{Cached, layout_of}
 use Rattle.window.specs.Runs.{writes_of}
 use Rattle.store_calls.specs.{Asking.{AsksFor, HandsOut}, Outbox.{without, IsRun}, Serving.StaysSafe}
-use Rattle.store_calls.specs.StoreMachine.{Machine, under_way, is_behind}
+use Rattle.store_calls.specs.StoreMachine.{Machine, under_way}
 use Rattle.store_calls.proofs.Standing.{IsSentStill, Stands, same_sent, stays_safe, store_stays, nothing_changes}
 use Rattle.window.specs.declared.ask.DeviceAsk.TheVariants as ask
 use Rattle.window.specs.declared.asked.Asked.TheVariants as asked
@@ -75,7 +75,6 @@ handed_stands old new count hands le = record {
   fits = hands.untouched.turn.fits;
   layout = ap (λ (s : Cached). layout_of s) hands.untouched.cached;
   keeps = ap (λ (s : Cached). s.log.keeps) hands.untouched.cached;
-  waits = λ waits is. ap (λ (s : Machine). is_behind s.asked s.store.medium.outbox) hands.others;
 }
 
 pub some_first : (calls : List DeviceCall) (call : DeviceCall) → first_of calls ≡ Some call → 1 ≤ length calls
@@ -106,7 +105,7 @@ run_waits old new sector count room filled run = omega (
 reads_stand : (old new : Machine) (home : DeviceRead) → old.asked ≡ asked.Nothing → new ≡ record old { asked = asked.Read home }
     → Stands old new
 reads_stand old new home free is = rw is (store_stays old (record old { asked = asked.Read home }) refl
-    (omega (arith, ap (λ (a : Asked). under_way a) free)) (λ waits starting. rw free at (waits starting)))
+    (omega (arith, ap (λ (a : Asked). under_way a) free)))
 
 -- the device is asked for the next
 pub asks_safe : (old new : Machine) (room : List ℕ) (what : DeviceAsk) (filled : List ℕ) → AsksFor old room what new filled

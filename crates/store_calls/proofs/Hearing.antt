@@ -1,26 +1,20 @@
 -- What the device was asked for has ended.
-use Rattle.std.proofs.Common.{◌≡◌, ◌⊎◌, ◌≤◌, ◌/◌, inl, inr, [], ◌∷◌, List, ℕ, Bool, true, false, length, refl, sym, ◌∙◌, ap, arith}
-use Rattle.std.proofs.{lemmas.Bool.false≢true}
+use Rattle.std.proofs.Common.{◌≡◌, ◌⊎◌, ◌≤◌, ◌/◌, inl, inr, List, ℕ, Bool, true, false, length, refl, ap, arith}
 use Rattle.std.specs.{Prelude.Result}
 use Rattle.window.specs.{declared.call.DeviceCall.DeviceCall, Window.{Window, AreOnDevice, moved}, declared.ask.DeviceRead.DeviceRead}
 use Rattle.window.specs.{declared.done_fault.DoneFault.DoneFault, declared.asked.Asked.Asked}
 use Rattle.blocks.specs.StoreValue.{Cached, layout_of}
-use Rattle.store_calls.specs.Asking.{carried_out, starts_behind, read_ended, EndsRefused, IsShownBy, EndsAs, EndsRead, EndsCalls, IsHonest}
-use Rattle.store_calls.specs.{Calls.Sees, Serving.{StaysSafe, WaitsForDevice}}
-use Rattle.store_calls.specs.{StoreMachine.{Machine, is_some, is_behind, under_way, carried}, Stores.Store}
+use Rattle.store_calls.specs.Asking.{carried_out, read_ended, EndsRefused, IsShownBy, EndsAs, EndsRead, EndsCalls, IsHonest}
+use Rattle.store_calls.specs.{Calls.Sees, Serving.StaysSafe}
+use Rattle.store_calls.specs.{StoreMachine.{Machine, under_way, carried}, Stores.Store}
 use Rattle.store_calls.proofs.Handing.{some_go, taken_by}
 use Rattle.store_calls.proofs.Standing.{IsSentStill, Stands, same_sent, stays_safe, store_stays, nothing_changes}
 use Rattle.window.specs.declared.asked.Asked.TheVariants as asked
 
 -- ---- calls are carried out
 
-counted_behind : (calls : List DeviceCall) (was : Bool) → starts_behind calls was ≡ true → is_some calls ≡ true
-counted_behind [] was is = absurd (false≢true is)
-counted_behind (call ∷ calls) was is = refl
-
 counted_safe : (old : Machine) (count : ℕ) → old.asked ≡ asked.Calls count → StaysSafe old (carried_out old)
-counted_safe old count was = stays_safe old (carried_out old) (store_stays old (carried_out old) refl (omega arith)
-    (λ waits. counted_behind old.store.medium.outbox old.starting))
+counted_safe old count was = stays_safe old (carried_out old) (store_stays old (carried_out old) refl (omega arith))
 
 -- ---- calls are refused
 
@@ -38,17 +32,11 @@ given_up_stands old new count was given_up =
       fits = given_up.refused.fits;
       layout = ap (λ (s : Store). layout_of s.cached) given_up.refused.others;
       keeps = ap (λ (s : Store). s.cached.log.keeps) given_up.refused.others;
-      waits = λ waits is. absurd (false≢true (sym (ap (λ (s : Machine). s.starting) given_up.others) ∙ is));
     }
 
 -- ---- a read has ended
 
 -- a device that reads is as far behind as one that is at no call
-no_call : (old new : Machine) (home : DeviceRead) → old.asked ≡ asked.Read home → new.asked ≡ asked.Nothing
-    → new.starting ≡ old.starting → new.store.medium.outbox ≡ old.store.medium.outbox → WaitsForDevice old → WaitsForDevice new
-no_call old new home was now starting outbox waits is =
-    (λ i. is_behind (now i) (outbox i)) ∙ ap (λ (a : Asked). is_behind a old.store.medium.outbox) (sym was) ∙ waits (sym starting ∙ is)
-
 as_far : (old new : Machine) (home : DeviceRead) → old.asked ≡ asked.Read home → new.asked ≡ asked.Nothing
     → new.store.medium.seen.told.taken ≡ old.store.medium.seen.told.taken → carried old ≤ carried new
 as_far old new home was now taken = omega (
@@ -61,7 +49,7 @@ as_far old new home was now taken = omega (
 unread_safe : (old new : Machine) (home : DeviceRead) → old.asked ≡ asked.Read home → new ≡ read_ended old home false → StaysSafe old new
 unread_safe old new home was is =
     let now : new.asked ≡ asked.Nothing = ap (λ (s : Machine). s.asked) is in
-    stays_safe old new (store_stays old new (rw is) (as_far old new home was now (rw is)) (no_call old new home was now (rw is) (rw is)))
+    stays_safe old new (store_stays old new (rw is) (as_far old new home was now (rw is)))
 
 -- the window has moved, or stayed
 shown_medium : (old new : Store) (first : ℕ) (bytes : List ℕ) (taken : Bool) → Sees first bytes taken old new
@@ -71,13 +59,12 @@ shown_medium old new first bytes false sees held = inl (sees.shown.refused refl)
 shown_medium old new first bytes true sees held = inr (sees.shown.honest refl held)
 
 abbrev IsSentAlike : Window → Window → Type 0
-IsSentAlike old new = IsSentStill old new × (new.seen.told.taken ≡ old.seen.told.taken) × (new.outbox ≡ old.outbox)
+IsSentAlike old new = IsSentStill old new × (new.seen.told.taken ≡ old.seen.told.taken)
 
 alike : (old new : Window) (first count : ℕ) → (new ≡ old) ⊎ (new ≡ moved old first count) → IsSentAlike old new
-alike old new first count (inl same) = rw same (same_sent old, refl, refl)
+alike old new first count (inl same) = rw same (same_sent old, refl)
 alike old new first count (inr moves) = rw moves (
   record { opening = refl; sent = refl; size = refl; left = λ t image left. left; room = refl; near = refl },
-  refl,
   refl,
 )
 
@@ -93,7 +80,6 @@ shown_safe old new home bytes was shown held =
       fits = (shown.sees.untouched held).turn.fits;
       layout = ap (λ (s : Cached). layout_of s) shown.sees.cached;
       keeps = ap (λ (s : Cached). s.log.keeps) shown.sees.cached;
-      waits = no_call old new home was now (ap (λ (s : Machine). s.starting) shown.others) sent.2;
     })
 
 -- ---- what the device was asked for last

@@ -1,4 +1,3 @@
-pub mod Sighted
 pub mod Served
 pub mod Stepping
 pub mod WrittenBack
@@ -10,7 +9,6 @@ pub mod Handing
 pub mod Hearing
 pub mod AtRest
 pub mod Doing
-pub mod MachineStarted
 pub mod MachineBegun
 pub mod Living
 pub mod CarriedOut

@@ -25,9 +25,8 @@ write_on : (address : ℕ) (bytes : List ℕ) (result : Result (Unit {0}) StoreF
     → Writes address bytes old new result → (book : Book) → Serves old book → Serves new (book_after (write address bytes result) book)
 write_on address bytes (Ok tells) old new writes = writes.1.serves
 write_on address bytes (Err why) old new (inl not) = same old new not.1
-write_on address bytes (Err why) old new (inr (may, busy, inl starts)) = same old new starts.1
-write_on address bytes (Err why) old new (inr (may, busy, inr (started, wants, inl behind))) = noted old new behind.1
-write_on address bytes (Err why) old new (inr (may, busy, inr (started, wants, inr off))) = off.serves
+write_on address bytes (Err why) old new (inr (may, busy, wants, inl behind)) = noted old new behind.1
+write_on address bytes (Err why) old new (inr (may, busy, wants, inr off)) = off.serves
 
 sync_on : (result : Result (Unit {0}) StoreFault) (old new : Machine) → Syncs old new result
     → (book : Book) → Serves old book → Serves new (book_after (sync result) book)

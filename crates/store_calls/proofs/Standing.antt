@@ -1,5 +1,5 @@
 -- A machine over a device that leaves no more, and a store that fits what it fitted.
-use Rattle.std.proofs.{Common.{◌≡◌, ◌≤◌, ◌++◌, ℕ, List, length, refl, sym, ◌∙◌, ap, arith, length-append}, lemmas.List.take-append-le}
+use Rattle.std.proofs.{Common.{◌≡◌, ◌≤◌, ◌++◌, ℕ, List, length, refl, ap, arith, length-append}, lemmas.List.take-append-le}
 use Rattle.std.specs.{Prelude.Option}
 use Rattle.medium.specs.{Medium.Image}
 use Rattle.window.specs.{OutboxMedium.{sent, LeftSince}, Story.Told, declared.call.DeviceCall.DeviceCall, Window.{Window, mirror_of}}
@@ -7,8 +7,8 @@ use Rattle.window.specs.{declared.asked.Asked.Asked}
 use Rattle.journal.specs.{Places.Shape}
 use Rattle.logical_blocks.specs.Book.{Book}
 use Rattle.blocks.specs.StoreValue.{FitsBook, layout_of}
-use Rattle.store_calls.specs.{Rooms.room_for, Serving.{StaysSafe, KeepsGoing, WaitsForDevice, LeavesNoMore, LeavesSince, ServesOn}}
-use Rattle.store_calls.specs.{StoreMachine.{Machine, carried, is_behind, under_way}, Stores.Store}
+use Rattle.store_calls.specs.{Rooms.room_for, Serving.{StaysSafe, KeepsGoing, LeavesNoMore, LeavesSince, ServesOn}}
+use Rattle.store_calls.specs.{StoreMachine.{Machine, carried, under_way}, Stores.Store}
 use Rattle.store_calls.proofs.{Served.holds_on}
 use Rattle.window.specs.Window as window
 
@@ -41,14 +41,12 @@ pub record Stands (old new : Machine) : Type 0 where
       → FitsBook (window.state_of new.store.medium) new.store.cached book
   pub layout : layout_of new.store.cached ≡ layout_of old.store.cached
   pub keeps : new.store.cached.log.keeps ≡ old.store.cached.log.keeps
-  pub waits : WaitsForDevice old → WaitsForDevice new
 
 -- the outbox has room as before, and the log lies in memory as before
 pub keeps_going : (old new : Machine) → layout_of new.store.cached ≡ layout_of old.store.cached
     → new.store.cached.log.keeps ≡ old.store.cached.log.keeps → new.store.medium.room ≡ old.store.medium.room
-    → new.store.medium.near ≡ old.store.medium.near → (WaitsForDevice old → WaitsForDevice new) → KeepsGoing old new
-keeps_going old new layout keeps room near waits = record {
-  waits = waits;
+    → new.store.medium.near ≡ old.store.medium.near → KeepsGoing old new
+keeps_going old new layout keeps room near = record {
   roomy = λ fits. omega (arith, fits, room, ap (λ (s : Shape). room_for s) layout);
   log = holds_on old.store new.store keeps layout near;
 }
@@ -79,26 +77,23 @@ module _ (old new : Machine) (stands : Stands old new) where
     serves = serves_still;
     leaves = leaves_no_more;
     since = since_still;
-    goes_on = keeps_going old new stands.layout stands.keeps stands.sent.room stands.sent.near stands.waits;
+    goes_on = keeps_going old new stands.layout stands.keeps stands.sent.room stands.sent.near;
   }
 
 -- the store stays, and the device told no fewer done
-pub store_stays : (old new : Machine) → new.store ≡ old.store → carried old ≤ carried new → (WaitsForDevice old → WaitsForDevice new)
-    → Stands old new
-store_stays old new same reaches waits = record {
+pub store_stays : (old new : Machine) → new.store ≡ old.store → carried old ≤ carried new → Stands old new
+store_stays old new same reaches = record {
   sent = rw same (same_sent old.store.medium);
   reaches = reaches;
   fits = λ book fits. rw same fits;
   layout = ap (λ (s : Store). layout_of s.cached) same;
   keeps = ap (λ (s : Store). s.cached.log.keeps) same;
-  waits = waits;
 }
 
 -- only the wish changes
-pub wishes : (old new : Machine) → new.store ≡ old.store → new.asked ≡ old.asked → new.starting ≡ old.starting → StaysSafe old new
-wishes old new store asked starting = stays_safe old new (store_stays old new store
-    (omega (arith, ap (λ (a : Asked). under_way a) asked, ap (λ (s : Store). length s.medium.seen.told.taken) store))
-    (λ waits is. (λ i. is_behind (asked i) (store i).medium.outbox) ∙ waits (sym starting ∙ is)))
+pub wishes : (old new : Machine) → new.store ≡ old.store → new.asked ≡ old.asked → StaysSafe old new
+wishes old new store asked = stays_safe old new (store_stays old new store
+    (omega (arith, ap (λ (a : Asked). under_way a) asked, ap (λ (s : Store). length s.medium.seen.told.taken) store)))
 
 pub nothing_changes : (old new : Machine) → new ≡ old → StaysSafe old new
-nothing_changes old new same = rw same (wishes old old refl refl refl)
+nothing_changes old new same = rw same (wishes old old refl refl)

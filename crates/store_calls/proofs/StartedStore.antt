@@ -1,11 +1,11 @@
--- A start of a store, good or refused.
-use Rattle.std.proofs.Common.{◌≡◌, ◌≢◌, ◌⊎◌, inl, inr, ℕ, ◌<◌, ◌+◌, length, subst, arith}
+-- A start of a store that was refused: its own calls say why.
+use Rattle.std.proofs.Common.{◌≡◌, ◌≢◌, ◌⊎◌, inl, inr, ◌<◌, ◌+◌, length, subst, arith}
 use Rattle.medium.specs.{Sent.sent, declared.fault.MediumFault.MediumFault}
-use Rattle.window.specs.{Window.{Window, state_of, kept_out, ComesAfter, CoversDevice, IsServed}, WindowLaws.is_sound}
+use Rattle.window.specs.{Window.{Window, state_of, kept_out, ComesAfter, IsServed}, WindowLaws.is_sound}
 use Rattle.recovery.specs.{Causes.start_fault_of, declared.start_fault.StartFault.StartFault}
-use Rattle.blocks.specs.Started.{IsStartCause, StartLeaves, LeavesMedium, StartsKeeping}
+use Rattle.blocks.specs.Started.{IsStartCause, StartLeaves, LeavesMedium}
 use Rattle.blocks.proofs.KnownImages.{each_ours, finds, is_cause_for}
-use Rattle.store_calls.specs.{Stores.Store, Rooms.{CoversParts, SeesStart, IsRoomy}, Starts.{Begins, EndsIn}}
+use Rattle.store_calls.specs.{Rooms.SeesStart, Starts.EndsIn}
 use Rattle.store_calls.proofs.Served.{start_refuses, start_sees}
 use Rattle.medium.specs.declared.fault.MediumFault.TheVariants as kind
 use Rattle.recovery.specs.declared.start_fault.StartFault.TheVariants as fault
@@ -19,26 +19,6 @@ start_leaves first after medium = record {
       flushed (medium.cuts (each_ours (state_of first) book on ours));
   bounded = medium.moments;
 }
-
-pub began : (first : Window) (kept : ℕ) (new : Store) → length first.outbox ≡ 0 → StartsKeeping state_of ComesAfter kept first new
-    → CoversDevice first new.medium → CoversParts first new.medium → IsServed first new.medium → IsRoomy new → Begins first kept new
-began first kept new empty starts covers parts served roomy = record {
-  started = starts.started;
-  leaves = start_leaves first new.medium starts.leaves;
-  medium = starts.leaves;
-  covers = covers;
-  parts = parts;
-  served = served;
-  refuses = start_refuses first new.medium empty starts.leaves served;
-  keeps = starts.keeps;
-  ring = starts.ring;
-  holds = inl starts.keeps;
-  roomy = roomy;
-  policy = starts.policy;
-  headroom = starts.headroom;
-}
-
--- ---- a start that was refused: its own calls say why
 
 module _ (first after : Window) (empty : length first.outbox ≡ 0) (medium : LeavesMedium state_of ComesAfter first after) where
   -- the call of this kind that the fault names was refused

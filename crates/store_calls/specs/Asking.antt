@@ -1,7 +1,7 @@
 -- What the device of a store is asked for, and what it tells.
-use Rattle.std.specs.Prelude.{◌≡◌, ◌≢◌, ◌⊎◌, ℕ, ◌*◌, ◌<◌, Bool, true, false, List, [], ◌∷◌, length}
+use Rattle.std.specs.Prelude.{◌≡◌, ◌≢◌, ◌⊎◌, ℕ, ◌*◌, ◌<◌, Bool, true, false, List, [], length}
 use Rattle.std.specs.Prelude.{Option, Some, None, Result, Ok, Err}
-use Rattle.window.specs.{OutboxMedium.first_of, declared.call.DeviceCall.DeviceCall}
+use Rattle.window.specs.{OutboxMedium.first_of}
 use Rattle.window.specs.{Window.{state_of, AreOnDevice}, declared.ask.DeviceRead.DeviceRead}
 use Rattle.window.specs.{declared.ask.DeviceAsk.DeviceAsk, declared.done_fault.DoneFault.DoneFault}
 use Rattle.window.specs.{declared.asked.Asked.Asked}
@@ -67,17 +67,9 @@ pub record TellsNext (old : Machine) (room : List ℕ) (what : DeviceAsk) (new :
 
 -- ---- what it tells
 
--- the start is over where no call waits
-abbrev pub starts_behind : List DeviceCall → Bool → Bool
-starts_behind [] was = false
-starts_behind (call ∷ calls) was = was
-
 -- the calls that it was asked for are carried out
 abbrev pub carried_out : Machine → Machine
-carried_out s = record s {
-  asked = asked.Nothing;
-  starting = starts_behind s.store.medium.outbox s.starting;
-}
+carried_out s = record s { asked = asked.Nothing }
 
 -- It refused these calls. What waits is handed to no device: the store is dead.
 pub record EndsRefused (old : Machine) (count : ℕ) (new : Machine) : Type 0 where
@@ -85,7 +77,6 @@ pub record EndsRefused (old : Machine) (count : ℕ) (new : Machine) : Type 0 wh
   pub others : new ≡ record old {
     store = new.store;
     asked = asked.Refused count (length old.store.medium.outbox);
-    starting = false;
   }
 
 -- Where the store did not take the sectors, or the device could not read them, they count as

@@ -12,8 +12,8 @@ use Rattle.blocks.specs.{Headroom.{KeepsHeadroom, FlushesOnce}, Prepared.IsTaken
 use Rattle.blocks.specs.{Turns.{IsTurn, IsWriteTurn}, Work.{IsWork, CountsBy, RetiresNone}}
 use Rattle.blocks.specs.declared.work.Work.{Work}
 use Rattle.store_calls.specs.{Stores.Store, Rooms.{Appends, TakesCalls, HasRoom, HoldsLog}}
-use Rattle.store_calls.specs.declared.call_fault.CallFault.{CallFault}
-use Rattle.store_calls.specs.declared.call_fault.CallFault.TheVariants as fault
+use Rattle.store_calls.specs.declared.store_fault.StoreFault.{StoreFault}
+use Rattle.store_calls.specs.declared.store_fault.StoreFault.TheVariants as fault
 
 -- ---- whether a call may move blocks
 
@@ -28,7 +28,7 @@ abbrev pub IsNoSize : Cached → ℕ → Type 0
 IsNoSize s size = (size ≡ 0) ⊎ (size % 512 ≢ 0) ⊎ (transfer_limit s * 512 < size)
 
 -- Why they may not: for the length first, then for the range, and then since the store is dead.
-abbrev pub MayNotMove : Cached → ℕ → ℕ → CallFault → Type 0
+abbrev pub MayNotMove : Cached → ℕ → ℕ → StoreFault → Type 0
 MayNotMove s address size why = ((why ≡ fault.Length) × IsNoSize s size)
     ⊎ ((why ≡ fault.Range) × (¬ IsNoSize s size) × (blocks_of s < address + size / 512))
     ⊎ ((why ≡ fault.Dead) × IsTransfer (transfer_limit s) (blocks_of s) address size

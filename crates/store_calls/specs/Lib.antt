@@ -1,7 +1,6 @@
 pub mod StoreRow
 pub mod Stores
 pub mod Supers
-pub mod Sights
 pub mod Rooms
 pub mod Outbox
 pub mod Starts
@@ -13,6 +12,5 @@ pub mod StoreMachine
 pub mod Serving
 pub mod Asking
 pub mod Transfers
-pub mod MachineStart
 pub mod MachineBehind
 pub mod StoreLives

@@ -1,11 +1,10 @@
 -- The device refused the call that was handed out last, and the store is told so.
-use Rattle.std.specs.Prelude.{◌≡◌, Result, Ok, Err}
+use Rattle.std.specs.Prelude.{◌≡◌}
 use Rattle.medium.specs.{Moments.IsUnchanged}
 use Rattle.window.specs.{Window.state_of}
 use Rattle.logical_blocks.specs.Book.{Book}
 use Rattle.blocks.specs.{Passing.IsUntouched, Stopping.stopped_store, StoreValue.FitsBook}
 use Rattle.store_calls.specs.{Outbox.IsEmptied, Stores.Store}
-use Rattle.store_calls.specs.{declared.call_fault.CallFault.CallFault}
 
 -- All that waits leaves the outbox, and nothing else of the store changes.
 pub record IsDrained (old new : Store) : Type 0 where
@@ -24,7 +23,3 @@ pub record IsRefused (old new : Store) : Type 0 where
   pub unchanged : IsUnchanged (state_of old.medium) (state_of new.medium)
   pub fits : (book : Book) → FitsBook (state_of old.medium) old.cached book
       → FitsBook (state_of new.medium) new.cached book
-
-abbrev pub IsTold : Store → Store → Result (Unit {0}) CallFault → Type 0
-IsTold old new (Ok done) = IsRefused old new
-IsTold old new (Err why) = ⊥

@@ -1,11 +1,11 @@
 -- What each call of a machine keeps.
-use Rattle.std.specs.Prelude.{◌≡◌, true, []}
+use Rattle.std.specs.Prelude.{◌≡◌, []}
 use Rattle.medium.specs.{Medium.Image}
 use Rattle.window.specs.{OutboxMedium.sent, Window.Window}
 use Rattle.logical_blocks.specs.Book.{Book}
 use Rattle.blocks.specs.{StoreValue.FitsBook}
 use Rattle.store_calls.specs.Rooms.{CoversParts, IsRoomy, HoldsLog}
-use Rattle.store_calls.specs.StoreMachine.{Machine, IsCaughtUp, MayLeave, Serves, begun, is_behind}
+use Rattle.store_calls.specs.StoreMachine.{Machine, IsCaughtUp, MayLeave, Serves, begun}
 use Rattle.store_calls.specs.{Stores.Store}
 use Rattle.window.specs.Window as window
 
@@ -38,21 +38,14 @@ pub record Rests (s : Machine) : Type 0 where
 abbrev pub ServesOn : Machine → Machine → Type 0
 ServesOn old new = (book : Book) → Serves old book → Serves new book
 
--- A start waits for a device that is behind alone: so the device is at a call, or `next` tells it
--- one, until the machine serves.
-abbrev pub WaitsForDevice : Machine → Type 0
-WaitsForDevice s = s.starting ≡ true → is_behind s.asked s.store.medium.outbox ≡ true
-
 -- a machine over a store that has just started
 pub record BeginsOver (store : Store) (new : Machine) : Type 0 where
   pub is : new ≡ begun store
   pub rests : Rests new
-  pub waits : WaitsForDevice new
 
 -- the outbox has room for what steps leave there, and the log or the sectors before the first home
 -- sector lie in memory: so a start leaves it
 pub record KeepsGoing (old new : Machine) : Type 0 where
-  pub waits : WaitsForDevice old → WaitsForDevice new
   pub roomy : IsRoomy old.store → IsRoomy new.store
   pub log : HoldsLog old.store → HoldsLog new.store
 

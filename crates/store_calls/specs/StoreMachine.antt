@@ -1,6 +1,6 @@
 -- A store and the device behind it, which may be behind: it is still carrying out calls that it was
 -- told.
-use Rattle.std.specs.Prelude.{◌≡◌, ℕ, ◌+◌, ◌-◌, ◌≤◌, Bool, true, false, List, [], ◌∷◌, length, take}
+use Rattle.std.specs.Prelude.{◌≡◌, ℕ, ◌+◌, ◌-◌, ◌≤◌, Bool, true, false, List, [], length, take}
 use Rattle.std.specs.{Prelude.if◌then◌else◌}
 use Rattle.medium.specs.Medium.{Image, CutLeaves}
 use Rattle.window.specs.{Device.{durable, after}, OutboxMedium.sent, Parts.AreCarriedOut}
@@ -15,15 +15,9 @@ use Rattle.window.specs.declared.asked.Asked.TheVariants as asked
 use Rattle.store_calls.specs.declared.lack.Lack.TheVariants as lack
 
 -- a store, what the device was asked for last and has not told done, the sectors that a read lacks,
--- whether the device has not carried out all that the start made, and whether a write or a sync was
--- told to come again, and none was taken since
+-- and whether a write or a sync was told to come again, and none was taken since
 abbrev pub Machine : Type 0
 Machine = StoreMachine
-
--- some call waits
-abbrev pub is_some : List DeviceCall → Bool
-is_some [] = false
-is_some (call ∷ calls) = true
 
 -- a machine over a store that has just started
 abbrev pub begun : Store → Machine
@@ -31,7 +25,6 @@ begun store = record {
   store = store;
   asked = asked.Nothing;
   lack = lack.Nothing;
-  starting = is_some store.medium.outbox;
   put_off = false;
 }
 
@@ -50,13 +43,6 @@ has_refused asked.Nothing = false
 has_refused (asked.Calls count) = false
 has_refused (asked.Read home) = false
 has_refused (asked.Refused count behind) = true
-
--- it has refused none of its calls, and not told all of them done
-abbrev pub is_behind : Asked → List DeviceCall → Bool
-is_behind asked.Nothing calls = is_some calls
-is_behind (asked.Calls count) calls = true
-is_behind (asked.Read home) calls = is_some calls
-is_behind (asked.Refused count behind) calls = false
 
 -- how many calls it has told done, since the beginning
 abbrev pub carried : Machine → ℕ
@@ -90,13 +76,8 @@ MayLeave s image =
 
 -- ---- what a machine is at
 
--- where the device refused nothing
-abbrev pub stage_by : Bool → MachineState
-stage_by true = state.Starting
-stage_by false = state.Serving
-
 abbrev pub stage_of : Machine → MachineState
-stage_of s = if has_refused s.asked then state.Refused else stage_by s.starting
+stage_of s = if has_refused s.asked then state.Refused else state.Serving
 
 -- ---- the promise
 

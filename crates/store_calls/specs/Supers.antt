@@ -1,4 +1,4 @@
--- The super with which the first sectors of a device begin, and what is reserved by it.
+-- The super with which the first sectors of a device begin, and what is shown by it.
 use Rattle.std.specs.Prelude.{◌≡◌, ℕ, ◌≤◌, List, length, Option, Some, None, min}
 use Rattle.medium.specs.{Writes.sector_of}
 use Rattle.journal.specs.{Formats.shape_of, Places.{Shape, slot_sectors_of}, Sectors.IsSuper}
@@ -26,11 +26,3 @@ FindsSuper near None = ¬ HasSuper near
 -- one call of the device reads them, and so those of a read
 abbrev pub span_of : LogFormat → ℕ
 span_of format = min (slot_sectors_of format) 240
-
--- By it, as many sectors are shown at a time as its format wants, and the outbox has the room
--- that it wants; where there is none, nothing is shown, and there is this room.
-pub record Reserves (room_of : LogFormat → ℕ) (least : ℕ) (near : List ℕ) (span room : ℕ)
-    : Type 0 where
-  pub image : (shape : Shape) → IsSuperOf near shape
-      → (span ≡ span_of shape.format) × (room ≡ room_of shape.format)
-  pub none : ¬ HasSuper near → (span ≡ 0) × (room ≡ least)

@@ -1,13 +1,12 @@
 -- What reads, writes and syncs do to a machine, and the work in the background.
-use Rattle.std.specs.Prelude.{◌≡◌, ◌≢◌, ◌⊎◌, ℕ, ◌+◌, ◌/◌, ◌<◌, Bool, true, false, List, length}
+use Rattle.std.specs.Prelude.{◌≡◌, ◌≢◌, ◌⊎◌, ℕ, ◌/◌, ◌<◌, Bool, true, false, List, length}
 use Rattle.std.specs.Prelude.{None, Result, Ok, Err}
 use Rattle.window.specs.{Window.{Window, state_of}, declared.ask.DeviceRead.DeviceRead}
 use Rattle.window.specs.{Sight.{AreInSight, AreMissing}, declared.asked.Asked.Asked}
 use Rattle.logical_blocks.specs.{Blocks.Write, Book.{Book, with_write, write_of, promised}}
-use Rattle.blocks.specs.{Book.IsTransfer}
-use Rattle.blocks.specs.StoreValue.{Cached, blocks_of, transfer_limit, is_dead, unwritten, FitsBook}
+use Rattle.blocks.specs.StoreValue.{is_dead, unwritten, FitsBook}
 use Rattle.blocks.specs.{Prepared.IsTakenAtOnce, Turns.IsTurn}
-use Rattle.store_calls.specs.Calls.{MayMove, IsNoSize, home_of, IsRead, IsUnread, IsWritten}
+use Rattle.store_calls.specs.Calls.{MayMove, MayNotMove, home_of, IsRead, IsUnread, IsWritten}
 use Rattle.store_calls.specs.{Calls.CostsWrite, Asking.to_read, Idling.{GoesAhead, TellsLeft}}
 use Rattle.store_calls.specs.{WritingBack.{IsLeft, WritesBack}, Rooms.{Appends, IsRoomy}}
 use Rattle.store_calls.specs.{Stores.Store}
@@ -19,14 +18,6 @@ use Rattle.window.specs.declared.asked.Asked.TheVariants as asked
 use Rattle.store_calls.specs.declared.writing_back.Aim.TheVariants as aim
 use Rattle.store_calls.specs.declared.lack.Lack.TheVariants as lack
 use Rattle.store_calls.specs.declared.store_fault.StoreFault.TheVariants as fault
-
--- Why blocks may not be moved: for the length first, then for the range, and then since the store
--- is dead.
-abbrev pub MayNot : Cached → ℕ → ℕ → StoreFault → Type 0
-MayNot s address size why = ((why ≡ fault.Length) × IsNoSize s size)
-    ⊎ ((why ≡ fault.Range) × (¬ IsNoSize s size) × (blocks_of s < address + size / 512))
-    ⊎ ((why ≡ fault.Dead) × IsTransfer (transfer_limit s) (blocks_of s) address size
-    × (is_dead s ≡ true))
 
 -- ---- a read
 
@@ -71,7 +62,7 @@ abbrev pub Reads : ℕ → Machine → List ℕ → Machine → List ℕ → Res
 Reads address old room new filled (Ok done) = MayMove old.store.cached address (length room)
     × ReadsOn address (length room / 512) old filled new
 Reads address old room new filled (Err why) =
-    (MayNot old.store.cached address (length room) why × (new ≡ old) × (filled ≡ room))
+    (MayNotMove old.store.cached address (length room) why × (new ≡ old) × (filled ≡ room))
     ⊎ (MayMove old.store.cached address (length room)
     × ((Lacks address (length room / 512) old new why × (filled ≡ room))
     ⊎ ReadsNone address (length room / 512) old new why))
@@ -104,9 +95,8 @@ pub record PutsOff (aim : Aim) (old new : Machine) : Type 0 where
 -- ---- a write
 
 -- One write was accepted, whole, wherever the device is: it has no more to do, and a loss of power
--- leaves no more than before. The device has carried out what the start made.
+-- leaves no more than before.
 pub record Accepts (write : Write) (old new : Machine) : Type 0 where
-  pub started : old.starting ≡ false
   pub others : new ≡ record old { store = new.store; put_off = false }
   pub written : IsWritten write old.store new.store
   pub leaves : LeavesNoMore old new
@@ -119,19 +109,16 @@ pub record Accepts (write : Write) (old new : Machine) : Type 0 where
 abbrev pub WaitsForBatch : Machine → Machine → Type 0
 WaitsForBatch old new = IsBehind old new ⊎ PutsOff aim.Batch old new
 
--- One write was accepted, by no call of the device. Or nothing has changed: it may not be moved, or
--- the device has not carried out what the start made. Or the store does not take it at once.
+-- One write was accepted, by no call of the device. Or nothing has changed: it may not be moved. Or
+-- the store does not take it at once.
 abbrev pub Writes : ℕ → List ℕ → Machine → Machine → Result (Unit {0}) StoreFault → Type 0
 Writes address bytes old new (Ok done) = MayMove old.store.cached address (length bytes)
     × Accepts (write_of address bytes) old new
     × CostsWrite address (length bytes / 512) old.store new.store
 Writes address bytes old new (Err why) =
-    (MayNot old.store.cached address (length bytes) why × (new ≡ old))
+    (MayNotMove old.store.cached address (length bytes) why × (new ≡ old))
     ⊎ (MayMove old.store.cached address (length bytes) × (why ≡ fault.Busy)
-    × (((old.starting ≡ true) × (new ≡ old))
-    ⊎ ((old.starting ≡ false)
-    × (¬ IsTakenAtOnce old.store.cached address (length bytes / 512))
-    × WaitsForBatch old new)))
+    × (¬ IsTakenAtOnce old.store.cached address (length bytes / 512)) × WaitsForBatch old new)
 
 -- ---- a sync
 

@@ -7,14 +7,12 @@
 #![tactic(auto)]
 
 mod background;
-mod call_fault;
 mod device;
 mod holding;
 mod lack;
 mod laws;
 mod machine;
 mod machine_behind;
-mod machine_start;
 mod outbox;
 mod reading;
 mod recovered_device;
@@ -22,7 +20,6 @@ mod refused;
 mod resting;
 mod room;
 mod run;
-mod sight;
 mod sizes;
 mod store_fault;
 mod supers;
@@ -32,15 +29,12 @@ mod writing;
 mod writing_back;
 
 pub use blocks::StartFault;
-pub use call_fault::CallFault;
 pub use holding::device_holding;
 pub use lack::Lack;
 pub use laws::store_laws;
 pub use machine::StoreMachine;
 pub use machine_behind::{begin_behind, medium_behind};
-pub use machine_start::{begin_machine, medium_on};
 pub use recovered_device::RecoveredDevice;
-pub use sight::Sight;
 pub use sizes::Sizes;
 pub use store_fault::StoreFault;
 pub use supers::{span_of, super_of};

@@ -1,7 +1,7 @@
 //! A store, and the device behind it, which may be behind.
 ghost use Rattle.std.specs.Prelude.{◌≡◌, ◌↔◌, IsTrue};
 ghost use Rattle.blocks.specs.StoreValue.{blocks_of, transfer_limit};
-ghost use Rattle.store_calls.specs.StoreMachine.{stage_of, stage_by, IsCaughtUp};
+ghost use Rattle.store_calls.specs.StoreMachine.{stage_of, IsCaughtUp};
 ghost use Rattle.store_calls.specs.Serving.{BeginsOver, Rests};
 
 use crate::lack::Lack;
@@ -18,8 +18,6 @@ pub struct StoreMachine {
     pub(crate) asked: Asked,
     // The sectors that a read lacks, and what became of them.
     pub(crate) lack: Lack,
-    // Whether the device has not carried out all that the start made.
-    pub(crate) starting: bool,
     // Whether a write or a sync was told to come again, and none was taken since.
     pub(crate) put_off: bool,
 }
@@ -29,12 +27,10 @@ impl StoreMachine {
     pub(crate) fn new(store: Store<WindowMedium>) -> StoreMachine
         ensures { BeginsOver store result }
     {
-        let starting = store.medium().waiting() > 0;
         let machine = StoreMachine {
             store,
             asked: Asked::Nothing,
             lack: Lack::Nothing,
-            starting,
             put_off: false,
         };
         machine.rest();
@@ -47,18 +43,7 @@ impl StoreMachine {
     {
         match self.asked {
             Asked::Refused(_, _) => MachineState::Refused,
-            Asked::Nothing | Asked::Calls(_) | Asked::Read(_) => self.starting_or_serving(),
-        }
-    }
-
-    // What a machine is at whose device refused nothing.
-    fn starting_or_serving(&self) -> MachineState
-        ensures { result ≡ stage_by self.now.starting }
-    {
-        if self.starting {
-            MachineState::Starting
-        } else {
-            MachineState::Serving
+            Asked::Nothing | Asked::Calls(_) | Asked::Read(_) => MachineState::Serving,
         }
     }
 

@@ -7,7 +7,7 @@ ghost use Rattle.store_calls.specs.Rooms.{Foresees};
 ghost use Rattle.store_calls.specs.Calls.{MayMove, MayNotMove};
 ghost use Rattle.store_calls.specs.Calls.{IsRead, IsUnread, home_of};
 
-use crate::CallFault;
+use crate::store_fault::StoreFault;
 use blocks::Store;
 use medium::Medium;
 use window::{DeviceRead, WindowMedium, device_laws};
@@ -29,20 +29,20 @@ pub(crate) fn may_move(
     store: &Store<WindowMedium>,
     address: u64,
     size: usize,
-) -> Result<(), CallFault>
+) -> Result<(), StoreFault>
     ensures ok { OnOk result (MayMove store.now.cached address size) }
     ensures err { IfErr result (MayNotMove store.now.cached address size) }
 {
     let limit = store.limit() as usize;
     if size == 0 || size % BLOCK != 0 || size > limit * BLOCK {
-        return Err(CallFault::Length);
+        return Err(StoreFault::Length);
     }
     let count = (size / BLOCK) as u64;
     if address > store.blocks() || count > store.blocks() - address {
-        return Err(CallFault::Range);
+        return Err(StoreFault::Range);
     }
     if store.is_dead() {
-        return Err(CallFault::Dead);
+        return Err(StoreFault::Dead);
     }
     Ok(())
 }
@@ -66,17 +66,17 @@ pub(crate) fn read_seen(
     store: &mut Store<WindowMedium>,
     address: u64,
     to: &mut [u8],
-) -> Result<(), CallFault>
+) -> Result<(), StoreFault>
     requires may { MayMove store.old.cached address (length to.old) }
     requires seen { AreInSight store.old.medium (home_of store.old address) (length to.old / 512) }
     ensures ok { OnOk result
         (IsRead address (length to.old / 512) store.old to.new store.new) }
-    ensures err { IfErr result (λ why. (why ≡ CallFault.Unread)
+    ensures err { IfErr result (λ why. (why ≡ StoreFault.ReadRefused)
         × IsUnread address (length to.old / 512) store.old store.new) }
 {
     foresee(store);
     match store.read(address, to) {
         Ok(()) => Ok(()),
-        Err(_) => Err(CallFault::Unread),
+        Err(_) => Err(StoreFault::ReadRefused),
     }
 }

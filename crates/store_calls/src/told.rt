@@ -1,7 +1,7 @@
 //! What the device of a store tells of what it was asked for.
 ghost use Rattle.std.specs.Prelude.{◌≡◌};
 ghost use Rattle.store_calls.specs.Asking.{Ends, EndsAs, EndsRead};
-ghost use Rattle.store_calls.specs.Asking.{EndsRefused, carried_out, read_ended};
+ghost use Rattle.store_calls.specs.Asking.{EndsRefused, read_ended};
 
 use crate::lack::Lack;
 use crate::machine::StoreMachine;
@@ -36,22 +36,12 @@ impl StoreMachine {
             Asked::Read(home) => self.take_read(home, ok, bytes),
             Asked::Calls(count) => {
                 if ok {
-                    self.count();
+                    self.asked = Asked::Nothing;
                 } else {
                     self.give_up(count);
                 }
                 Ok(())
             }
-        }
-    }
-
-    // The calls that the device was asked for are carried out.
-    fn count(&mut self)
-        ensures { self.new ≡ carried_out self.old }
-    {
-        self.asked = Asked::Nothing;
-        if self.store.medium().waiting() == 0 {
-            self.starting = false;
         }
     }
 
@@ -62,7 +52,6 @@ impl StoreMachine {
         let behind = self.store.medium().waiting();
         refuse(&mut self.store);
         self.asked = Asked::Refused(count, behind);
-        self.starting = false;
     }
 
     // A read of these sectors has ended, good or not.

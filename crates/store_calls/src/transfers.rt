@@ -1,14 +1,13 @@
 //! What a machine reads, writes and makes durable.
 ghost use Rattle.std.specs.Prelude.{◌≡◌, ◌↔◌, ◌/◌, length};
-ghost use Rattle.std.specs.Prelude.{IsTrue, OnOk, IfErr, MatchResult};
+ghost use Rattle.std.specs.Prelude.{IsTrue, MatchResult};
 ghost use Rattle.window.specs.declared.ask.DeviceRead.{DeviceRead};
 ghost use Rattle.store_calls.specs.Calls.{MayMove, home_of};
 ghost use Rattle.window.specs.Sight.{AreInSight};
-ghost use Rattle.store_calls.specs.Transfers.{MayNot, Reads, ReadsOn, ReadsNone, Waits};
+ghost use Rattle.store_calls.specs.Transfers.{Reads, ReadsOn, ReadsNone, Waits};
 ghost use Rattle.store_calls.specs.Transfers.{Writes, Syncs, IdlesStore, IsIdle};
 ghost use Rattle.store_calls.specs.declared.lack.Lack.TheVariants as lack;
 
-use crate::CallFault;
 use crate::background::make_steps;
 use crate::lack::Lack;
 use crate::machine::StoreMachine;
@@ -30,7 +29,7 @@ impl StoreMachine {
     pub fn read(&mut self, block: u64, to: &mut [u8]) -> Result<(), StoreFault>
         ensures { Reads block self.old to.old self.new to.new result }
     {
-        self.may_move(block, to.len())?;
+        may_move(&self.store, block, to.len())?;
         let count = (to.len() / BLOCK) as u32;
         match unseen(&self.store, block, count) {
             Some(missing) => Err(self.miss(missing)),
@@ -42,17 +41,13 @@ impl StoreMachine {
     /// may be behind. The next good sync promises it.
     ///
     /// # Errors
-    /// `Length`, `Range` and `Dead` as `read`, and `Busy` where the device has not carried out all
-    /// that the start made: nothing changes at these. `Busy` also where the batch before has to
-    /// become a record. Where the device has carried out all that it was told, steps are made then
-    /// that write it, and each leaves fewer, so that the same call comes to be taken.
+    /// `Length`, `Range` and `Dead` as `read`: nothing changes at these. `Busy` where the batch
+    /// before has to become a record. Where the device has carried out all that it was told, steps
+    /// are made then that write it, and each leaves fewer, so that the same call comes to be taken.
     pub fn write(&mut self, block: u64, bytes: &[u8]) -> Result<(), StoreFault>
         ensures { Writes block bytes.now self.old self.new result }
     {
-        self.may_move(block, bytes.len())?;
-        if self.starting {
-            return Err(StoreFault::Busy);
-        }
+        may_move(&self.store, block, bytes.len())?;
         if self.store.takes_at_once(block, bytes.len() / BLOCK) {
             put_blocks(&mut self.store, block, bytes);
             self.put_off = false;
@@ -114,19 +109,6 @@ impl StoreMachine {
         }
     }
 
-    // Whether `size` bytes may be moved from or to the blocks from this one on.
-    fn may_move(&self, block: u64, size: usize) -> Result<(), StoreFault>
-        ensures ok { OnOk result (MayMove self.now.store.cached block size) }
-        ensures err { IfErr result (MayNot self.now.store.cached block size) }
-    {
-        match may_move(&self.store, block, size) {
-            Ok(()) => Ok(()),
-            Err(CallFault::Length) => Err(StoreFault::Length),
-            Err(CallFault::Range) => Err(StoreFault::Range),
-            Err(_) => Err(StoreFault::Dead),
-        }
-    }
-
     // What a read is told that lacks these sectors.
     fn miss(&mut self, missing: DeviceRead) -> StoreFault
         ensures { Waits self.old missing self.new result }
@@ -165,7 +147,7 @@ impl StoreMachine {
     {
         match read_seen(&mut self.store, block, to) {
             Ok(()) => Ok(()),
-            Err(_) => Err(StoreFault::ReadRefused),
+            Err(why) => Err(why),
         }
     }
 }

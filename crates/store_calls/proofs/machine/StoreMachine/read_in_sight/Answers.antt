@@ -12,7 +12,7 @@ returns-in-Ok c = record {
 
 pub returns-in-Err : goal.returns-in-Err
 returns-in-Err c = record {
-  is = refl;
+  is = c.in-Err.ensures.err.0;
   unread = c.in-Err.ensures.err.1;
   others = refl;
   stays = read_safe c.args.self.now _ _ _ refl c.in-Err.ensures.err.1.all;

@@ -1,4 +1,4 @@
-use Rattle.std.proofs.Common.{◌≡◌, ◌/◌, false, length, inr, refl, rules}
+use Rattle.std.proofs.Common.{◌/◌, length, inr, refl, rules}
 use Rattle.blocks.specs.{Prepared.IsTakenAtOnce}
 use Rattle.store_calls.specs.{StoreMachine.IsCaughtUp, WritingBack.IsLeft, declared.writing_back.Aim.TheVariants.Batch}
 use Rattle.store_calls.proofs.Doing.{accepts, puts_off}
@@ -6,18 +6,17 @@ use Rattle.store_calls.proofs.machine.StoreMachine.write.Goals as goal
 
 pub returns-then-takes_at_once : goal.returns-then-takes_at_once
 returns-then-takes_at_once c =
-    let started : c.args.self.now.starting ≡ false = search rules in
     let cost = c.put_blocks.ensures.cost in
-    (c.in_ok-may_move.ensures.ok, accepts _ c.args.self.now _ refl c.put_blocks.ensures.is cost.none started, cost)
+    (c.in_ok-may_move.ensures.ok, accepts _ c.args.self.now _ refl c.put_blocks.ensures.is cost.none, cost)
 
 pub returns-then-is_caught_up : goal.returns-then-is_caught_up
 returns-then-is_caught_up c =
-    let started : c.args.self.now.starting ≡ false = search rules in
     let wants : ¬ IsTakenAtOnce c.args.self.now.store.cached c.args.block (length c.args.bytes.now / 512) = search rules in
     let free : IsCaughtUp c.args.self.now = search rules in
     let left : IsLeft Batch c.args.self.now.store = search rules in
     inr (
       c.in_ok-may_move.ensures.ok,
       refl,
-      inr (started, wants, inr (puts_off Batch c.args.self.now _ free refl left c.write_records.ensures)),
+      wants,
+      inr (puts_off Batch c.args.self.now _ free refl left c.write_records.ensures),
     )
