@@ -5,16 +5,15 @@ use Rattle.medium.{proofs.{Moments.unchanged, SectorsRead.no_looks}, specs.{Medi
 use Rattle.logical_blocks.specs.Book.{Book}
 use Rattle.scsi.specs.{Sense.Sense, SenseCodes.internal_target_failure, Waiting.after_failure, declared.command.Command.Command}
 use Rattle.scsi.specs.Rules.{IsOutcome, checked_for_fault, needs_medium, write_of_command, moves}
-use Rattle.blocks.{proofs.{TurnsJoined.stays, StoreRuns.comes_itself, StageSteps.without}, specs.{Finding.FoundWith, Turns.IsTurn}}
+use Rattle.blocks.{proofs.{TurnsJoined.stays, StoreRuns.comes_itself}, specs.{Finding.MayFind, Turns.IsTurn}}
 use Rattle.blocks.specs.StoreValue.{FitsBook, is_dead}
-use Rattle.scsi_unit.proofs.{PendingSteps.within_progress, WantedCommands.{wants_need, write_none, first_may, first_none, first_commit}}
-use Rattle.scsi_unit.{proofs.WantedCommands.first_read, specs.{UnitValue.{UnitValue, state_of, answer_of, unit_limit}, Serving.has_refused}}
+use Rattle.scsi_unit.proofs.{PendingSteps.{still_ours, wanting}, WantedCommands.{wants_need, write_none, first_may, first_none, first_commit}}
+use Rattle.scsi_unit.{proofs.WantedCommands.{first_plain, first_read}, specs.{UnitValue.{UnitValue, state_of, answer_of, unit_limit}, Serving.has_refused}}
 use Rattle.scsi_unit.specs.{Performing.{Performs, Spares, settled_kept}, Pending.{FitsPending, HasEnded, GoOnPost, BeginPost, StepCalls}}
-use Rattle.scsi_unit.specs.Pending.{StepKeeps, may_want, first_want, writes_blocks, read_for, SendsWhenDone, IsHadAtOnce}
+use Rattle.scsi_unit.specs.Pending.{StepKeeps, book_held, may_want, first_want, writes_blocks, read_for, SendsWhenDone, IsHadAtOnce}
 use Rattle.scsi_unit.specs.{Reading.{ReadsBackOr, first_home_of, home_sectors_of}, Calls.SendsAsMeant, declared.progress.Progress.Progress}
 use Rattle.scsi_unit.specs.declared.progress.{Want.Want, Progress.TheVariants.{Done, Wants}}
 use Rattle.scsi_unit.specs.declared.progress.Want.TheVariants as want
-use Rattle.scsi_unit.proofs.PendingSteps.{wanting}
 
 -- a command that is refused sends nothing
 refused_sends : (told : Result Command Sense) (sense : Sense) (limit : ℕ) → SendsWhenDone told limit (Done (Err sense))
@@ -65,10 +64,10 @@ module _ {M : Type 0} (m : State) (old : UnitValue M) where
 
     cuts_before : (wanted : Want) → IsTurn m m old.store.cached old.store.cached
         → (book : Book) → FitsPending m old command taken wanted book → book.ours ≡ true
-        → LeavesOnly (FoundWith m.size book (write_of_command command taken)) m m
-    cuts_before want.Room turn book f ours = without m.size book (write_of_command command taken) m m (turn.cuts book f ours)
-    cuts_before want.Commit turn book f ours = within_progress (write_of_command command taken) m m book (turn.cuts _ f.fits) ours
-    cuts_before want.Read turn book f ours = without m.size book (write_of_command command taken) m m (turn.cuts book f.fits ours)
+        → LeavesOnly (MayFind m.size (book_held wanted command taken book)) m m
+    cuts_before want.Room turn book f ours = turn.cuts book f ours
+    cuts_before want.Commit turn book f ours = turn.cuts _ f.fits (still_ours book (write_of_command command taken) ours)
+    cuts_before want.Read turn book f ours = turn.cuts book f.fits ours
 
     -- what a unit fits when a command begins
     fits_first : (wanted : Want) → first_want command taken old.write_cache ≡ Some wanted → (book : Book)
@@ -103,6 +102,8 @@ module _ {M : Type 0} {state : M → State} {Follows : M → M → Type 0} (old 
         line = λ book f. refused_line m old (Ok command) internal_target_failure
             (refused_by (is_dead old.store.cached) command dead needs) taken book (fits_before m old command taken wanted dead is book f);
         cuts = cuts_before m old command taken wanted (stays m old.store.cached (sound old.store.medium));
+        promises = λ sent same. absurd (let e = same in cc);
+        dead = λ dead. refl;
         onward = refl;
         fewer = λ same. absurd (let e = same in cc);
         at_once = λ had. unchanged m;
@@ -119,16 +120,17 @@ module _ {M : Type 0} {state : M → State} {Follows : M → M → Type 0} (old 
       → BeginPost state Follows told taken old (Done (Err sense)) out (record old { kept = after_failure sense old.kept })
   refused_begins told sense taken out is = record {
     line = λ book f. refused_line (state old.store.medium) old told sense is taken book f;
-    unchanged = unchanged (state old.store.medium);
-    at_once = λ command want some first had same. absurd (let e = same in cc);
+    medium = refl;
+    at_once = λ command some first had same. absurd (let e = same in cc);
+    promises = λ command sent some commits same. absurd (let e = same in cc);
     waits = λ next same. absurd (let e = same in cc);
     sends = refused_sends told sense (unit_limit old);
     keeps = keeps_all;
   }
 
-  -- one begins that wants something first, which no call of the store alone gives
+  -- one begins that wants something first, and that is no room that is there
   pub wants_first : (command : Command) (wanted : Want) (taken out : List ℕ) → is_dead old.store.cached ≡ false
-      → first_want command taken old.write_cache ≡ Some wanted → ¬ IsHadAtOnce old command wanted
+      → first_want command taken old.write_cache ≡ Some wanted → (wanted ≡ want.Room → ¬ IsHadAtOnce old command want.Room)
       → BeginPost state Follows (Ok command) taken old (Wants wanted) out old
   wants_first command wanted taken out live first not = record {
     line = λ book f. record {
@@ -136,23 +138,25 @@ module _ {M : Type 0} {state : M → State} {Follows : M → M → Type 0} (old 
       fits = fits_first (state old.store.medium) old command taken wanted first book f;
       wanted = first_may wanted command taken old.write_cache first;
     };
-    unchanged = unchanged (state old.store.medium);
-    at_once = λ other want is some had same. let one : command ≡ other = cc in let two : wanted ≡ want = cc in not (rw (one, two) had);
+    medium = refl;
+    at_once = λ other is some had same. let one : command ≡ other = cc in let two : wanted ≡ want.Room = cc in not two (rw one had);
+    promises = λ other sent is commits same. absurd (let e = same in cc);
     waits = λ next same. wanting command taken old old wanted next same
         (record { live = live; others = refl; wanted = first_may wanted command taken old.write_cache first });
     sends = tt;
     keeps = keeps_all;
   }
 
-  -- and can have it at once
-  pub had_first : {new : UnitValue M} {progress : Progress} (command : Command) (wanted : Want) (taken out : List ℕ)
-      → first_want command taken old.write_cache ≡ Some wanted → IsHadAtOnce old command wanted
-      → GoOnPost state Follows command wanted taken old progress out new
+  -- a WRITE begins that has room at once
+  pub has_room : {new : UnitValue M} {progress : Progress} (command : Command) (taken out : List ℕ)
+      → IsHadAtOnce old command want.Room → new.store.medium ≡ old.store.medium
+      → GoOnPost state Follows command want.Room taken old progress out new
       → BeginPost state Follows (Ok command) taken old progress out new
-  had_first command wanted taken out first had goes = record {
-    line = λ book f. goes.line book (fits_first (state old.store.medium) old command taken wanted first book f);
-    unchanged = goes.at_once had;
-    at_once = λ other want is some now same. let one : command ≡ other = cc in let by = rw one at first in goes.not_again had (cc);
+  has_room command taken out had same goes = record {
+    line = goes.line;
+    medium = same;
+    at_once = λ other is first now. goes.not_again had;
+    promises = λ other sent is commits same. let one : command ≡ other = cc in goes.promises sent same (rw one commits);
     waits = goes.waits;
     sends = goes.sends;
     keeps = goes.keeps;
@@ -178,8 +182,11 @@ module _ {M : Type 0} {state : M → State} {Follows : M → M → Type 0} (old 
                   (sym (carried_by (is_dead old.store.cached) command free)) found.1,
               found.2,
             );
-        unchanged = rw same (unchanged (state old.store.medium));
-        at_once = λ other want is some had same. absurd (let e = same in cc);
+        medium = rw same refl;
+        at_once = λ other is some had same. absurd (let e = same in cc);
+        promises = λ other sent is commits same.
+            let one : command ≡ other = cc in let plain = first_plain command taken old.write_cache first in
+            absurd (let by = rw (← one) at commits in cc);
         waits = λ next is. absurd (let e = is in cc);
         sends = sends;
         keeps = record {

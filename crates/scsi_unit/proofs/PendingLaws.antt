@@ -1,22 +1,44 @@
 -- What ends a command from outside, what comes while it is pending, and that it is parsed once.
-use Rattle.std.proofs.Common.{◌≡◌, ◌∙◌, ℕ, Bool, true, false, List, Some, None, Option, Result, inl, inr, arith, refl, sym, ap}
-use Rattle.std.proofs.{lemmas.Bool.{cases_lt, cases_Bool}}
-use Rattle.medium.specs.{Medium.State, Moments.EachCut}
+use Rattle.std.proofs.Common.{◌≡◌, ◌∙◌, ◌⊎◌, ℕ, Bool, true, false, List, Some, None, Option, Result, inl, inr, arith, refl, sym, ap}
+use Rattle.std.proofs.lemmas.Bool.{cases_lt, cases_Bool, Decides.nat_tests}
+use Rattle.medium.{proofs.Moments.weaker, specs.{Medium.State, Moments.{EachCut, LeavesOnly}}}
 use Rattle.logical_blocks.specs.{Blocks.Write, Book.{Book, with_write, with_progress}}
 use Rattle.scsi.specs.{Sense.Sense, declared.command.Command.Command, Rules.{command_by, checked_for_fault, UnitState, Ticks}}
 use Rattle.scsi.specs.{Rules.write_of_command, Commands.command_of}
-use Rattle.blocks.{proofs.{TurnsJoined.exits, EmptyBatches.both_empty, StageSteps.without}, specs.{Finding.FoundWith, Work.IsWork}}
-use Rattle.blocks.specs.{Written.IsWritten, StoreValue.{Cached, FitsBook, is_dead, blocks_of}, declared.work.Work.Work}
-use Rattle.scsi_unit.{proofs.{PendingSteps.within_progress, WantedCommands.write_none}, specs.UnitValue.{UnitValue, state_of, unit_limit}}
-use Rattle.scsi_unit.specs.Pending.{HasDropped, FitsPending, IsParsedOnce, ParsedCommand, PendingTicked, has_write, writes_blocks}
+use Rattle.blocks.{proofs.{TurnsJoined.exits, EmptyBatches.both_empty, StageSteps.without}, specs.Work.IsWork}
+use Rattle.blocks.specs.{Finding.{MayFind, Found, FoundWith}, Written.IsWritten, declared.work.Work.Work}
+use Rattle.blocks.specs.StoreValue.{Cached, FitsBook, is_dead, blocks_of}
+use Rattle.scsi_unit.{proofs.WantedCommands.write_none, specs.UnitValue.{UnitValue, FitsUnit, state_of, unit_limit}}
+use Rattle.scsi_unit.specs.Pending.{MarksStay, book_held, FitsPending, IsParsedOnce, ParsedCommand, PendingTicked, has_write, writes_blocks}
 use Rattle.scsi_unit.specs.{Serving.{TicksOver, command_for}, declared.progress.Want.Want}
 use Rattle.scsi_unit.specs.declared.progress.Want.TheVariants as want
 
+-- what a loss of power may find of a book with a write it may find with that in progress
+within_progress : (write : Option Write) (before after : State) (book : Book)
+    → ((with_progress book write).ours ≡ true → LeavesOnly (MayFind before.size (with_progress book write)) before after)
+    → book.ours ≡ true → LeavesOnly (FoundWith before.size book write) before after
+within_progress None before after book leaves ours = leaves ours
+within_progress (Some w) before after book leaves ours =
+    weaker (MayFind before.size (with_write book w)) (Found before.size book w) before after (λ image found. inr found) (leaves ours)
+
+-- ---- it is dropped, or promises none
+
 pub dropped : {M : Type 0} (m : State) (unit : UnitValue M) (command : Command) (taken : List ℕ) (wanted : Want) (book : Book)
-    → FitsPending m unit command taken wanted book → HasDropped m unit command taken book
-dropped m unit command taken want.Room book f = (book, inl refl, f)
-dropped m unit command taken want.Commit book f = (_, inr refl, f.fits)
-dropped m unit command taken want.Read book f = (book, inl refl, f.fits)
+    → FitsPending m unit command taken wanted book → FitsUnit m unit (book_held wanted command taken book)
+dropped m unit command taken want.Room book f = f
+dropped m unit command taken want.Commit book f = f.fits
+dropped m unit command taken want.Read book f = f.fits
+
+-- the write of the command is the last one accepted, or is not accepted
+pub held_or_not : (wanted : Want) (command : Command) (taken : List ℕ) (book : Book)
+    → (book_held wanted command taken book ≡ book)
+    ⊎ (book_held wanted command taken book ≡ with_progress book (write_of_command command taken))
+held_or_not want.Room command taken book = inl refl
+held_or_not want.Commit command taken book = inr refl
+held_or_not want.Read command taken book = inl refl
+
+pub marks_stay : MarksStay
+marks_stay refused command taken old new answer outcome none = grind (arith, nat_tests, outcome, none)
 
 -- ---- its block is parsed once
 

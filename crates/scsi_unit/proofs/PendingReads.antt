@@ -7,7 +7,7 @@ use Rattle.scsi.specs.{Sense.Sense, declared.command.Command.Command}
 use Rattle.blocks.{proofs.{BookTurns.settles, EmptyBatches.both_empty, ReadCalls.reads_few}, specs.{Looks.IsReadFor, Running.ComesBy}}
 use Rattle.blocks.specs.StoreValue.{StoreValue, is_dead}
 use Rattle.scsi_unit.proofs.{UnitTurns.{refused_so, limit_stays}, Intentions.meant_to_send, PendingSteps.over, WantedCommands.read_effect}
-use Rattle.scsi_unit.proofs.WantedCommands.{read_writes, read_some, read_within, read_moves, read_commits, read_is}
+use Rattle.scsi_unit.proofs.WantedCommands.{read_some, read_within, read_moves, read_commits, read_forces, read_is}
 use Rattle.scsi_unit.specs.{UnitValue.{UnitValue, state_of, answer_of, unit_limit}, Performing.settled_kept, StoreCalls.ReadsBlocks}
 use Rattle.scsi_unit.specs.Pending.{FitsRead, HasEnded, GoOnPost, CanWant, commits, transfer_of}
 use Rattle.scsi_unit.specs.declared.progress.Progress.TheVariants.{Done}
@@ -69,7 +69,9 @@ module _ {M : Type 0} {state : M → State} {Follows : M → M → Type 0} (old 
       let few = (read_within command taken can.wanted _ _ can.supported).few in
       record {
         line = line result reads;
-        cuts = λ book f ours. rw (read_writes command taken can.wanted) (reads.turn.cuts book f.fits ours);
+        cuts = λ book f. reads.turn.cuts book f.fits;
+        promises = λ sent same is. rw (read_forces command taken can.wanted old.write_cache) at is;
+        dead = λ dead. absurd (let none = live in cc);
         onward = refl;
         fewer = λ same. absurd (let e = same in cc);
         at_once = λ had. absurd had;

@@ -3,7 +3,7 @@ use Rattle.std.proofs.{lemmas.List.length-take, Common.{◌≡◌, ◌≢◌, �
 use Rattle.std.{proofs.{Common.{None, Ok, arith}, lemmas.Bool.Decides.nat_tests}, specs.Prelude.◌&&◌}
 use Rattle.logical_blocks.specs.Book.{promised, with_progress}
 use Rattle.scsi.specs.{declared.command.{Command.Command, Transfer.Transfer}, Rules.{UnitState, effect_of, writes, reads, gives}}
-use Rattle.scsi.specs.Rules.{write_of_command, write_by, wants_writing, reads_blocks, needs_medium, moves, sends}
+use Rattle.scsi.specs.Rules.{write_of_command, write_by, wants_writing, reads_blocks, forces_reading, needs_medium, moves, sends}
 use Rattle.scsi_commands.specs.Supported.{IsSupported, IsWithin}
 use Rattle.scsi_unit.specs.Pending.{transfer_of, writes_blocks, commits, goes_through, TakesAll, cache_after, progress_after, may_want}
 use Rattle.scsi_unit.specs.{Pending.first_want, Serving.wants_medium, declared.progress.Want.Want, Reading.read_of}
@@ -88,6 +88,9 @@ module _ (command : Command) (taken : List ℕ) (is : reads_blocks command ≡ t
   pub read_commits : (write_cache : Bool) → commits command taken write_cache ≡ (transfer_of command).fua
   read_commits write_cache = grind (arith, nat_tests)
 
+  pub read_forces : (write_cache : Bool) → commits command taken write_cache ≡ forces_reading (transfer_of command)
+  read_forces write_cache = grind (arith, nat_tests)
+
   pub read_is : read_of (Ok command) ≡ Some (transfer_of command)
   read_is = grind (arith, nat_tests)
 
@@ -119,6 +122,11 @@ first_may wanted command taken write_cache first = grind (arith, nat_tests)
 pub first_none : (command : Command) (taken : List ℕ) (write_cache : Bool) → first_want command taken write_cache ≡ None
     → wants_medium (Ok command) taken write_cache ≡ false
 first_none command taken write_cache none = grind (arith, nat_tests)
+
+-- nor does it promise
+pub first_plain : (command : Command) (taken : List ℕ) (write_cache : Bool) → first_want command taken write_cache ≡ None
+    → commits command taken write_cache ≡ false
+first_plain command taken write_cache none = grind (arith, nat_tests)
 
 pub first_commit : (command : Command) (taken : List ℕ) (write_cache : Bool)
     → first_want command taken write_cache ≡ Some want.Commit → writes_blocks command ≡ false

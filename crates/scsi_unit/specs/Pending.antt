@@ -1,23 +1,25 @@
 -- A command that is not over: what it may want, which books the unit fits meanwhile, and how it
 -- comes to its end.
-use Rattle.std.specs.Prelude.{⊤, ◌≡◌, ◌≢◌, ◌⊎◌, ◌<◌, ◌≤◌, ◌+◌, ℕ, Bool, true, false, List, ◌||◌}
-use Rattle.std.specs.Prelude.{not, length, Option, Some, None, Result, Ok, Err, IfOk, if◌then◌else◌}
+use Rattle.std.specs.Prelude.{⊤, ◌≡◌, ◌≢◌, ◌⊎◌, ◌↔◌, ◌<◌, ◌≤◌, ◌+◌, ℕ, Bool, true, false, IsTrue}
+use Rattle.std.specs.Prelude.{List, length, Option, Some, None, Result, Ok, Err, IfOk, ◌||◌, not}
+use Rattle.std.specs.Prelude.{if◌then◌else◌}
 use Rattle.medium.specs.{Medium.State, Moments.{EachCut, LeavesOnly, IsUnchanged}, Sent.SendsUpTo}
-use Rattle.logical_blocks.specs.Book.{Book, with_progress}
+use Rattle.logical_blocks.specs.{Blocks.Write, Book.{Book, with_progress}}
 use Rattle.scsi.specs.{Sense.Sense, declared.command.Command.Command, Waiting.Waiting}
 use Rattle.scsi.specs.{declared.command.Transfer.Transfer, Rules.{forces_reading, moves_blocks}}
 use Rattle.scsi.specs.Rules.{reads_blocks, selected_by, clears, moves, write_of_command}
 use Rattle.scsi.specs.Rules.{checked_for_fault, IsOutcome, command_by, wants_writing, UnitState}
 use Rattle.scsi.specs.{Rules.{Ticks, checked}, SenseCodes.write_error}
-use Rattle.blocks.specs.{Finding.FoundWith, Prepared.IsTakenAtOnce, Running.ComesBy, Turns.GoesOn}
-use Rattle.blocks.specs.{Written.IsWritten, declared.work.Work.Work, StoreValue.blocks_of}
-use Rattle.blocks.specs.StoreValue.{is_dead, steps_left}
+use Rattle.blocks.specs.{Finding.{FoundWith, MayFind}, Prepared.IsTakenAtOnce, Running.ComesBy}
+use Rattle.blocks.specs.{Turns.GoesOn, Written.IsWritten, declared.work.Work.Work}
+use Rattle.blocks.specs.StoreValue.{blocks_of, is_dead, steps_left}
 use Rattle.scsi_commands.specs.Supported.{IsSupported}
 use Rattle.scsi_unit.specs.UnitValue.{UnitValue, unit_limit, state_of, answer_of, FitsUnit}
-use Rattle.scsi_unit.specs.{Calls.SendsAsMeant, Promising.forces_writing, Reading.read_of}
-use Rattle.scsi_unit.specs.{Reading.LooksToRead, Serving.{has_refused, WorksUnit, command_for}}
-use Rattle.scsi_unit.specs.declared.progress.{Progress.{Progress, TheVariants.Done}, Want.Want}
-use Rattle.scsi_unit.specs.declared.progress.Progress.TheVariants.{Wants}
+use Rattle.scsi_unit.specs.{Calls.SendsAsMeant, Promising.forces_writing}
+use Rattle.scsi_unit.specs.Reading.{LooksToRead, first_home_of, home_sectors_of, read_of}
+use Rattle.scsi_unit.specs.{Serving.{has_refused, WorksUnit, command_for}, declared.need.Need.Need}
+use Rattle.scsi_unit.specs.declared.progress.{Progress.Progress, Want.Want}
+use Rattle.scsi_unit.specs.declared.progress.Progress.TheVariants.{Done, Wants}
 use Rattle.scsi.specs.declared.command.Command.TheVariants as command
 use Rattle.scsi.specs.declared.intent.Intent.TheVariants as intent
 use Rattle.scsi_unit.specs.declared.progress.Want.TheVariants as want
@@ -77,6 +79,15 @@ pub record FitsRead {M : Type 0} (m : State) (unit : UnitValue M) (command : Com
     (taken : List ℕ) (book : Book) : Type 0 where
   pub fits : FitsUnit m unit book
   pub written : commits command taken unit.write_cache ≡ true → IsWritten unit.store.cached
+
+-- the write that a batch has already: that of a WRITE that wants its commit
+abbrev pub write_held : Want → Command → List ℕ → Option Write
+write_held want.Commit command taken = write_of_command command taken
+write_held wanted command taken = None
+
+-- the book that the unit fits, where this is the one before the command
+abbrev pub book_held : Want → Command → List ℕ → Book → Book
+book_held wanted command taken book = with_progress book (write_held wanted command taken)
 
 -- the book is the one before the command
 abbrev pub FitsPending : {M : Type 0} → State → UnitValue M → Command → List ℕ → Want → Book
@@ -210,8 +221,21 @@ may_follow (Wants want.Room) want.Commit = false
 may_follow (Wants next) want.Read = false
 may_follow progress want = true
 
+-- The next step may be the one that promises all accepted writes: none is left to write then.
+abbrev pub MayPromise : {M : Type 0} → UnitValue M → Command → Want → Type 0
+MayPromise unit command want.Room = ⊥
+MayPromise unit command want.Commit = IsWritten unit.store.cached
+MayPromise unit command want.Read = forces_reading (transfer_of command) ≡ true
+
+-- What the device has to do before the next step: to carry out all calls, where the step may
+-- promise; and to show these home sectors, where it reads them.
+pub record IsNeeded {M : Type 0} (unit : UnitValue M) (command : Command) (wanted : Want)
+    (told : Need) : Type 0 where
+  pub all_done : IsTrue told.all_done ↔ MayPromise unit command wanted
+  pub home : told.home ≡ home_sectors_of (first_home_of unit) (read_for wanted command)
+
 -- One step of a command that wants this. At each moment of it a loss of power leaves what may be
--- found of the book before the command, perhaps with its write, whole.
+-- found of the book that the unit fits.
 pub record GoOnPost {M : Type 0} (state : M → State) (Follows : M → M → Type 0)
     (command : Command) (want : Want) (taken : List ℕ) (old : UnitValue M) (progress : Progress)
     (out : List ℕ) (new : UnitValue M) : Type 0 where
@@ -220,8 +244,12 @@ pub record GoOnPost {M : Type 0} (state : M → State) (Follows : M → M → Ty
       progress out new book
   pub cuts : (book : Book) → FitsPending (state old.store.medium) old command taken want book
       → book.ours ≡ true
-      → LeavesOnly (FoundWith (state old.store.medium).size book (write_of_command command taken))
+      → LeavesOnly (MayFind (state old.store.medium).size (book_held want command taken book))
       (state old.store.medium) (state new.store.medium)
+  -- a good answer promises only where no record was left to write
+  pub promises : (sent : ℕ) → progress ≡ Done (Ok sent)
+      → commits command taken old.write_cache ≡ true → MayPromise old command want
+  pub dead : is_dead old.store.cached ≡ true → new.store ≡ old.store
   pub onward : may_follow progress want ≡ true
   -- where it wants the same again, fewer steps are left
   pub fewer : progress ≡ Wants want → steps_left new.store.cached < steps_left old.store.cached
@@ -234,18 +262,20 @@ pub record GoOnPost {M : Type 0} (state : M → State) (Follows : M → M → Ty
   pub sends : SendsWhenDone (Ok command) (unit_limit old) progress
   pub keeps : StepKeeps state Follows old new
 
--- A command that was parsed, or its refusal, begins: by no call of the medium. It waits for nothing
--- that it can have so.
+-- A command that was parsed, or its refusal, begins: by no call of the medium. A WRITE does not
+-- wait for room that is there. What promises waits for its commit, since the medium may be behind.
 pub record BeginPost {M : Type 0} (state : M → State) (Follows : M → M → Type 0)
     (told : Result Command Sense) (taken : List ℕ) (old : UnitValue M) (progress : Progress)
     (out : List ℕ) (new : UnitValue M) : Type 0 where
   pub line : (book : Book) → FitsUnit (state old.store.medium) old book
       → HasProgressed (state old.store.medium) (state new.store.medium) told taken old
       progress out new book
-  pub unchanged : IsUnchanged (state old.store.medium) (state new.store.medium)
-  pub at_once : (command : Command) (want : Want) → told ≡ Ok command
-      → first_want command taken old.write_cache ≡ Some want → IsHadAtOnce old command want
-      → progress ≢ Wants want
+  pub medium : new.store.medium ≡ old.store.medium
+  pub at_once : (command : Command) → told ≡ Ok command
+      → first_want command taken old.write_cache ≡ Some want.Room
+      → IsHadAtOnce old command want.Room → progress ≢ Wants want.Room
+  pub promises : (command : Command) (sent : ℕ) → told ≡ Ok command
+      → commits command taken old.write_cache ≡ true → progress ≢ Done (Ok sent)
   pub waits : (next : Want) → progress ≡ Wants next → BeginsWanting told taken next old new
   pub sends : SendsWhenDone told (unit_limit old) progress
   pub keeps : StepKeeps state Follows old new
@@ -276,19 +306,12 @@ progress_accepted transfer write_cache =
 
 -- ---- what ends a command from outside
 
--- It is dropped: the unit fits the book before it, or that with its write last, whole and
--- unpromised.
-abbrev pub HasDropped : {M : Type 0} → State → UnitValue M → Command → List ℕ → Book → Type 0
-HasDropped m unit command taken book =
-    (next : Book)
-    × ((next ≡ book) ⊎ (next ≡ with_progress book (write_of_command command taken)))
-    × FitsUnit m unit next
-
--- whatever it wanted
+-- It is dropped, whatever it wanted: the unit fits the book before it, where a batch has its write
+-- with that last, whole and unpromised.
 abbrev pub EachIsDropped : {M : Type 0} → (M → State) → Type 0
 EachIsDropped {M} state = (unit : UnitValue M) (command : Command) (taken : List ℕ) (wanted : Want)
     (book : Book) → FitsPending (state unit.store.medium) unit command taken wanted book
-    → HasDropped (state unit.store.medium) unit command taken book
+    → FitsUnit (state unit.store.medium) unit (book_held wanted command taken book)
 
 -- The device refused a call of it: by the rules it ends with a write error, and its write is the
 -- last one accepted, or is not accepted.
@@ -299,6 +322,13 @@ EachIsRefused state old new = (command : Command) (taken : List ℕ) (wanted : W
     → (next : Book)
     × IsOutcome true (Ok command) taken (state_of old book) (Err write_error) (state_of new next)
     × FitsUnit (state new.store.medium) new next
+
+-- The promises stay where a command promises none, or fails.
+abbrev pub MarksStay : Type 0
+MarksStay = (refused : Bool) (command : Command) (taken : List ℕ) (old new : UnitState)
+    (answer : Result (List ℕ) Sense) → IsOutcome refused (Ok command) taken old answer new
+    → (commits command taken old.write_cache ≡ false) ⊎ ((sense : Sense) × (answer ≡ Err sense))
+    → new.book.mark ≡ old.book.mark
 
 -- A command is parsed once: with the check for a fault made anew it is what its block is later,
 -- where the unit was faulted in between, or was not.

@@ -1,7 +1,7 @@
 //! What follows from the rules of the logical unit.
 ghost use Rattle.scsi_unit.specs.Costs.{AreCostLaws};
 ghost use Rattle.scsi_unit.specs.Pending.{EachIsDropped, IsParsedOnce, KeepsParsedCommand};
-ghost use Rattle.scsi_unit.specs.Pending.{TicksWhilePending, FoundWhilePending};
+ghost use Rattle.scsi_unit.specs.Pending.{MarksStay, TicksWhilePending, FoundWhilePending};
 ghost use Rattle.scsi_unit.specs.Laws.{AreCommandLaws, TicksOnly, KeepsLimit, KnowsImages};
 
 use medium::Medium;
@@ -18,9 +18,11 @@ pub fn unit_laws()
 {}
 
 /// Does nothing: its contract says what a unit fits where a command that is not over is dropped, as
-/// by a class reset, what else may come meanwhile, and that a command is parsed once.
+/// by a class reset, when the promises stay, what else may come meanwhile, and that a command is
+/// parsed once.
 pub fn pending_laws<M: Medium>()
     ensures dropped { EachIsDropped M.state }
+    ensures marks { MarksStay }
     ensures parsed { IsParsedOnce }
     ensures command { KeepsParsedCommand M.state }
     ensures ticks { TicksWhilePending M.state M.follows }

@@ -10,6 +10,7 @@ mod checks;
 mod commands;
 mod fault;
 mod laws;
+mod need;
 mod parsed;
 mod pending;
 mod progress;
@@ -24,6 +25,7 @@ mod unit;
 
 pub use blocks::{RecoveredMedium, StartError, StartFault, Work};
 pub use laws::{pending_laws, unit_laws};
+pub use need::Need;
 pub use progress::{Progress, Want};
 pub use reading::HomeSectors;
 pub use retiring::Retiring;

@@ -1,8 +1,8 @@
 //! Commands one step at a time: a step makes two calls of the medium at most, or those of one READ.
-ghost use Rattle.std.specs.Prelude.{◌≡◌, false, Some, Ok};
+ghost use Rattle.std.specs.Prelude.{◌≡◌, ℕ, List, false, Some, Ok};
 ghost use Rattle.blocks.specs.StoreValue.{is_dead};
 ghost use Rattle.scsi_unit.specs.Pending.{CanBegin, CanServe, CanGoOn, BeginPost, GoOnPost};
-ghost use Rattle.scsi_unit.specs.Pending.{first_want, TakesAll};
+ghost use Rattle.scsi_unit.specs.Pending.{first_want, CanWant, TakesAll};
 
 use crate::checks::needs_medium;
 use crate::{Progress, Unit, Want};
@@ -11,8 +11,8 @@ use scsi_commands::{Command, Sense};
 
 impl<M: Medium> Unit<M> {
     /// Begins a command that `command` told, or its refusal, over the data taken for it. No call of
-    /// the medium is made. Where the command wants something that such a call alone can give, it is
-    /// told, and `go_on` makes one step after another until the command is over.
+    /// the medium is made. Where the command wants something that such a call alone can give, or a
+    /// commit, it is told, and `go_on` makes one step after another until the command is over.
     ///
     /// Meanwhile no other command may be begun. Data to send come to the front of `out`.
     pub fn begin(&mut self, told: Result<Command, Sense>, taken: &[u8], out: &mut [u8]) -> Progress
@@ -57,7 +57,7 @@ impl<M: Medium> Unit<M> {
             return self.end(Err(Sense::INTERNAL_TARGET_FAILURE));
         }
         match self.first_want(&command, taken) {
-            Some(want) => self.begin_by(command, want, taken, out),
+            Some(want) => self.begin_by(command, want, taken),
             None => {
                 let answer = self.perform(command, taken, out);
                 self.end(answer)
@@ -65,18 +65,18 @@ impl<M: Medium> Unit<M> {
         }
     }
 
-    // Begins one that wants this first.
-    fn begin_by(&mut self, command: Command, want: Want, taken: &[u8], out: &mut [u8]) -> Progress
+    // Begins one that wants this first. A commit waits for the medium, which may be behind.
+    fn begin_by(&mut self, command: Command, want: Want, taken: &[u8]) -> Progress
         requires live { is_dead self.old.store.cached ≡ false }
-        requires can { CanGoOn self.old command want taken.now out.old }
+        requires can { CanWant self.old command want taken.now }
         requires first { first_want command taken.now self.old.write_cache ≡ Some want }
-        ensures { BeginPost M.state M.follows (Ok command) taken.now self.old result out.new
-            self.new }
+        ensures { (out : List ℕ) → BeginPost M.state M.follows (Ok command) taken.now self.old
+            result out self.new }
     {
-        if self.is_had(&command, want) {
-            return self.go_on(command, want, taken, out);
+        match want {
+            Want::Room if self.has_room(&command) => self.accept(&command, taken),
+            _ => Progress::Wants(want),
         }
-        Progress::Wants(want)
     }
 
     // What a command wants first, if it wants something.

@@ -24,8 +24,10 @@ impl<M: Medium> Unit<M> {
     pub(crate) fn accept(&mut self, command: &Command, taken: &[u8]) -> Progress
         requires live { is_dead self.old.store.cached ≡ false }
         requires can { CanWant self.old command.now want.Room taken.now }
-        ensures { (out : List ℕ) → GoOnPost M.state M.follows command.now want.Room taken.now
+        ensures step { (out : List ℕ) → GoOnPost M.state M.follows command.now want.Room taken.now
             self.old result out self.new }
+        ensures had { IsHadAtOnce self.old command.now want.Room
+            → self.new.store.medium ≡ self.old.store.medium }
     {
         let transfer = transfer_of(command);
         match write_step(&mut self.store, transfer, taken) {
@@ -104,20 +106,15 @@ impl<M: Medium> Unit<M> {
         Progress::Done(answer)
     }
 
-    /// Whether what a command wants can be had by no call of the medium.
-    pub(crate) fn is_had(&self, command: &Command, want: Want) -> bool
+    /// Whether a WRITE is put into a batch by no call of the medium.
+    pub(crate) fn has_room(&self, command: &Command) -> bool
         requires { (transfer_of command.now).address + (transfer_of command.now).count
             ≤ blocks_of self.now.store.cached }
-        ensures { IsTrue result ↔ IsHadAtOnce self.now command.now want }
+        ensures { IsTrue result ↔ IsHadAtOnce self.now command.now want.Room }
     {
         let transfer = transfer_of(command);
-        match want {
-            Want::Room => self
-                .store
-                .takes_at_once(transfer.address, transfer.count as usize),
-            Want::Commit => self.store.is_written(),
-            Want::Read => false,
-        }
+        self.store
+            .takes_at_once(transfer.address, transfer.count as usize)
     }
 
     /// Whether a MODE SELECT with a list of this length disables the write cache.
@@ -133,8 +130,8 @@ impl<M: Medium> Unit<M> {
     }
 }
 
-// What a READ or a WRITE moves; any other command moves no blocks.
-fn transfer_of(command: &Command) -> Transfer
+/// What a READ or a WRITE moves; any other command moves no blocks.
+pub(crate) fn transfer_of(command: &Command) -> Transfer
     ensures { result ≡ transfer_of command.now }
 {
     match command {

@@ -17,19 +17,20 @@ write_step-requires-clause-can g c =
       within = write_within c.args.command.now c.args.taken.now can.wanted _ _ can.supported;
     })
 
-pub returns-in-Waits : goal.returns-in-Waits
-returns-in-Waits g c =
-    room_waits c.args.self.now c.write_step.new.store c.args.command.now c.args.taken.now c.requires.live c.requires.can
-    c.write_step.result (rw c.transfer_of-transfer.ensures at c.write_step.ensures) c.in-Waits.is
+pub returns-in-Waits-clause-step : goal.returns-in-Waits-clause-step
+returns-in-Waits-clause-step g c =
+    room_waits c.args.self.now c.write_step.new.store c.args.command.now c.args.taken.now g.met.M.Medium.sound
+    c.requires.live c.requires.can c.write_step.result (rw c.transfer_of-transfer.ensures at c.write_step.ensures) c.in-Waits.is
 
-pub returns-in-Failed : goal.returns-in-Failed
-returns-in-Failed g c =
+pub returns-in-Failed-clause-step : goal.returns-in-Failed-clause-step
+returns-in-Failed-clause-step g c =
     rw (c.end.ensures.kept [], c.end.ensures.told)
-    (room_fails c.args.self.now c.write_step.new.store c.args.command.now c.args.taken.now c.requires.live c.requires.can
-    c.write_step.result (rw c.transfer_of-transfer.ensures at c.write_step.ensures) c.in-Failed.is)
+    (room_fails c.args.self.now c.write_step.new.store c.args.command.now c.args.taken.now g.met.M.Medium.sound
+    c.requires.live c.requires.can c.write_step.result (rw c.transfer_of-transfer.ensures at c.write_step.ensures) c.in-Failed.is)
 
-pub returns-in-Accepted : goal.returns-in-Accepted
-returns-in-Accepted g c =
+pub returns-in-Accepted-clause-step : goal.returns-in-Accepted-clause-step
+returns-in-Accepted-clause-step g c =
+    let sound = g.met.M.Medium.sound in
     let old = c.args.self.now in
     let command = c.args.command.now in
     let taken = c.args.taken.now in
@@ -39,8 +40,8 @@ returns-in-Accepted g c =
     rw (c.accepted.ensures.is, c.accepted.ensures.told, c.transfer_of-transfer.ensures)
     (elim c.in-Accepted.is [
       | inl at ↦ elim (cases_Bool (goes_through (transfer_of command) old.write_cache)) [
-        | inl through ↦ rw through (room_commits old store command taken c.requires.live c.requires.can stage step at through)
-        | inr plain ↦ rw plain (room_ends old store command taken c.requires.live c.requires.can stage step at plain)
+        | inl through ↦ rw through (room_commits old store command taken sound c.requires.live c.requires.can stage step at through)
+        | inr plain ↦ rw plain (room_ends old store command taken sound c.requires.live c.requires.can stage step at plain)
       ]
-      | inr at ↦ absurd (room_promises old store command taken c.requires.live c.requires.can stage step at)
+      | inr at ↦ absurd (room_promises old store command taken sound c.requires.live c.requires.can stage step at)
     ])

@@ -16,14 +16,14 @@ returns-then-needs_medium g c =
 
 pub begin_by-requires-clause-can : goal.begin_by-requires-clause-can
 begin_by-requires-clause-can g c = record {
-  wants = record {
-    supported = c.requires.supported;
-    taken_all = c.requires.taken_all;
-    wanted = first_may c.in-Some.want c.args.command c.args.taken.now c.args.self.now.write_cache
-        (sym c.first_want.ensures ∙ c.in-Some.is);
-  };
-  room = c.requires.room;
+  supported = c.requires.supported;
+  taken_all = c.requires.taken_all;
+  wanted = first_may c.in-Some.want c.args.command c.args.taken.now c.args.self.now.write_cache
+      (sym c.first_want.ensures ∙ c.in-Some.is);
 }
+
+pub returns-in-Some : goal.returns-in-Some
+returns-in-Some g c = c.begin_by.ensures c.args.out.now
 
 pub returns-in-None : goal.returns-in-None
 returns-in-None g c =

@@ -16,7 +16,7 @@ read_now-requires-clause-room g c =
     (read_in c.args.command c.args.taken.now (rw c.in-Read.is at c.requires.wants.wanted))
 
 pub returns-in-Room : goal.returns-in-Room
-returns-in-Room g c = rw c.in-Room.is (c.accept.ensures c.args.out.now)
+returns-in-Room g c = rw c.in-Room.is (c.accept.ensures.step c.args.out.now)
 
 pub returns-in-Commit : goal.returns-in-Commit
 returns-in-Commit g c =
