@@ -59,7 +59,7 @@ module _ (P : Option Write → Type 0) (refused : Bool) (old new : Conversation 
   by_event event answer carried step = grind arith
 
 -- a step in the background leaves the book
-same_book : (refused : Bool) (old new : UnitState) → Ticks refused old new → new.book ≡ old.book
+pub same_book : (refused : Bool) (old new : UnitState) → Ticks refused old new → new.book ≡ old.book
 same_book refused old new ticked = ap (λ (u : UnitState). u.book) (ticks_only.others refused old new ticked)
 
 -- the promises stay, or all accepted writes are promised
@@ -72,7 +72,7 @@ marked_if promising promised old new may is = grind arith
 
 -- a command that is carried out
 module _ (refused : Bool) (block taken : List ℕ) (old new : UnitState) where
-  grows : (write : Option Write) (answer : Result (List ℕ) Sense) → write_in_progress old block taken ≡ write
+  pub grows : (write : Option Write) (answer : Result (List ℕ) Sense) → write_in_progress old block taken ≡ write
       → CarriesOut refused block taken old answer new → GrowsBy write old new
   grows write answer is carried =
       grind (

@@ -2,7 +2,7 @@
 use Rattle.std.proofs.Common.{◌≡◌, ◌≢◌, ◌≤◌, ◌⊎◌, ◌++◌, ◌*◌, ℕ, Bool, true, false, List, [], Ok, Err, Result, Some, None, Option}
 use Rattle.std.proofs.{Common.{length, take, arith, refl, sym, ap, ◌∙◌, subst, inl, inr}, lemmas.Bool.{Decides.nat_tests}}
 use Rattle.medium.specs.{Medium.State, Moments.LeavesOnly}
-use Rattle.logical_blocks.specs.{Blocks.Write, Book.Book}
+use Rattle.logical_blocks.specs.{Blocks.Write, Book.{Book, with_progress}}
 use Rattle.scsi.specs.{Sense.Sense, SenseCodes.internal_target_failure, declared.command.Command.Command}
 use Rattle.scsi.specs.Rules.{UnitState, CarriesOut, Ticks, checked, checked_for_fault, moves, moves_after, write_of_command, intention_by}
 use Rattle.scsi.specs.Rules.{reads_blocks, write_in_progress, write_after, fails_with, IsByTable}
@@ -11,13 +11,13 @@ use Rattle.spec.specs.{Cases.{IsCase, size_of_way}, Conversation.{Conversation, 
 use Rattle.spec.specs.Conversation.{Begins as begins_case}
 use Rattle.spec.specs.Exchange.{Line, Script, finished, taking, told, moment_of, Moment, at_once, after_data, case_if_failed}
 use Rattle.spec.specs.UnitConversation.{Intends, on_line, way_of, write_of_packet}
-use Rattle.spec.specs.{Lagging.{Lagging}, Disks.pending_write}
+use Rattle.spec.specs.{Lagging.Lagging, Disks.pending_write}
 use Rattle.spec.specs.declared.event.Answer.TheVariants.{Ack}
 use Rattle.spec.specs.declared.way.Way.TheVariants as ways
 use Rattle.scsi.specs.declared.intent.Intent.TheVariants as intent
-use Rattle.scsi_unit.specs.{Background.is_dead, Books.FoundWith}
+use Rattle.scsi_unit.specs.{Background.is_dead, Books.MayFind, Serving.has_refused}
 use Rattle.scsi_unit.specs.UnitValue.{UnitValue, unit_limit, state_of}
-use Rattle.scsi_unit.specs.Pending.{may_want, transfer_of}
+use Rattle.scsi_unit.specs.Pending.{MayPromise, book_held, may_want, transfer_of, write_held}
 use Rattle.scsi_unit.proofs.WantedCommands.{read_in}
 use Rattle.scsi_unit.specs.declared.progress.Want.{Want}
 use Rattle.scsi_unit.specs.declared.progress.Want.TheVariants as want
@@ -26,9 +26,9 @@ use Rattle.bot_machine.specs.declared.bulk_state.{BulkState.BulkState, Taking.Ta
 use Rattle.bot_machine.specs.declared.bulk_state.Phase.TheVariants as phases
 use Rattle.bot_machine.specs.declared.pending.{Wanted.Wanted}
 use Rattle.bot_machine.specs.Refinement.{line_of, line_with, left_of}
-use Rattle.bot_machine.specs.{Disk.{DiskValue, over}, LaggingDisk.{HasWrapper, HasLastPacket, StandsPending}}
+use Rattle.bot_machine.specs.{Disk.{DiskValue, over}, LaggingDisk.{HasWrapper, HasLastPacket, StandsPending, held_write}}
 use Rattle.bot_machine.specs.LaggingParts.{CommandAdvanced, PendingAdvanced, PendsAtOnce, PendsFor, CommandCarriedOut}
-use Rattle.bot_machine.specs.LaggingParts.{PendingCompleted, disk_of}
+use Rattle.bot_machine.specs.LaggingParts.{HasMore, PendingCompleted, disk_of}
 use Rattle.bot_machine.proofs.LaggingParts.{pending_size, parsed_by_book}
 use Rattle.bot_machine.proofs.{LaggingPackets.{bare_of, same_lines, nothing_left, left_data, passes_live}, Packets.lies_after}
 use Rattle.transport_laws.proofs.Packets.{last_packet}
@@ -171,11 +171,13 @@ command_expected bulk buffer is = by_phase (bytes_of bulk.size) bulk.phase buffe
 -- ---- a packet that was pending is acted on
 
 -- the wrapper of a command that takes no data
-pub completes_wrapper : {M : Type 0} (refused : Bool) (m after : State) (unit new : UnitValue M) (from to : BulkState)
-    (before out : List ℕ) (e : Exchange) (wanted : Wanted) → PendsAtOnce (unit_limit unit) (disk_of unit from before) e wanted
+pub completes_wrapper : {M : Type 0} {Promises : Type 0} {held : Option Write} {refused : Bool} (m after : State)
+    (unit new : UnitValue M) (from to : BulkState) (before out : List ℕ) (e : Exchange) (wanted : Wanted)
+    → PendsAtOnce (unit_limit unit) (disk_of unit from before) e wanted
     → from.out_halted ≡ false → (book : Book) (s : Lagging UnitState) → HasWrapper m (disk_of unit from before) e wanted book s
-    → CommandCarriedOut refused after e [] unit new from to out book → PendingCompleted refused after (disk_of new to out) book s
-completes_wrapper refused m after unit new from to before out e wanted pends halted book s h o =
+    → CommandCarriedOut Promises held refused after e [] unit new from to out book
+    → PendingCompleted Promises held refused after (disk_of new to out) book s
+completes_wrapper {refused} m after unit new from to before out e wanted pends halted book s h o =
     let old = over (disk_of unit from before) book in
     let later = over (disk_of new to out) o.next in
     let block = e.command.block.items in
@@ -196,17 +198,18 @@ completes_wrapper refused m after unit new from to before out e wanted pends hal
                 opens,
           )));
       fits = o.fits;
-      ours = o.ours;
+      on = o.on;
     }
 
 -- the last packet of data
-pub completes_data : {M : Type 0} (refused : Bool) (m after : State) (unit new : UnitValue M) (from to : BulkState) (before : List ℕ)
+pub completes_data : {M : Type 0} {Promises : Type 0} {held : Option Write} {refused : Bool} (m after : State)
+    (unit new : UnitValue M) (from to : BulkState) (before : List ℕ)
     (t : Taking) (wanted : Wanted) → moment_of t.exchange.case ≡ after_data → from.out_halted ≡ false
     → (book : Book) (s : Lagging UnitState)
     → HasLastPacket m (disk_of unit from before) t.exchange.case t.exchange.command t.exchange.intended (take t.filled before) wanted book s
-    → CommandCarriedOut refused after t.exchange (take t.filled before) unit new (bare_of from) to [] book
-    → PendingCompleted refused after (disk_of new to before) book s
-completes_data refused m after unit new from to before t wanted moment halted book s h o =
+    → CommandCarriedOut Promises held refused after t.exchange (take t.filled before) unit new (bare_of from) to [] book
+    → PendingCompleted Promises held refused after (disk_of new to before) book s
+completes_data {refused} m after unit new from to before t wanted moment halted book s h o =
     let left = taking t.exchange.case t.exchange.command t.exchange.intended h.bytes (length h.packet) in
     let old = on_line (line_with from left) (state_of unit book) in
     let later = over (disk_of new to before) o.next in
@@ -226,7 +229,7 @@ completes_data refused m after unit new from to before t wanted moment halted bo
             })),
           ));
       fits = o.fits;
-      ours = o.ours;
+      on = o.on;
     }
 
 -- ---- a command that takes no data
@@ -236,25 +239,18 @@ module _ {M : Type 0} {state : M → State} {Follows : M → M → Type 0} (unit
     (pends : PendsAtOnce (unit_limit unit) (disk_of unit from before) e wanted) (halted : from.out_halted ≡ false)
     (expected : from.phase ≡ phases.Command) (room : length before ≡ 512 * unit_limit unit) (long : length out ≡ length before)
     (is_next : Option Want) (a : CommandAdvanced state Follows unit from e [] wanted is_next new to out) where
-  cuts_wrapper : (book : Book) (s : Lagging UnitState)
-      → HasWrapper (state unit.store.medium) (disk_of unit from before) e wanted book s → book.ours ≡ true
-      → LeavesOnly (FoundWith (state unit.store.medium).size book (pending_write s.pending s.now)) (state unit.store.medium)
-      (state new.store.medium)
-  cuts_wrapper book s h ours =
-      subst (λ (w : Option Write). LeavesOnly (FoundWith (state unit.store.medium).size book w) (state unit.store.medium)
-      (state new.store.medium)) (wrapper_write (state unit.store.medium) (unit_limit unit) (disk_of unit from before) e wanted pends
-      halted s book h) (a.cuts book h.fits ours)
-
   pub over_wrapper : is_next ≡ None
       → PendingAdvanced state Follows (disk_of unit from before) (record { wrapper = Some e; wanted = wanted }) None (disk_of new to out)
   over_wrapper none =
       let over_it = rw none at a in
       record {
-        goes = λ book s h. completes_wrapper _ (state unit.store.medium) (state new.store.medium) unit new from to before out e wanted pends
+        goes = λ book s h. completes_wrapper (state unit.store.medium) (state new.store.medium) unit new from to before out e wanted pends
             halted book s h (over_it.goes book h.fits);
-        cuts = cuts_wrapper;
+        cuts = λ book s h ours. a.cuts book h.fits ours;
         awaits = λ free. tt;
         calls = a.calls;
+        unsent = a.unsent;
+        dead = a.dead;
         onward = over_it.onward;
         keeps = a.passes.keeps;
         limit = a.passes.limit;
@@ -271,13 +267,16 @@ module _ {M : Type 0} {state : M → State} {Follows : M → M → Type 0} (unit
       let lines : line_of from before ≡ line_of to out =
       same_lines from before out expected ∙ sym (ap (λ (bulk : BulkState). line_of bulk out) unmoved) in
       record {
-        goes = λ book s h. record {
-          packet = h.packet;
-          spelled = h.spelled;
-          is = h.is ∙ rw (lines, (on.goes book h.fits).stays) refl;
-          fits = (on.goes book h.fits).fits;
-        };
-        cuts = cuts_wrapper;
+        goes = λ book s h. (
+          record {
+            packet = h.packet;
+            spelled = h.spelled;
+            is = h.is ∙ rw (lines, (on.goes book h.fits).stays) refl;
+            fits = (on.goes book h.fits).fits;
+          },
+          (on.goes book h.fits).more,
+        );
+        cuts = λ book s h ours. a.cuts book h.fits ours;
         awaits = λ free. (
           ap (λ (bulk : BulkState). bulk.out_halted) unmoved ∙ halted,
           record {
@@ -288,6 +287,8 @@ module _ {M : Type 0} {state : M → State} {Follows : M → M → Type 0} (unit
           },
         );
         calls = a.calls;
+        unsent = a.unsent;
+        dead = a.dead;
         onward = on.onward;
         keeps = a.passes.keeps;
         limit = a.passes.limit;
@@ -296,20 +297,32 @@ module _ {M : Type 0} {state : M → State} {Follows : M → M → Type 0} (unit
 
 -- ---- a command over the data that came
 
+module _ (from : BulkState) (before : List ℕ) (t : Taking) (wanted : Wanted) (is : from.phase ≡ phases.DataOut t) where
+  -- the write that a batch has
+  pub held_is : held_write (Some (record { wrapper = None; wanted = wanted })) (line_of from before).left
+      ≡ write_held wanted.want wanted.command (take t.filled before)
+  held_is = ap (λ (l : Script). held_write (Some (record { wrapper = None; wanted = wanted })) l) (left_data from before t is)
+
+  pub stands_data : {M : Type 0} (m : State) (unit : UnitValue M) (book : Book) (s : Lagging UnitState)
+      → StandsPending None (line_of from before).left m (disk_of unit from before) wanted book s
+      → HasLastPacket m (disk_of unit from before) t.exchange.case t.exchange.command t.exchange.intended (take t.filled before) wanted
+      book s
+  stands_data m unit book s stands =
+      subst (λ (l : Script). StandsPending None l m (disk_of unit from before) wanted book s) (left_data from before t is) stands
+
 module _ {M : Type 0} {state : M → State} {Follows : M → M → Type 0} (unit new : UnitValue M) (from to : BulkState)
     (before : List ℕ) (t : Taking) (wanted : Wanted) (is : from.phase ≡ phases.DataOut t) (whole : t.due ≡ 0)
-    (moment : moment_of t.exchange.case ≡ after_data) (pends : PendsFor unit t.exchange (take t.filled before) wanted 0)
-    (halted : from.out_halted ≡ false) (is_next : Option Want)
+    (moment : moment_of t.exchange.case ≡ after_data) (halted : from.out_halted ≡ false) (is_next : Option Want)
     (a : CommandAdvanced state Follows unit (bare_of from) t.exchange (take t.filled before) wanted is_next new to []) where
   data_cuts : (book : Book) (s : Lagging UnitState)
-      → HasLastPacket (state unit.store.medium) (disk_of unit from before) t.exchange.case t.exchange.command t.exchange.intended
-      (take t.filled before) wanted book s → book.ours ≡ true
-      → LeavesOnly (FoundWith (state unit.store.medium).size book (pending_write s.pending s.now)) (state unit.store.medium)
-      (state new.store.medium)
-  data_cuts book s h ours =
-      subst (λ (w : Option Write). LeavesOnly (FoundWith (state unit.store.medium).size book w) (state unit.store.medium)
-      (state new.store.medium)) (data_write (state unit.store.medium) (disk_of unit from before) t.exchange (take t.filled before)
-      wanted pends halted s book h) (a.cuts book h.fits ours)
+      → StandsPending None (line_of from before).left (state unit.store.medium) (disk_of unit from before) wanted book s → book.ours ≡ true
+      → LeavesOnly (MayFind (state unit.store.medium).size
+      (with_progress book (held_write (Some (record { wrapper = None; wanted = wanted })) (line_of from before).left)))
+      (state unit.store.medium) (state new.store.medium)
+  data_cuts book s stands ours =
+      subst (λ (w : Option Write). LeavesOnly (MayFind (state unit.store.medium).size (with_progress book w)) (state unit.store.medium)
+      (state new.store.medium)) (sym (held_is from before t wanted is))
+      (a.cuts book (stands_data from before t wanted is (state unit.store.medium) unit book s stands).fits ours)
 
   pub over_data : is_next ≡ None
       → PendingAdvanced state Follows (disk_of unit from before) (record { wrapper = None; wanted = wanted }) None (disk_of new to before)
@@ -317,14 +330,17 @@ module _ {M : Type 0} {state : M → State} {Follows : M → M → Type 0} (unit
       let over_it = rw none at a in
       record {
         goes = λ book s stands.
-            let h = subst (λ (l : Script). StandsPending None l (state unit.store.medium) (disk_of unit from before) wanted book s)
-            (left_data from before t is) stands in
-            completes_data _ (state unit.store.medium) (state new.store.medium) unit new from to before t wanted moment halted book s h
-            (over_it.goes book h.fits);
-        cuts = λ book s stands ours. data_cuts book s (subst (λ (l : Script). StandsPending None l (state unit.store.medium)
-            (disk_of unit from before) wanted book s) (left_data from before t is) stands) ours;
+            let h = stands_data from before t wanted is (state unit.store.medium) unit book s stands in
+            subst (λ (w : Option Write). PendingCompleted (MayPromise unit wanted.command wanted.want) w (has_refused
+            (state unit.store.medium) (state new.store.medium)) (state new.store.medium) (disk_of new to before) book s)
+            (sym (held_is from before t wanted is))
+            (completes_data (state unit.store.medium) (state new.store.medium) unit new from to before t wanted moment halted book s h
+            (over_it.goes book h.fits));
+        cuts = data_cuts;
         awaits = λ free. tt;
         calls = a.calls;
+        unsent = a.unsent;
+        dead = a.dead;
         onward = over_it.onward;
         keeps = a.passes.keeps;
         limit = a.passes.limit;
@@ -341,23 +357,27 @@ module _ {M : Type 0} {state : M → State} {Follows : M → M → Type 0} (unit
       let same : record to { phase = phases.DataOut t } ≡ from = rw (unmoved, is) refl in
       record {
         goes = λ book s stands.
-            let h = subst (λ (l : Script). StandsPending None l (state unit.store.medium) (disk_of unit from before) wanted book s)
-            (left_data from before t is) stands in
-            let step = on.goes book h.fits in record {
-              packet = h.packet;
-              bytes = h.bytes;
-              few = rw unmoved h.few;
-              taken_is = h.taken_is;
-              is = h.is ∙ rw (unmoved, step.stays) refl;
-              fits = step.fits;
-            };
-        cuts = λ book s stands ours. data_cuts book s (subst (λ (l : Script). StandsPending None l (state unit.store.medium)
-            (disk_of unit from before) wanted book s) (left_data from before t is) stands) ours;
+            let h = stands_data from before t wanted is (state unit.store.medium) unit book s stands in
+            let step = on.goes book h.fits in (
+              record {
+                packet = h.packet;
+                bytes = h.bytes;
+                few = rw unmoved h.few;
+                taken_is = h.taken_is;
+                is = h.is ∙ rw (unmoved, step.stays) refl;
+                fits = step.fits;
+              },
+              subst (λ (w : Option Write). HasMore (with_progress book w) (book_held next wanted.command (take t.filled before) book))
+                  (sym (held_is from before t wanted is)) step.more,
+            );
+        cuts = data_cuts;
         awaits = λ free. (
           ap (λ (bulk : BulkState). bulk.out_halted) unmoved ∙ halted,
           (whole, moment, on.leaves.pends),
         );
         calls = a.calls;
+        unsent = a.unsent;
+        dead = a.dead;
         onward = on.onward;
         keeps = a.passes.keeps;
         limit = a.passes.limit;

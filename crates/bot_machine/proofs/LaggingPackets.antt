@@ -1,8 +1,7 @@
 -- A packet to Bulk-Out where the device may be behind: it is acted on at once, or its command is pending.
 use Rattle.std.proofs.Common.{◌≡◌, ◌≤◌, ◌++◌, ◌*◌, ◌+◌, min, ℕ, Bool, false, List, [], ◌∷◌, Ok, Result, Some, None}
 use Rattle.std.proofs.Common.{length, take, arith, refl, sym, ap, ◌∙◌, subst, inl, inr}
-use Rattle.medium.specs.{Medium.{State, IsSound}}
-use Rattle.medium.proofs.Moments.{unchanged}
+use Rattle.medium.{specs.Medium.{State, IsSound}, proofs.SparedSectors.spared_start}
 use Rattle.logical_blocks.specs.Book.{Book}
 use Rattle.scsi.specs.{Sense.Sense, Rules.{CarriesOut, Ticks, checked_for_fault, moves_after}}
 use Rattle.spec.specs.{Cases.size_of_way, Packets.bytes_of}
@@ -13,7 +12,8 @@ use Rattle.spec.specs.Lagging.{AcknowledgesAny}
 use Rattle.spec.specs.declared.event.Answer.TheVariants.{Ack}
 use Rattle.scsi_unit.specs.{Background.is_dead, Serving.{command_for, has_refused}}
 use Rattle.scsi_unit.specs.UnitValue.{UnitValue, unit_limit, intention_of, state_of, IsOfSize}
-use Rattle.scsi_unit.proofs.{PendingBegun.keeps_all, UnitLaws.fits_size}
+use Rattle.scsi_unit.specs.{Pending.StepKeeps}
+use Rattle.scsi_unit.proofs.{UnitRuns.comes_itself, UnitLaws.fits_size}
 use Rattle.bot_machine.specs.declared.exchange.Exchange.{Exchange}
 use Rattle.bot_machine.specs.declared.bulk_state.{BulkState.BulkState, Taking.Taking, Phase.Phase}
 use Rattle.bot_machine.specs.declared.bulk_state.Phase.TheVariants.{Command, DataOut}
@@ -21,7 +21,7 @@ use Rattle.bot_machine.specs.declared.pending.{Wanted.Wanted}
 use Rattle.bot_machine.specs.Refinement.{line_of, line_with, left_of, taking_of, IsInPhase, IsTaking}
 use Rattle.bot_machine.specs.Serving.{IsBegun}
 use Rattle.bot_machine.specs.LaggingParts.{CommandBegun, PacketTaken}
-use Rattle.bot_machine.proofs.{Wrappers.opens, LaggingParts.intends_parsed, Packets.lies_after}
+use Rattle.bot_machine.proofs.{Wrappers.opens, LaggingParts.intends_parsed, Packets.lies_after, BooksGoOn.{more_held, stays_on}}
 
 -- where a wrapper is expected nothing is left, whatever the buffer
 pub nothing_left : (bulk : BulkState) (buffer : List ℕ) → bulk.phase ≡ Command → (line_of bulk buffer).left ≡ finished
@@ -33,6 +33,23 @@ same_lines bulk before after expected =
 
 module _ {M : Type 0} {state : M → State} {Follows : M → M → Type 0} (itself : (m : M) → Follows m m) (sound : (m : M) → IsSound (state m))
     (unit : UnitValue M) (from to : BulkState) (before after packet : List ℕ) where
+  keeps_itself : StepKeeps state Follows unit unit
+  keeps_itself = record {
+    goes_on = record {
+      failures_stay = omega arith;
+      size_stays = refl;
+      layout_stays = refl;
+      keeps_stays = refl;
+      spares = spared_start _ (state unit.store.medium) (sound unit.store.medium);
+      blocks_stay = refl;
+      dead_stays = λ dead. dead;
+      cause = λ live dead. absurd (cc (live, dead));
+    };
+    identity = refl;
+    policy = refl;
+    follows = comes_itself itself;
+  }
+
   -- the unit has nothing to do
   pub acts_alone : ((book : Book) → IsOfSize unit book
       → OutStep Intends CarriesOut Ticks (has_refused (state unit.store.medium) (state unit.store.medium)) false (line_of from before).left
@@ -40,12 +57,17 @@ module _ {M : Type 0} {state : M → State} {Follows : M → M → Type 0} (itse
       → IsInPhase (unit_limit unit) (intention_of unit) to.phase → to.size ≡ from.size → length after ≡ length before
       → PacketTaken state Follows unit from before packet None unit to after
   acts_alone step phase size room = record {
-    acts = λ book f. record { later = book; step = step book (fits_size (state unit.store.medium) unit book f); fits = f; ours = refl };
+    acts = λ book f. record {
+      later = book;
+      step = step book (fits_size (state unit.store.medium) unit book f);
+      fits = f;
+      on = stays_on ⊥ (is_dead unit.store.cached) None None book (more_held book None);
+    };
     pends = tt;
     phase = phase;
     room = room;
-    unchanged = unchanged (state unit.store.medium);
-    passes = record { keeps = keeps_all unit itself sound; limit = refl; size = size };
+    medium = refl;
+    passes = record { keeps = keeps_itself; limit = refl; size = size };
     halts = tt;
   }
 
@@ -77,12 +99,12 @@ module _ {M : Type 0} {state : M → State} {Follows : M → M → Type 0} (unit
                     (o.carried_out out left (λ same. refl)))),
               );
           fits = o.fits;
-          ours = o.ours;
+          on = o.on;
         };
     pends = tt;
     phase = b.leaves;
     room = long;
-    unchanged = b.unchanged;
+    medium = b.medium;
     passes = b.passes;
     halts = tt;
   }
@@ -115,7 +137,7 @@ module _ {M : Type 0} {state : M → State} {Follows : M → M → Type 0} (unit
         };
         phase = rw expects tt;
         room = long;
-        unchanged = b.unchanged;
+        medium = b.medium;
         passes = b.passes;
         halts = ap (λ (bulk : BulkState). bulk.out_halted) unmoved;
       }
@@ -172,12 +194,12 @@ module _ {M : Type 0} {state : M → State} {Follows : M → M → Type 0} (unit
                 })),
               );
           fits = o.fits;
-          ours = o.ours;
+          on = o.on;
         };
     pends = tt;
     phase = b.leaves;
     room = long;
-    unchanged = b.unchanged;
+    medium = b.medium;
     passes = record { keeps = b.passes.keeps; limit = b.passes.limit; size = b.passes.size };
     halts = tt;
   }
@@ -216,7 +238,7 @@ module _ {M : Type 0} {state : M → State} {Follows : M → M → Type 0} (unit
           sends_none = λ n in_n. held.sends_none n (sym same ∙ in_n);
         };
         room = long;
-        unchanged = b.unchanged;
+        medium = b.medium;
         passes = record { keeps = b.passes.keeps; limit = b.passes.limit; size = b.passes.size };
         halts = ap (λ (bulk : BulkState). bulk.out_halted) unmoved;
       }

@@ -1,29 +1,30 @@
 -- How a command begins and goes on where the device may be behind, from what the unit does.
-use Rattle.std.proofs.Common.{◌≡◌, ◌≤◌, ◌*◌, ℕ, false, List, Ok, Err, Result, Some, None, Option, length, arith}
+use Rattle.std.proofs.Common.{◌≡◌, ◌⊎◌, ◌≤◌, ◌*◌, ℕ, Bool, true, false, List, Ok, Err, Result, Some, None, Option, length, arith}
 use Rattle.std.proofs.{Common.{refl, sym, ap, ◌∙◌, subst, length-take, inl, inr}, lemmas.Bool.cases_Bool}
 use Rattle.std.specs.Prelude.{IfOk}
-use Rattle.medium.specs.{Medium.State}
+use Rattle.medium.specs.{Medium.State, Moments.IsUnchanged, Sent.SendsUpTo}
+use Rattle.medium.specs.declared.fault.MediumFault.TheVariants as faults
 use Rattle.logical_blocks.specs.{Blocks.Write, Book.{Book, with_progress}}
 use Rattle.scsi.specs.{Sense.Sense, declared.command.Command.Command}
 use Rattle.scsi.specs.Rules.{CarriesOut, IsOutcome, checked, checked_for_fault, command_by, intention_by, moves, moves_after}
-use Rattle.scsi.specs.Rules.{write_of_command}
+use Rattle.scsi.specs.Rules.{write_after, write_of_command}
 use Rattle.spec.specs.{Cases.IsCase, declared.way.Way.Way}
 use Rattle.spec.specs.declared.way.Way.TheVariants as ways
 use Rattle.scsi.specs.declared.intent.Intent.TheVariants as intent
 use Rattle.scsi_unit.specs.{Background.is_dead, Serving.{command_for, has_refused}}
-use Rattle.scsi_unit.specs.UnitValue.{UnitValue, unit_limit, intention_of, state_of, answer_of, IsOfSize}
+use Rattle.scsi_unit.specs.UnitValue.{UnitValue, unit_limit, intention_of, state_of, answer_of, FitsUnit, IsOfSize}
 use Rattle.scsi_unit.specs.Pending.{HasEnded, HasProgressed, IsPending, SendsWhenDone, StaysWanting, StepKeeps, BeginPost, GoOnPost}
-use Rattle.scsi_unit.specs.Pending.{FitsPending, TakesAll, IsServable, CanBegin}
+use Rattle.scsi_unit.specs.Pending.{FitsPending, MayPromise, TakesAll, IsServable, CanBegin, commits, write_held}
 use Rattle.scsi_unit.specs.declared.progress.Want.TheVariants as want
 use Rattle.scsi_unit.specs.declared.progress.{Progress.Progress, Want.Want}
 use Rattle.scsi_unit.specs.declared.progress.Progress.TheVariants.{Done, Wants}
-use Rattle.scsi_unit.proofs.{PendingLaws.{parsed_once, parsed_now}, UnitTurns.limit_stays, UnitLaws.fits_size}
+use Rattle.scsi_unit.proofs.{PendingLaws.{dropped, parsed_once, parsed_now}, UnitTurns.limit_stays, UnitLaws.fits_size}
 use Rattle.bot_machine.specs.declared.exchange.Exchange.{Exchange}
 use Rattle.bot_machine.specs.declared.bulk_state.BulkState.{BulkState}
 use Rattle.bot_machine.specs.declared.pending.Wanted.{Wanted}
 use Rattle.bot_machine.specs.{Refinement.{LaysOutAnswer}, Serving.CanCarryOut}
 use Rattle.bot_machine.specs.LaggingParts.{PendsFor, CommandCarriedOut, AnswerLaidOut, want_in, CommandBegun, CommandAdvanced}
-use Rattle.bot_machine.proofs.{UnitLaws.keeps_writes, Packets.sent_fits}
+use Rattle.bot_machine.proofs.{BooksGoOn.{few_promised, goes_on, held_parsed, more_held, still_more}, Packets.sent_fits}
 
 -- a command that is over, or wants something
 pub over_by : (progress : Progress) → None ≡ want_in progress → (answer : Result ℕ Sense) × (progress ≡ Done answer)
@@ -79,15 +80,28 @@ few_sent (Err sense) limit (Err other) sends = tt
 
 -- ---- a command that is over is carried out
 
-module _ {M : Type 0} (before after : State) (old new : UnitValue M) (exchange : Exchange) (taken out : List ℕ) (from to : BulkState)
-    (parsed : Result Command Sense) (answer : Result ℕ Sense)
+-- what a good answer sends was told
+was_good : (answer : Result ℕ Sense) (out sent : List ℕ) → answer_of answer out ≡ Ok sent → (n : ℕ) × (answer ≡ Ok n)
+was_good (Ok n) out sent is = (n, refl)
+was_good (Err sense) out sent is = absurd (let e = is in cc)
+
+-- a command that passes the check for a fault is the one that was parsed
+passed_is : (dead : Bool) (told : Result Command Sense) (command : Command) → checked_for_fault dead told ≡ Ok command → told ≡ Ok command
+passed_is dead told command is = grind (arith, is)
+
+module _ {M : Type 0} (Promises : Type 0) (held : Option Write) (before after : State) (old new : UnitValue M) (exchange : Exchange)
+    (taken out : List ℕ) (from to : BulkState) (parsed : Result Command Sense) (answer : Result ℕ Sense)
+    (may : (command : Command) (sent : ℕ) → parsed ≡ Ok command → answer ≡ Ok sent → commits command taken old.write_cache ≡ true
+    → Promises)
+    (either : (held ≡ None) ⊎ (held ≡ write_after (checked_for_fault (is_dead old.store.cached) parsed) taken))
     (meant : (n : ℕ) → exchange.intended ≡ ways.In n → moves_after parsed ≡ intent.In n)
     (fits : (n : ℕ) → moves_after parsed ≡ intent.In n → n ≤ length out)
     (sends : SendsWhenDone parsed (unit_limit old) (Done answer)) (laid : LaysOutAnswer from exchange answer to) where
-  pub over : (book : Book) → checked (state_of old book) exchange.command.block.items ≡ checked_for_fault (is_dead old.store.cached) parsed
+  pub over : (book : Book) → FitsUnit before old (with_progress book held)
+      → checked (state_of old book) exchange.command.block.items ≡ checked_for_fault (is_dead old.store.cached) parsed
       → HasEnded before after parsed taken old (answer_of answer out) new book
-      → CommandCarriedOut (has_refused before after) after exchange taken old new from to out book
-  over book is ended =
+      → CommandCarriedOut Promises held (has_refused before after) after exchange taken old new from to out book
+  over book fits_held is ended =
       let effect : CarriesOut (has_refused before after) exchange.command.block.items taken (state_of old book) (answer_of answer out)
       (state_of new ended.0) = subst (λ (told : Result Command Sense). IsOutcome (has_refused before after) told taken (state_of old book)
       (answer_of answer out) (state_of new ended.0)) (sym is) ended.1 in
@@ -100,7 +114,11 @@ module _ {M : Type 0} (before after : State) (old new : UnitValue M) (exchange :
           after = laid.line buffer out left lies (fits_room parsed exchange.intended (length out) meant fits (unit_limit old) answer sends);
         };
         fits = ended.2;
-        ours = (keeps_writes.life _ _ _ _ _ _ effect).ours;
+        on = goes_on Promises (has_refused before after) exchange.command.block.items taken (state_of old book) (state_of new ended.0)
+            (answer_of answer out) effect
+            (λ command sent passed commits good. may command _ (passed_is (is_dead old.store.cached) parsed command (sym is ∙ passed))
+            (was_good answer out sent good).1 commits)
+            held (rw is either) (few_promised before old book held fits_held);
       }
 
 -- one that is over has ended, whether it was refused or not
@@ -223,14 +241,15 @@ module _ {M : Type 0} {state : M → State} {Follows : M → M → Type 0} (old 
       let sends = rw done at post.sends in
       record {
         goes = λ book f.
-            over (state old.store.medium) (state new.store.medium) old new exchange taken out from to parsed answer meant fits sends
-            laid book
+            over ⊥ None (state old.store.medium) (state new.store.medium) old new exchange taken out from to parsed answer
+            (λ command sent good told commits. post.promises command sent good commits (done ∙ ap Done told)) (inl refl) meant fits sends
+            laid book f
             (parsed_now (state old.store.medium) old exchange.command.block.items book f
             ∙ ap (checked_for_fault (is_dead old.store.cached)) (sym is))
             (ended_by parsed (state old.store.medium) (state new.store.medium) taken old new answer out book (rw done at (post.line
             book f)));
         leaves = laid.phase _ _ (rw same_limit (few_sent parsed (unit_limit old) answer sends));
-        unchanged = post.unchanged;
+        medium = post.medium;
         passes = record { keeps = post.keeps; limit = same_limit; size = laid.size };
         parsed = λ wanted none. absurd (let e = none in cc);
       }
@@ -244,7 +263,7 @@ module _ {M : Type 0} {state : M → State} {Follows : M → M → Type 0} (old 
         goes = λ book f.
             let line = post.line book f in
             let pending : IsPending (state new.store.medium) command taken next old new book = rw (good, wants) at line in
-            record { stays = pending.stays; fits = pending.fits };
+            record { stays = pending.stays; fits = pending.fits; more = more_held book (write_held next command taken) };
         leaves = record {
           unmoved = unmoved;
           others = stays.others;
@@ -254,7 +273,7 @@ module _ {M : Type 0} {state : M → State} {Follows : M → M → Type 0} (old 
               (λ n out_n. can.takes n (intends ∙ rw good out_n)) (λ n in_n. fits n (rw good in_n)) (rw good at servable)
               (kept_parsed old exchange.command.block.items command (sym is ∙ good)) stays post.keeps;
         };
-        unchanged = post.unchanged;
+        medium = post.medium;
         passes = record { keeps = post.keeps; limit = same_limit; size = ap (λ (b : BulkState). b.size) unmoved };
         parsed = λ wanted some. sym is ∙ good ∙ same_command command next wanted some;
       }
@@ -279,6 +298,16 @@ module _ {M : Type 0} {state : M → State} {Follows : M → M → Type 0} (old 
   room_on : (n : ℕ) → moves wanted.command ≡ intent.In n → n ≤ length out
   room_on n in_n = rw long (can.room n in_n)
 
+  -- one that may promise has nothing to write
+  none_made : IsUnchanged (state old.store.medium) (state new.store.medium) → SendsUpTo 0 (state old.store.medium) (state new.store.medium)
+  none_made same = omega (arith, same.made_stays faults.Write, same.made_stays faults.Flush)
+
+  none_sent : (want : Want) → want ≡ wanted.want → MayPromise old wanted.command want
+      → SendsUpTo 0 (state old.store.medium) (state new.store.medium)
+  none_sent want.Room is may = absurd may
+  none_sent want.Commit is written = none_made (post.at_once (rw (← is) written))
+  none_sent want.Read is may = rw (← is) at post.makes.sent
+
   advances_over : (answer : Result ℕ Sense) → progress ≡ Done answer
       → CommandAdvanced state Follows old from exchange taken wanted None new to out
   advances_over answer done =
@@ -286,11 +315,19 @@ module _ {M : Type 0} {state : M → State} {Follows : M → M → Type 0} (old 
       let sends = rw done at post.sends in
       record {
         goes = λ book f.
-            over (state old.store.medium) (state new.store.medium) old new exchange taken out from to good answer can.sends room_on sends
-            laid book (parsed_by_book old exchange.command.block.items book (pending_size (state old.store.medium) old wanted.command taken
-            wanted.want book f) ∙ sym can.parsed)
+            let m = state old.store.medium in
+            let block = exchange.command.block.items in
+            over (MayPromise old wanted.command wanted.want) (write_held wanted.want wanted.command taken) m (state new.store.medium) old
+            new exchange taken out from to good answer
+            (λ command sent same told commits. post.promises sent (done ∙ ap Done told)
+            (let is : wanted.command ≡ command = (let e = same in cc) in rw is commits))
+            (held_parsed wanted.want wanted.command taken (is_dead old.store.cached) can.live) can.sends room_on sends laid book
+            (dropped m old wanted.command taken wanted.want book f)
+            (parsed_by_book old block book (pending_size m old wanted.command taken wanted.want book f) ∙ sym can.parsed)
             (rw done at (post.line book f));
         cuts = post.cuts;
+        unsent = none_sent wanted.want refl;
+        dead = post.dead;
         onward = record { fewer = λ same. absurd (let e = same in cc); follows = tt };
         leaves = laid.phase _ _ (rw same_limit_on (few_sent good (unit_limit old) answer sends));
         calls = post.makes;
@@ -305,7 +342,13 @@ module _ {M : Type 0} {state : M → State} {Follows : M → M → Type 0} (old 
       record {
         goes = λ book f.
             let pending : IsPending (state new.store.medium) wanted.command taken next old new book = rw wants at (post.line book f) in
-            record { stays = pending.stays; fits = pending.fits };
+            record {
+              stays = pending.stays;
+              fits = pending.fits;
+              more = still_more wanted.want next wanted.command taken new.write_cache (rw wants at post.onward) pending.wanted book;
+            };
+        unsent = none_sent wanted.want refl;
+        dead = post.dead;
         onward = record {
           fewer = λ same. post.fewer (let e = same in let w = wants in cc);
           follows = rw wants at post.onward;

@@ -1,36 +1,34 @@
 -- The device refused a call: what is pending ends with a write error, or waits for its blocks on a faulted unit.
 use Rattle.std.proofs.Common.{◌≡◌, ◌≤◌, ◌*◌, ℕ, Bool, true, false, List, [], length, take, Ok, Err, Result, Some, None, Option}
-use Rattle.std.proofs.Common.{arith, refl, sym, ap}
-use Rattle.std.proofs.Common.{◌∙◌, subst, inl, inr}
-use Rattle.medium.specs.{Medium.{State, IsSound}, Moments.{LeavesOnly}}
-use Rattle.medium.proofs.Moments.{started}
+use Rattle.std.proofs.Common.{arith, refl, sym, ap, ◌∙◌, subst, inl, inr}
+use Rattle.medium.specs.{Medium.{State, IsSound}, Moments.LeavesOnly}
 use Rattle.logical_blocks.specs.{Blocks.Write, Book.Book}
 use Rattle.scsi.specs.{Sense.Sense, SenseCodes.write_error, declared.command.Command.Command}
-use Rattle.scsi.specs.Rules.{UnitState, CarriesOut, Ticks, IsOutcome, checked, checked_for_fault, wants_writing}
+use Rattle.scsi.specs.Rules.{UnitState, CarriesOut, IsOutcome, checked, checked_for_fault, wants_writing}
 use Rattle.spec.specs.Exchange.{Line, Script, finished, taking, sending, moment_of, after_data}
-use Rattle.spec.specs.{UnitConversation.{Intends, on_line}, Lagging.{Lagging, settled, LagStepAt, Drops}}
-use Rattle.spec.specs.Disks.{event_write, pending_write}
+use Rattle.spec.specs.{UnitConversation.on_line, Lagging.{Lagging, settled, UnitLagStep}}
 use Rattle.spec.specs.Packets.{bytes_of}
 use Rattle.spec.specs.declared.event.Answer.TheVariants.{Ticked}
 use Rattle.spec.specs.declared.event.Event.TheVariants as event
-use Rattle.scsi_unit.specs.{Background.is_dead, Books.FoundWith, Faulting.{faulted_unit, faulted_state}}
+use Rattle.scsi_unit.specs.{Background.is_dead, Books.MayFind, Faulting.{faulted_unit, faulted_state}, Starting.layout_of}
 use Rattle.scsi_unit.specs.UnitValue.{UnitValue, unit_limit, state_of}
-use Rattle.scsi_unit.specs.Pending.{EachIsRefused, FitsPending, may_want}
+use Rattle.scsi_unit.specs.Pending.{EachIsRefused, FitsPending, may_want, write_held}
 use Rattle.scsi_unit.specs.declared.progress.Want.{Want}
 use Rattle.scsi_unit.specs.declared.progress.Want.TheVariants as want
-use Rattle.scsi_unit.proofs.{WantedCommands.{write_wants, commit_wants}, PendingLaws.parsed_once}
+use Rattle.scsi_unit.proofs.{WantedCommands.{write_wants, commit_wants}, PendingLaws.{dropped, parsed_once}, UnitTurns.limit_stays}
 use Rattle.bot_machine.specs.declared.exchange.Exchange.{Exchange}
 use Rattle.bot_machine.specs.declared.bulk_state.{BulkState.BulkState, Taking.Taking}
 use Rattle.bot_machine.specs.declared.bulk_state.Phase.TheVariants as phases
 use Rattle.bot_machine.specs.declared.pending.{Pending.Pending, Wanted.Wanted}
 use Rattle.bot_machine.specs.{Disk.{DiskValue, over, FitsDisk, Elapses}, Refinement.{LaysOutAnswer}}
-use Rattle.bot_machine.specs.LaggingDisk.{StandsPending, IsLagStepBy, LagStepMade}
+use Rattle.bot_machine.specs.LaggingDisk.{StandsPending, StandsWith, IsLagStepBy, LagStepMade, held_book, held_write}
 use Rattle.bot_machine.specs.LaggingParts.{AwaitsDevice, PendsOnDisk, PendsOnLine, PendsFor, PendsAtOnce, CommandCarriedOut, PendingRefused}
-use Rattle.bot_machine.specs.LaggingParts.{disk_of}
-use Rattle.bot_machine.proofs.{UnitLaws.{between_calls, keeps_writes}, LaggingParts.{pending_size, parsed_by_book}}
-use Rattle.bot_machine.proofs.LaggingGoing.{completes_wrapper, completes_data}
-use Rattle.bot_machine.proofs.LaggingPackets.{bare_of, left_data, passes_live}
-use Rattle.bot_machine.proofs.{LaggingEvents.{at_rest, its_write}, LaggingRequests.facts}
+use Rattle.bot_machine.specs.LaggingParts.{PendingCompleted, disk_of}
+use Rattle.bot_machine.proofs.{UnitLaws.between_calls, LaggingParts.{pending_size, parsed_by_book}}
+use Rattle.bot_machine.proofs.BooksGoOn.{few_promised, goes_on, more_held, same_more, stays_on}
+use Rattle.bot_machine.proofs.LaggingGoing.{completes_wrapper, completes_data, held_is, stands_data}
+use Rattle.bot_machine.proofs.LaggingPackets.{bare_of, passes_live}
+use Rattle.bot_machine.proofs.LaggingEvents.{at_packet, at_rest, facts, held_either, made, uncut}
 
 -- what is wanted of a device that writes
 writing : (wanted : Want) (command : Command) (taken : List ℕ) (write_cache : Bool) → may_want wanted command taken write_cache ≡ true
@@ -45,7 +43,7 @@ module _ {M : Type 0} (state : M → State) (unit new : UnitValue M) (from to : 
     (ends : EachIsRefused state unit new)
     (laid : LaysOutAnswer from e (let bad : Result ℕ Sense = Err write_error in bad) to) where
   refused_over : (out : List ℕ) (book : Book) → FitsPending (state unit.store.medium) unit wanted.command taken wanted.want book
-      → CommandCarriedOut true (state new.store.medium) e taken unit new from to out book
+      → CommandCarriedOut ⊥ (write_held wanted.want wanted.command taken) true (state new.store.medium) e taken unit new from to out book
   refused_over out book f =
       let block = e.command.block.items in
       let size = pending_size (state unit.store.medium) unit wanted.command taken wanted.want book f in
@@ -65,7 +63,11 @@ module _ {M : Type 0} (state : M → State) (unit new : UnitValue M) (from to : 
           after = laid.line buffer out left lies tt;
         };
         fits = o.2;
-        ours = (keeps_writes.life _ _ _ _ _ _ effect).ours;
+        on = goes_on ⊥ true block taken (state_of unit book) (state_of new o.0) (Err write_error) effect
+            (λ command sent passed commits bad. absurd (let e = bad in cc)) (write_held wanted.want wanted.command taken)
+            (rw good (held_either wanted.want wanted.command taken))
+            (few_promised (state unit.store.medium) unit book (write_held wanted.want wanted.command taken)
+            (dropped (state unit.store.medium) unit wanted.command taken wanted.want book f));
       }
 
 -- ---- by what was pending
@@ -77,14 +79,14 @@ module _ {M : Type 0} {state : M → State} (unit new : UnitValue M) (from to : 
       → LaysOutAnswer from e (let bad : Result ℕ Sense = Err write_error in bad) to
       → PendingRefused state (disk_of unit from before) (record { wrapper = Some e; wanted = wanted }) None (disk_of new to before)
   refused_wrapper before e pends laid = record {
-    goes = λ book s h. completes_wrapper true (state unit.store.medium) (state new.store.medium) unit new from to before before e
-        wanted pends
+    goes = λ book s h. completes_wrapper (state unit.store.medium) (state new.store.medium) unit new from to before before e wanted pends
         halted book s h (refused_over state unit new from to e [] wanted (512 * unit_limit unit) pends.pends writes ends laid before book
         h.fits);
     awaits = λ free. tt;
     medium = ap (λ (u : UnitValue M). u.store.medium) is;
     dead = ap (λ (u : UnitValue M). is_dead u.store.cached) is;
-    limit = ap (λ (u : UnitValue M). unit_limit u) is;
+    layout = ap (λ (u : UnitValue M). layout_of u.store.cached) is;
+    keeps = ap (λ (u : UnitValue M). u.store.cached.log.keeps) is;
     size = ap bytes_of laid.size;
   }
 
@@ -94,14 +96,16 @@ module _ {M : Type 0} {state : M → State} (unit new : UnitValue M) (from to : 
       → PendingRefused state (disk_of unit from before) (record { wrapper = None; wanted = wanted }) None (disk_of new to before)
   refused_data before t phase moment pends laid = record {
     goes = λ book s stands.
-        let h = subst (λ (l : Script). StandsPending None l (state unit.store.medium) (disk_of unit from before) wanted book s)
-        (left_data from before t phase) stands in
-        completes_data true (state unit.store.medium) (state new.store.medium) unit new from to before t wanted moment halted book s h
-        (refused_over state unit new (bare_of from) to t.exchange (take t.filled before) wanted 0 pends writes ends laid [] book h.fits);
+        let h = stands_data from before t wanted phase (state unit.store.medium) unit book s stands in
+        subst (λ (w : Option Write). PendingCompleted ⊥ w true (state new.store.medium) (disk_of new to before) book s)
+        (sym (held_is from before t wanted phase))
+        (completes_data (state unit.store.medium) (state new.store.medium) unit new from to before t wanted moment halted book s h
+        (refused_over state unit new (bare_of from) to t.exchange (take t.filled before) wanted 0 pends writes ends laid [] book h.fits));
     awaits = λ free. tt;
     medium = ap (λ (u : UnitValue M). u.store.medium) is;
     dead = ap (λ (u : UnitValue M). is_dead u.store.cached) is;
-    limit = ap (λ (u : UnitValue M). unit_limit u) is;
+    layout = ap (λ (u : UnitValue M). layout_of u.store.cached) is;
+    keeps = ap (λ (u : UnitValue M). u.store.cached.log.keeps) is;
     size = ap bytes_of laid.size;
   }
 
@@ -207,31 +211,31 @@ module _ {M : Type 0} (state : M → State) (old new : DiskValue M) (is : new �
   stands_faulted wanted reading None (sending packets halt status) here book s h = absurd h
 
   -- nothing is pending
-  pub stops : ((m : M) → IsSound (state m))
-      → IsLagStepBy true (state old.unit.store.medium) (state new.unit.store.medium) (record { disk = old; pending = None })
-      event.Tick Ticked
-      (record { disk = new; pending = None })
-  stops sound = record {
+  pub stops : {Promises : Type 0} → ((m : M) → IsSound (state m))
+      → IsLagStepBy Promises true (state old.unit.store.medium) (state new.unit.store.medium) (record { disk = old; pending = None })
+      event.Tick Ticked (record { disk = new; pending = None })
+  stops {Promises} sound = record {
     proceeds = λ book s h.
         let before = state old.unit.store.medium in
-        let P = FoundWith before.size book None in
-        rw h.is (record {
-          later = book;
-          next = settled (over new book);
-          step = record {
-            step = (refl, inr (record { cause = inl refl; after = faults book }), ap (λ (d : DiskValue M). d.line) is);
-            pending = refl;
-          };
-          stands = record { is = refl; fits = fits book h.fits };
-          ours = refl;
-          cuts = λ ours. subst (λ (m : M). LeavesOnly P before (state m)) (sym (ap (λ (d : DiskValue M). d.unit.store.medium) is))
-              (started P before (sound old.unit.store.medium) (between_calls before old.unit book h.fits ours));
-          at_exit = λ ours. between_calls (state new.unit.store.medium) new.unit book (fits book h.fits) ours;
-        });
+        let next = settled (over new book) in
+        made true before (state new.unit.store.medium) event.Tick Ticked (record { disk = old; pending = None })
+        (record { disk = new; pending = None }) book s tt tt h
+        (λ ours. uncut state sound old.unit.store.medium new.unit.store.medium (ap (λ (d : DiskValue M). d.unit.store.medium) is)
+        (MayFind before.size book) (between_calls before old.unit book h.fits ours))
+        book next
+        (subst (λ (x : Lagging UnitState). UnitLagStep true x event.Tick Ticked next) (sym h.is) (record {
+          step = (refl, inr (record { cause = inl refl; after = faults book }), ap (λ (d : DiskValue M). d.line) is);
+          pending = refl;
+        }))
+        (record { is = refl; fits = fits book h.fits })
+        (stays_on Promises (is_dead new.unit.store.cached) None None book (more_held book None));
     elapses = subst (λ (m : M). Elapses (state old.unit.store.medium) (state m)) (sym (ap (λ (d : DiskValue M). d.unit.store.medium) is))
         (record { failures_stay = omega arith; size_stays = refl });
     limit_stays = ap (λ (d : DiskValue M). unit_limit d.unit) is;
     packets_stay = ap (λ (d : DiskValue M). d.line.packet_size) is;
+    layout_stays = ap (λ (d : DiskValue M). layout_of d.unit.store.cached) is;
+    keeps_stays = ap (λ (d : DiskValue M). d.unit.store.cached.log.keeps) is;
+    dead_stays = λ was. ap (λ (d : DiskValue M). is_dead d.unit.store.cached) is;
   }
 
   -- a READ waits on
@@ -239,6 +243,7 @@ module _ {M : Type 0} (state : M → State) (old new : DiskValue M) (is : new �
       → PendsOnDisk pending.wrapper new pending.wanted → PendingRefused state old pending (Some pending) new
   waits_faulted pending reading p later = record {
     goes = λ book s h. (
+      ap (λ (d : DiskValue M). held_write (Some pending) d.line.left) (sym is),
       subst (λ (l : Script). StandsPending pending.wrapper l (state new.unit.store.medium) new pending.wanted book
           (record s { now = record s.now { unit = state_of new.unit book } })) (sym (ap (λ (d : DiskValue M). d.line.left) is))
           (stands_faulted pending.wanted reading pending.wrapper old.line.left refl book s h),
@@ -251,7 +256,8 @@ module _ {M : Type 0} (state : M → State) (old new : DiskValue M) (is : new �
     awaits = λ free. (ap (λ (d : DiskValue M). d.line.out_halted) is ∙ free, later);
     medium = ap (λ (d : DiskValue M). d.unit.store.medium) is;
     dead = ap (λ (d : DiskValue M). is_dead d.unit.store.cached) is;
-    limit = ap (λ (d : DiskValue M). unit_limit d.unit) is;
+    layout = ap (λ (d : DiskValue M). layout_of d.unit.store.cached) is;
+    keeps = ap (λ (d : DiskValue M). d.unit.store.cached.log.keeps) is;
     size = ap (λ (d : DiskValue M). d.line.packet_size) is;
   }
 
@@ -259,58 +265,47 @@ module _ {M : Type 0} (state : M → State) (old new : DiskValue M) (is : new �
 
 module _ {M : Type 0} {state : M → State} (sound : (m : M) → IsSound (state m)) (old new : DiskValue M) (pending : Pending)
     (awaits : AwaitsDevice old (Some pending)) where
-  cuts_of : new.unit.store.medium ≡ old.unit.store.medium → (book : Book) (s : Lagging UnitState)
-      → StandsPending pending.wrapper old.line.left (state old.unit.store.medium) old pending.wanted book s → book.ours ≡ true
-      → LeavesOnly (FoundWith (state old.unit.store.medium).size book (event_write s.pending s.now event.Tick))
+  uncut_pending : new.unit.store.medium ≡ old.unit.store.medium → (book : Book) (s : Lagging UnitState)
+      → StandsWith (Some pending) (state old.unit.store.medium) old book s → book.ours ≡ true
+      → LeavesOnly (MayFind (state old.unit.store.medium).size (held_book (record { disk = old; pending = Some pending }) book))
       (state old.unit.store.medium) (state new.unit.store.medium)
-  cuts_of same book s h ours =
-      let before = state old.unit.store.medium in
-      let f = facts before old awaits.0 pending.wanted book s pending.wrapper h awaits.1 in
-      let P = FoundWith before.size book (pending_write s.pending s.now) in
-      subst (λ (w : Option Write). LeavesOnly (FoundWith before.size book w) before (state new.unit.store.medium))
-      (sym (its_write s.pending f.packet s.now event.Tick f.pending_is))
-      (subst (λ (m : M). LeavesOnly P before (state m)) (sym same)
-      (started P before (sound old.unit.store.medium) (at_rest before old (Some pending) book s awaits h ours)))
+  uncut_pending same book s h ours =
+      uncut state sound old.unit.store.medium new.unit.store.medium same
+      (MayFind (state old.unit.store.medium).size (held_book (record { disk = old; pending = Some pending }) book))
+      (at_rest (state old.unit.store.medium) old (Some pending) book s awaits h ours)
 
   refuses_as : (result : Option Pending) → PendingRefused state old pending result new → (book : Book) (s : Lagging UnitState)
-      → StandsPending pending.wrapper old.line.left (state old.unit.store.medium) old pending.wanted book s
-      → LagStepMade true (state old.unit.store.medium) (state new.unit.store.medium) event.Tick Ticked
-      (record { disk = new; pending = result }) book s
+      → StandsWith (Some pending) (state old.unit.store.medium) old book s
+      → LagStepMade ⊥ true (state old.unit.store.medium) (state new.unit.store.medium) event.Tick Ticked
+      (record { disk = old; pending = Some pending }) (record { disk = new; pending = result }) book s
   refuses_as None r book s h =
-      let done = r.goes book s h in
-      let next = settled (over new done.later) in
-      record {
-        later = done.later;
-        next = next;
-        step = subst (λ (p : Option (List ℕ)). LagStepAt Intends CarriesOut Ticks Drops true p s event.Tick Ticked next)
-            (sym done.pending_is) (inr (record { answered = refl; step = done.step; after = refl }));
-        stands = record { is = refl; fits = done.fits };
-        ours = done.ours;
-        cuts = cuts_of r.medium book s h;
-        at_exit = λ ours. between_calls (state new.unit.store.medium) new.unit done.later done.fits (done.ours ∙ ours);
-      }
+      let o = r.goes book s h in
+      let next = settled (over new o.later) in
+      made true (state old.unit.store.medium) (state new.unit.store.medium) event.Tick Ticked
+      (record { disk = old; pending = Some pending }) (record { disk = new; pending = None }) book s awaits tt h
+      (uncut_pending r.medium book s h) o.later next
+      (at_packet true s next event.Tick Ticked o.packet o.pending_is (inr (record { answered = refl; step = o.step; after = refl })))
+      (record { is = refl; fits = o.fits }) o.on
   refuses_as (Some still) r book s h =
-      let f = facts (state old.unit.store.medium) old awaits.0 pending.wanted book s pending.wrapper h awaits.1 in
-      let goes = r.goes book s h in
+      let f = facts (state old.unit.store.medium) old pending book s awaits h in
+      let o = r.goes book s h in
       let next : Lagging UnitState = record s { now = record s.now { unit = state_of new.unit book } } in
-      record {
-        later = book;
-        next = next;
-        step = subst (λ (p : Option (List ℕ)). LagStepAt Intends CarriesOut Ticks Drops true p s event.Tick Ticked next)
-            (sym f.pending_is) (inl (record { step = (refl, inr goes.1, refl); pending = refl }));
-        stands = goes.0;
-        ours = refl;
-        cuts = cuts_of r.medium book s h;
-        at_exit = at_rest (state new.unit.store.medium) new (Some still) book next (r.awaits awaits.0) goes.0;
-      }
+      made true (state old.unit.store.medium) (state new.unit.store.medium) event.Tick Ticked
+      (record { disk = old; pending = Some pending }) (record { disk = new; pending = Some still }) book s awaits (r.awaits awaits.0) h
+      (uncut_pending r.medium book s h) book next
+      (at_packet true s next event.Tick Ticked f.packet f.pending_is (inl (record { step = (refl, inr o.2, refl); pending = refl })))
+      o.1 (stays_on _ _ _ _ book (same_more book _ _ o.0))
 
   pub refuses : (result : Option Pending) → PendingRefused state old pending result new
-      → IsLagStepBy true (state old.unit.store.medium) (state new.unit.store.medium) (record { disk = old; pending = Some pending })
+      → IsLagStepBy ⊥ true (state old.unit.store.medium) (state new.unit.store.medium) (record { disk = old; pending = Some pending })
       event.Tick Ticked (record { disk = new; pending = result })
   refuses result r = record {
     proceeds = refuses_as result r;
     elapses = subst (λ (m : M). Elapses (state old.unit.store.medium) (state m)) (sym r.medium)
         (record { failures_stay = omega arith; size_stays = refl });
-    limit_stays = r.limit;
+    limit_stays = limit_stays old.unit.store.cached new.unit.store.cached r.layout;
     packets_stay = r.size;
+    layout_stays = r.layout;
+    keeps_stays = r.keeps;
+    dead_stays = λ was. r.dead;
   }

@@ -1,65 +1,21 @@
 -- Control requests where the device may be behind: a class reset drops what is pending, and no other changes it.
-use Rattle.std.proofs.Common.{◌≡◌, ◌⊎◌, ℕ, false, List, [], length, Some, None, Option, arith, refl, sym, ap, ◌∙◌, subst, inl, inr}
-use Rattle.medium.specs.{Medium.{State, IsSound}, Moments.{LeavesOnly}}
-use Rattle.medium.proofs.Moments.{started}
+use Rattle.std.proofs.Common.{◌≡◌, ◌⊎◌, ℕ, false, List, length, Some, None, Option, arith, refl, sym, ap, ◌∙◌, subst, inl, inr}
+use Rattle.medium.{specs.Medium.{State, IsSound}, proofs.Moments.started}
 use Rattle.logical_blocks.specs.{Blocks.Write, Book.{Book, with_progress}}
-use Rattle.scsi.specs.Rules.{UnitState, CarriesOut, Ticks, write_of_command}
+use Rattle.scsi.specs.Rules.{UnitState, CarriesOut, Ticks}
 use Rattle.spec.specs.{declared.event.Answer.Answer, declared.event.Answer.TheVariants.Ack}
 use Rattle.spec.specs.declared.event.Event.TheVariants as event
 use Rattle.spec.specs.Requests.{Request, setup_packet, mass_storage_reset, get_max_lun, clear_halt, get_status}
-use Rattle.spec.specs.{Exchange.{Line, Script, finished, taking, sending, after_request, request_answer}, Conversation.{SetupStep}}
-use Rattle.spec.specs.{UnitConversation.{Intends, on_line}, Lagging.{Lagging, settled, LagStepAt, PacketDropped, Drops}}
-use Rattle.spec.specs.Disks.{pending_write}
+use Rattle.spec.specs.{Exchange.{Line, Script, finished, taking, sending, after_request, request_answer}, Conversation.SetupStep}
+use Rattle.spec.specs.{UnitConversation.{Intends, on_line}, Lagging.{Lagging, settled, PacketDropped, Drops}, Disks.pending_write}
 use Rattle.spec.specs.declared.case.Endpoint.TheVariants as endpoint
-use Rattle.scsi_unit.specs.{Books.FoundWith, Pending.FitsPending, Serving.has_refused, UnitValue.{unit_limit, state_of}}
-use Rattle.scsi_unit.proofs.PendingLaws.{dropped}
+use Rattle.scsi_unit.specs.{Background.is_dead, Books.MayFind, Serving.has_refused, UnitValue.{UnitValue, state_of}}
 use Rattle.transport_laws.proofs.StruckTicks.{one_request}
 use Rattle.bot_machine.specs.declared.exchange.Exchange.{Exchange}
 use Rattle.bot_machine.specs.declared.pending.{Pending.Pending, Wanted.Wanted}
-use Rattle.bot_machine.specs.{Disk.{DiskValue, IsStepBy}, LaggingDisk.{StandsPending, IsLagStep}}
+use Rattle.bot_machine.specs.{Disk.DiskValue, LaggingDisk.{StandsPending, IsLagStep, held_write}}
 use Rattle.bot_machine.specs.LaggingParts.{AwaitsDevice, PendsOnDisk, PendsOnLine}
-use Rattle.scsi_unit.specs.Background.{Settle}
-use Rattle.bot_machine.proofs.{UnitLaws.between_calls, LaggingGoing.{wrapper_write, data_write}, LaggingEvents.{at_rest, its_write, plain}}
-
--- ---- what is known of a command that is pending
-
-pub record Facts {M : Type 0} (m : State) (disk : DiskValue M) (wanted : Wanted) (book : Book) (s : Lagging UnitState) : Type 0 where
-  pub packet : List ℕ
-  pub taken : List ℕ
-  pub pending_is : s.pending ≡ Some packet
-  pub unit_is : s.now.unit ≡ state_of disk.unit book
-  pub line_is : s.now.line ≡ record disk.line { left = s.now.line.left }
-  pub fits : FitsPending m disk.unit wanted.command taken wanted.want book
-  pub write : write_of_command wanted.command taken ≡ pending_write s.pending s.now
-
-module _ {M : Type 0} (m : State) (disk : DiskValue M) (halted : disk.line.out_halted ≡ false) (wanted : Wanted) (book : Book)
-    (s : Lagging UnitState) where
-  facts_on : (left : Script) → StandsPending None left m disk wanted book s
-      → PendsOnDisk None (record disk { line = record disk.line { left = left } }) wanted → Facts m disk wanted book s
-  facts_on finished h p = absurd h
-  facts_on (taking case command intended taken due) h p = record {
-    packet = h.packet;
-    taken = taken;
-    pending_is = ap (λ (x : Lagging UnitState). x.pending) h.is;
-    unit_is = ap (λ (x : Lagging UnitState). x.now.unit) h.is;
-    line_is = subst (λ (x : Lagging UnitState). x.now.line ≡ record disk.line { left = x.now.line.left }) (sym h.is) refl;
-    fits = h.fits;
-    write = data_write m disk (record { case = case; command = command; intended = intended }) taken wanted p.2 halted s book h;
-  }
-  facts_on (sending packets halt status) h p = absurd h
-
-  pub facts : (wrapper : Option Exchange) → StandsPending wrapper disk.line.left m disk wanted book s → PendsOnDisk wrapper disk wanted
-      → Facts m disk wanted book s
-  facts None h p = facts_on disk.line.left h p
-  facts (Some e) h p = record {
-    packet = h.packet;
-    taken = [];
-    pending_is = ap (λ (x : Lagging UnitState). x.pending) h.is;
-    unit_is = ap (λ (x : Lagging UnitState). x.now.unit) h.is;
-    line_is = subst (λ (x : Lagging UnitState). x.now.line ≡ record disk.line { left = x.now.line.left }) (sym h.is) refl;
-    fits = h.fits;
-    write = wrapper_write m (unit_limit disk.unit) disk e wanted p halted s book h;
-  }
+use Rattle.bot_machine.proofs.{BooksGoOn.drops_on, LaggingEvents.{at_packet, at_rest, facts, fits_held, held_now, idle, idle_settled, made}}
 
 -- ---- a class reset
 
@@ -74,61 +30,49 @@ reset_only packet old answer new (inl asked) is =
 reset_only packet old answer new (inr refused) is = absurd (refused.unknown mass_storage_reset is)
 
 -- what it leaves of the unit
-drops_as : (s : Lagging UnitState) (packet : List ℕ) (unit : Book → UnitState) (book next : Book) (write : Option Write)
-    → ((b : Book) → unit b ≡ record (unit book) { book = b }) → (unit book).book ≡ book → s.now.unit ≡ unit book
-    → write ≡ pending_write s.pending s.now → s.pending ≡ Some packet → (next ≡ book) ⊎ (next ≡ with_progress book write)
-    → Drops s.now packet (unit next)
-drops_as s packet unit book next write by its is same pending (inl stays) = inl (ap unit stays ∙ sym is)
-drops_as s packet unit book next write by its is same pending (inr grows) =
-    let here : write ≡ pending_write (Some packet) s.now = same ∙ ap (λ (p : Option (List ℕ)). pending_write p s.now) pending in
-    inr (ap unit (grows ∙ ap (with_progress book) here) ∙ by (with_progress book (pending_write (Some packet) s.now))
-    ∙ subst (λ (u : UnitState). record (unit book) { book = with_progress book (pending_write (Some packet) s.now) }
-    ≡ record u { book = with_progress u.book (pending_write (Some packet) s.now) }) (sym is)
-    (ap (λ (b : Book). record (unit book) { book = with_progress b (pending_write (Some packet) s.now) }) (sym its)))
+drops_as : {M : Type 0} (unit : UnitValue M) (s : Lagging UnitState) (packet : List ℕ) (book : Book) (held : Option Write)
+    → s.now.unit ≡ state_of unit book → s.pending ≡ Some packet → (held ≡ None) ⊎ (held ≡ pending_write s.pending s.now)
+    → Drops s.now packet (state_of unit (with_progress book held))
+drops_as unit s packet book held is pending (inl none) = inl (rw (none, is) refl)
+drops_as unit s packet book held is pending (inr same) =
+    let here = same ∙ ap (λ (p : Option (List ℕ)). pending_write p s.now) pending in
+    inr (rw here (subst (λ (u : UnitState). state_of unit (with_progress book (pending_write (Some packet) s.now))
+    ≡ record u { book = with_progress u.book (pending_write (Some packet) s.now) }) (sym is) refl))
 
-dropped_ours : (book next : Book) (write : Option Write) → (next ≡ book) ⊎ (next ≡ with_progress book write) → next.ours ≡ book.ours
-dropped_ours book next write (inl stays) = ap (λ (b : Book). b.ours) stays
-dropped_ours book next None (inr grows) = ap (λ (b : Book). b.ours) grows
-dropped_ours book next (Some w) (inr grows) = ap (λ (b : Book). b.ours) grows
-
-module _ {M : Type 0} (m : State) (sound : IsSound m) (disk : DiskValue M) (pending : Pending) (awaits : AwaitsDevice disk (Some pending))
-    (packet : List ℕ) (answer : Answer) (line : Line) (request : SetupStep packet disk.line answer line) where
+module _ {M : Type 0} {Promises : Type 0} (m : State) (sound : IsSound m) (disk : DiskValue M) (pending : Pending)
+    (awaits : AwaitsDevice disk (Some pending)) (packet : List ℕ) (answer : Answer) (line : Line)
+    (request : SetupStep packet disk.line answer line) where
   pub drops : packet ≡ setup_packet mass_storage_reset
-      → IsLagStep m m (record { disk = disk; pending = Some pending }) (event.Setup packet) answer
+      → IsLagStep Promises m m (record { disk = disk; pending = Some pending }) (event.Setup packet) answer
       (record { disk = record disk { line = line }; pending = None })
   drops is =
       let only = reset_only packet disk.line answer line request is in
+      let held = held_write (Some pending) disk.line.left in
       record {
         proceeds = λ book s h.
-            let f = facts m disk awaits.0 pending.wanted book s pending.wrapper h awaits.1 in
-            let d = dropped m disk.unit pending.wanted.command f.taken pending.wanted.want book f.fits in
-            let next = settled (on_line line (state_of disk.unit d.0)) in
+            let f = facts m disk pending book s awaits h in
+            let next = settled (on_line line (state_of disk.unit (with_progress book held))) in
             let dropping : PacketDropped Intends CarriesOut Ticks Drops (has_refused m m) f.packet packet s answer next = record {
               spelled = is;
               answered = only.0;
               line = only.1 ∙ subst (λ (l : Line). after_request mass_storage_reset disk.line ≡ after_request mass_storage_reset l)
                   (sym f.line_is) refl;
-              unit = drops_as s f.packet (state_of disk.unit) book d.0 (write_of_command pending.wanted.command f.taken) (λ b. refl) refl
-                  f.unit_is f.write f.pending_is d.1;
+              unit = drops_as disk.unit s f.packet book held f.unit_is f.pending_is (held_now m disk (Some pending) book s awaits h);
               after = refl;
             } in
-            let ours_next : d.0.ours ≡ book.ours = dropped_ours book d.0 (write_of_command pending.wanted.command f.taken) d.1 in
-            record {
-              later = d.0;
-              next = next;
-              step = subst (λ (p : Option (List ℕ)). LagStepAt Intends CarriesOut Ticks Drops (has_refused m m) p s
-                  (event.Setup packet) answer next) (sym f.pending_is) (inr dropping);
-              stands = record { is = refl; fits = d.2 };
-              ours = ours_next;
-              cuts = λ ours. subst (λ (w : Option Write). LeavesOnly (FoundWith m.size book w) m m) (sym (its_write s.pending
-                  f.packet s.now (event.Setup packet) f.pending_is))
-                  (started (FoundWith m.size book (pending_write s.pending s.now)) m sound
-                  (at_rest m disk (Some pending) book s awaits h ours));
-              at_exit = λ ours. between_calls m disk.unit d.0 d.2 (ours_next ∙ ours);
-            };
+            made (has_refused m m) m m (event.Setup packet) answer (record { disk = disk; pending = Some pending })
+            (record { disk = record disk { line = line }; pending = None }) book s awaits tt h
+            (λ ours. started (MayFind m.size (with_progress book held)) m sound (at_rest m disk (Some pending) book s awaits h ours))
+            (with_progress book held) next
+            (at_packet (has_refused m m) s next (event.Setup packet) answer f.packet f.pending_is (inr dropping))
+            (record { is = refl; fits = fits_held m disk (Some pending) book s awaits h })
+            (drops_on Promises (is_dead disk.unit.store.cached) held book);
         elapses = record { failures_stay = omega arith; size_stays = refl };
         limit_stays = refl;
         packets_stay = ap (λ (l : Line). l.packet_size) only.1;
+        layout_stays = refl;
+        keeps_stays = refl;
+        dead_stays = λ dead. dead;
       }
 
 -- ---- any other request
@@ -250,74 +194,61 @@ pends_on disk line wanted left (Some e) p = record {
 }
 pends_on disk line wanted left None p = pends_at disk line wanted line.left disk.line.left left p
 
-module _ {M : Type 0} (m : State) (sound : IsSound m) (disk : DiskValue M) (pending : Pending) (awaits : AwaitsDevice disk (Some pending))
-    (packet : List ℕ) (answer : Answer) (line : Line) (request : SetupStep packet disk.line answer line)
-    (not : packet ≡ setup_packet mass_storage_reset → ⊥) where
-  others : (left : Script) → SetupStep packet (record disk.line { left = left }) answer (record line { left = left })
-      × (line.left ≡ disk.line.left) × (disk.line.out_halted ≡ false → line.out_halted ≡ false)
-  others left = other_left packet disk.line answer line request not left
+-- it is awaited on the new line too
+pub still_awaits : {M : Type 0} (disk : DiskValue M) (pending : Pending) → AwaitsDevice disk (Some pending) → (packet : List ℕ)
+    (answer : Answer) (line : Line) → SetupStep packet disk.line answer line → (packet ≡ setup_packet mass_storage_reset → ⊥)
+    → AwaitsDevice (record disk { line = line }) (Some pending)
+still_awaits disk pending awaits packet answer line request not =
+    let o = other_left packet disk.line answer line request not disk.line.left in
+    (o.2 awaits.0, pends_on disk line pending.wanted o.1 pending.wrapper awaits.1)
 
-  pub still_awaits : AwaitsDevice (record disk { line = line }) (Some pending)
-  still_awaits =
-      let o = others disk.line.left in (o.2 awaits.0, pends_on disk line pending.wanted o.1 pending.wrapper awaits.1)
-
+module _ {M : Type 0} {Promises : Type 0} (m : State) (sound : IsSound m) (disk : DiskValue M) (pending : Pending)
+    (awaits : AwaitsDevice disk (Some pending)) (packet : List ℕ) (answer : Answer) (line : Line)
+    (request : SetupStep packet disk.line answer line) (not : packet ≡ setup_packet mass_storage_reset → ⊥) where
   pub asks_on : line.packet_size ≡ disk.line.packet_size
-      → IsLagStep m m (record { disk = disk; pending = Some pending }) (event.Setup packet) answer
+      → IsLagStep Promises m m (record { disk = disk; pending = Some pending }) (event.Setup packet) answer
       (record { disk = record disk { line = line }; pending = Some pending })
-  asks_on size = record {
-    proceeds = λ book s h.
-        let f = facts m disk awaits.0 pending.wanted book s pending.wrapper h awaits.1 in
-        let o = others s.now.line.left in
-        let next : Lagging UnitState = record {
-          now = on_line (record line { left = s.now.line.left }) s.now.unit;
-          pending = s.pending;
-        } in
-        let stands = subst (λ (l : Script). StandsPending pending.wrapper l m (record disk { line = line }) pending.wanted book next)
-        (sym o.1)
-        (stands_on m disk line pending.wanted book s size o.1 pending.wrapper h) in
-        record {
-          later = book;
-          next = next;
-          step = subst (λ (p : Option (List ℕ)). LagStepAt Intends CarriesOut Ticks Drops (has_refused m m) p s (event.Setup packet)
-              answer next) (sym f.pending_is) (inl (
-                not,
-                record {
-                  step = (subst (λ (l : Line). SetupStep packet l answer next.now.line) (sym f.line_is) o.0, refl);
-                  pending = refl;
-                },
-              ));
-          stands = stands;
-          ours = refl;
-          cuts = λ ours. subst (λ (w : Option Write). LeavesOnly (FoundWith m.size book w) m m)
-              (sym (its_write s.pending f.packet s.now (event.Setup packet) f.pending_is))
-              (started (FoundWith m.size book (pending_write s.pending s.now)) m sound (at_rest m disk (Some pending) book s awaits h
-              ours));
-          at_exit = at_rest m (record disk { line = line }) (Some pending) book next still_awaits stands;
-        };
-    elapses = record { failures_stay = omega arith; size_stays = refl };
-    limit_stays = refl;
-    packets_stay = size;
-  }
+  asks_on size =
+      let same = (other_left packet disk.line answer line request not disk.line.left).1 in
+      idle m sound disk.unit disk.line line (Some pending) (event.Setup packet) answer awaits
+      (still_awaits disk pending awaits packet answer line request not)
+      (ap (λ (l : Script). held_write (Some pending) l) (sym same)) size (λ book s h.
+      let f = facts m disk pending book s awaits h in
+      let o = other_left packet disk.line answer line request not s.now.line.left in
+      let next : Lagging UnitState = record {
+        now = on_line (record line { left = s.now.line.left }) s.now.unit;
+        pending = s.pending;
+      } in (
+        next,
+        at_packet (has_refused m m) s next (event.Setup packet) answer f.packet f.pending_is (inl (
+          not,
+          record {
+            step = (subst (λ (l : Line). SetupStep packet l answer next.now.line) (sym f.line_is) o.0, refl);
+            pending = refl;
+          },
+        )),
+        subst (λ (l : Script). StandsPending pending.wrapper l m (record disk { line = line }) pending.wanted book next) (sym same)
+            (stands_on m disk line pending.wanted book s size same pending.wrapper h),
+      ))
 
 -- ---- whether something is pending or not
 
-module _ {M : Type 0} (state : M → State) (sound : (m : M) → IsSound (state m)) (disk new : DiskValue M) (packet : List ℕ)
-    (answer : Answer)
-    (step : IsStepBy Settle (state disk.unit.store.medium) (state new.unit.store.medium) disk (event.Setup packet) answer new)
-    (request : SetupStep packet disk.line answer new.line) (others : new ≡ record disk { line = new.line }) where
+module _ {M : Type 0} {Promises : Type 0} (m : State) (sound : IsSound m) (disk : DiskValue M) (packet : List ℕ) (answer : Answer)
+    (line : Line) (request : SetupStep packet disk.line answer line) (size : line.packet_size ≡ disk.line.packet_size) where
+  asks_settled : IsLagStep Promises m m (record { disk = disk; pending = None }) (event.Setup packet) answer
+      (record { disk = record disk { line = line }; pending = None })
+  asks_settled =
+      idle_settled m sound disk.unit disk.line line (event.Setup packet) answer size
+      (λ book. record { step = (request, refl); pending = refl })
+
   pub resets : packet ≡ setup_packet mass_storage_reset → (pending : Option Pending) → AwaitsDevice disk pending
-      → IsLagStep (state disk.unit.store.medium) (state new.unit.store.medium) (record { disk = disk; pending = pending })
-      (event.Setup packet) answer (record { disk = new; pending = None })
-  resets is None awaits =
-      plain Settle (state disk.unit.store.medium) (state new.unit.store.medium) disk new (event.Setup packet) answer step
-  resets is (Some pending) awaits =
-      rw others (drops (state disk.unit.store.medium) (sound disk.unit.store.medium) disk pending awaits packet answer new.line request is)
+      → IsLagStep Promises m m (record { disk = disk; pending = pending }) (event.Setup packet) answer
+      (record { disk = record disk { line = line }; pending = None })
+  resets is None awaits = asks_settled
+  resets is (Some pending) awaits = drops m sound disk pending awaits packet answer line request is
 
   pub asks : (packet ≡ setup_packet mass_storage_reset → ⊥) → (pending : Option Pending) → AwaitsDevice disk pending
-      → IsLagStep (state disk.unit.store.medium) (state new.unit.store.medium) (record { disk = disk; pending = pending })
-      (event.Setup packet) answer (record { disk = new; pending = pending })
-  asks not None awaits =
-      plain Settle (state disk.unit.store.medium) (state new.unit.store.medium) disk new (event.Setup packet) answer step
-  asks not (Some pending) awaits =
-      rw others (asks_on (state disk.unit.store.medium) (sound disk.unit.store.medium) disk pending awaits packet answer new.line request
-      not step.packets_stay)
+      → IsLagStep Promises m m (record { disk = disk; pending = pending }) (event.Setup packet) answer
+      (record { disk = record disk { line = line }; pending = pending })
+  asks not None awaits = asks_settled
+  asks not (Some pending) awaits = asks_on m sound disk pending awaits packet answer line request not size

@@ -10,9 +10,11 @@ pub mod Policy
 pub mod LifeActions
 pub mod LifeStarts
 pub mod LifeRuns
+pub mod BooksGoOn
 pub mod LaggingParts
 pub mod LaggingPackets
 pub mod LaggingGoing
 pub mod LaggingEvents
+pub mod LaggingRuns
 pub mod LaggingRequests
 pub mod LaggingRefusals

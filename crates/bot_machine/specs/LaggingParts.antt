@@ -1,23 +1,24 @@
 -- What the parts of an event do to the unit and to the line where the device may be behind: they
 -- begin a command, and go on with it.
-use Rattle.std.specs.Prelude.{⊤, ◌≡◌, ◌≤◌, ◌*◌, ℕ, Bool, true, false, List, [], length, Option}
-use Rattle.std.specs.Prelude.{Some, None, Ok}
-use Rattle.medium.specs.{Medium.State, Moments.{IsUnchanged, LeavesOnly}}
-use Rattle.logical_blocks.specs.Book.{Book}
+use Rattle.std.specs.Prelude.{⊤, ◌≡◌, ◌≤◌, ◌*◌, ◌++◌, ℕ, Bool, true, false, List, [], length}
+use Rattle.std.specs.Prelude.{Option, Some, None, Ok}
+use Rattle.medium.specs.{Medium.State, Moments.LeavesOnly, Sent.SendsUpTo}
+use Rattle.logical_blocks.specs.{Blocks.Write, Book.{Book, with_progress}}
 use Rattle.scsi.specs.{declared.command.Command.Command, Rules.{CarriesOut, Ticks}}
-use Rattle.scsi.specs.Rules.{UnitState, checked_for_fault, moves, write_of_command}
-use Rattle.scsi.specs.Rules.{IsFaulted}
+use Rattle.scsi.specs.Rules.{UnitState, IsFaulted, checked_for_fault, moves}
 use Rattle.spec.specs.{Cases.IsCase}
 use Rattle.spec.specs.Conversation.{IsCarriedOut, OutStep}
 use Rattle.spec.specs.{declared.event.Answer.Answer, declared.event.Answer.TheVariants.Ack}
-use Rattle.spec.specs.{Lagging.{AcknowledgesAny, Lagging}, Disks.pending_write}
+use Rattle.spec.specs.Lagging.{AcknowledgesAny, Lagging}
 use Rattle.spec.specs.Exchange.{Script, finished, taking, moment_of, at_once, after_data}
 use Rattle.spec.specs.UnitConversation.{Intends, on_line, way_of}
 use Rattle.spec.specs.declared.way.Way.TheVariants as ways
 use Rattle.scsi.specs.declared.intent.Intent.TheVariants as intent
-use Rattle.scsi_unit.specs.{Background.is_dead, Books.FoundWith, Serving.{command_for, has_refused}}
+use Rattle.scsi_unit.specs.{Background.is_dead, Books.MayFind, Serving.{command_for, has_refused}}
+use Rattle.scsi_unit.specs.{Laws.IsSameLife, Starting.layout_of}
 use Rattle.scsi_unit.specs.UnitValue.{UnitValue, unit_limit, intention_of, state_of, FitsUnit}
-use Rattle.scsi_unit.specs.Pending.{CanWant, FitsPending, StepCalls, StepKeeps}
+use Rattle.scsi_unit.specs.Pending.{CanWant, FitsPending, MayPromise, StepCalls, StepKeeps}
+use Rattle.scsi_unit.specs.Pending.{book_held, write_held}
 use Rattle.scsi_unit.specs.declared.progress.{Progress.Progress, Want.Want}
 use Rattle.scsi_unit.specs.declared.progress.Progress.TheVariants.{Done, Wants}
 use Rattle.scsi_unit.specs.declared.progress.Want.TheVariants.{Read}
@@ -26,7 +27,7 @@ use Rattle.bot_machine.specs.declared.bulk_state.BulkState.{BulkState}
 use Rattle.bot_machine.specs.declared.pending.{Pending.Pending, Wanted.Wanted}
 use Rattle.bot_machine.specs.Refinement.{line_of, line_with, LiesIn, LaysOutAnswer, IsInPhase}
 use Rattle.bot_machine.specs.Disk.{DiskValue, FitsDisk, over}
-use Rattle.bot_machine.specs.LaggingDisk.{StandsPending, GoesOnward, want_of}
+use Rattle.bot_machine.specs.LaggingDisk.{StandsPending, GoesOnward, GrowsTo, held_write, want_of}
 
 -- ---- what holds while a command is pending
 
@@ -78,6 +79,22 @@ AwaitsDevice disk None = ⊤
 AwaitsDevice disk (Some pending) =
     (disk.line.out_halted ≡ false) × PendsOnDisk pending.wrapper disk pending.wanted
 
+-- ---- the book of the life
+
+-- the writes of the first book are the first ones of the second
+abbrev pub HasMore : Book → Book → Type 0
+HasMore old new = (since : List Write) × (new.writes ≡ old.writes ++ since)
+
+-- A step goes from one book to another, where a batch had this write behind those of the first, and
+-- has that behind those of the second: no write is lost, and no promise.
+pub record BookGoesOn (Promises : Type 0) (faulted : Bool) (held next : Option Write)
+    (book later : Book) : Type 0 where
+  pub life : IsSameLife book later
+  pub more : HasMore book later
+  pub rises : book.mark ≤ later.mark
+  pub mark : ¬ Promises → later.mark ≡ book.mark
+  pub grows : GrowsTo faulted (with_progress book held) (with_progress later next)
+
 -- ---- a command, by itself
 
 -- what a command that is not over wants
@@ -90,31 +107,33 @@ abbrev pub AnswerLaidOut : BulkState → Exchange → Progress → BulkState →
 AnswerLaidOut old exchange (Done answer) new = LaysOutAnswer old exchange answer new
 AnswerLaidOut old exchange (Wants want) new = new ≡ old
 
--- It is over: it is carried out over these bytes, by the rules.
-pub record CommandCarriedOut {M : Type 0} (refused : Bool) (after : State) (exchange : Exchange)
-    (taken : List ℕ) (old new : UnitValue M) (from to : BulkState) (out : List ℕ)
-    (book : Book) : Type 0 where
+-- It is over: it is carried out over these bytes, by the rules. A batch may have had its write.
+pub record CommandCarriedOut {M : Type 0} (Promises : Type 0) (held : Option Write) (refused : Bool)
+    (after : State) (exchange : Exchange) (taken : List ℕ) (old new : UnitValue M)
+    (from to : BulkState) (out : List ℕ) (book : Book) : Type 0 where
   pub next : Book
   pub carried_out : (buffer : List ℕ) (left : Script) → LiesIn buffer exchange.case out
       → IsCarriedOut Intends CarriesOut Ticks refused exchange.case
       exchange.command exchange.intended taken (on_line (line_with from left) (state_of old book))
       (on_line (line_of to buffer) (state_of new next))
   pub fits : FitsUnit after new next
-  pub ours : next.ours ≡ book.ours
+  pub on : BookGoesOn Promises (is_dead new.store.cached) held None book next
 
 -- It is not: by the rules nothing has happened yet.
-pub record CommandWaiting {M : Type 0} (after : State) (taken : List ℕ) (wanted : Wanted)
-    (old new : UnitValue M) (book : Book) : Type 0 where
+pub record CommandWaiting {M : Type 0} (held : Option Write) (after : State) (taken : List ℕ)
+    (wanted : Wanted) (old new : UnitValue M) (book : Book) : Type 0 where
   pub stays : state_of new book ≡ state_of old book
   pub fits : FitsPending after new wanted.command taken wanted.want book
+  pub more : HasMore (with_progress book held) (book_held wanted.want wanted.command taken book)
 
 -- one of both, by what it wants next
-abbrev pub CommandProgress : {M : Type 0} → Option Wanted → State → State → Exchange → List ℕ
-    → UnitValue M → UnitValue M → BulkState → BulkState → List ℕ → Book → Type 0
-CommandProgress None before after exchange taken old new from to out book =
-    CommandCarriedOut (has_refused before after) after exchange taken old new from to out book
-CommandProgress (Some wanted) before after exchange taken old new from to out book =
-    CommandWaiting after taken wanted old new book
+abbrev pub CommandProgress : {M : Type 0} → Option Wanted → Type 0 → Option Write → State → State
+    → Exchange → List ℕ → UnitValue M → UnitValue M → BulkState → BulkState → List ℕ → Book → Type 0
+CommandProgress None Promises held before after exchange taken old new from to out book =
+    CommandCarriedOut Promises held (has_refused before after) after exchange taken old new from to
+    out book
+CommandProgress (Some wanted) Promises held before after exchange taken old new from to out book =
+    CommandWaiting held after taken wanted old new book
 
 -- Whatever the book: the line is as it was, and a unit that lives may go on with the command.
 pub record CommandWaits {M : Type 0} (exchange : Exchange) (taken : List ℕ) (wanted : Wanted)
@@ -145,10 +164,10 @@ pub record CommandBegun {M : Type 0} (state : M → State) (Follows : M → M �
     (result : Option Wanted)
     (new : UnitValue M) (to : BulkState) (out : List ℕ) : Type 0 where
   pub goes : (book : Book) → FitsUnit (state old.store.medium) old book
-      → CommandProgress result (state old.store.medium) (state new.store.medium) exchange taken
-      old new from to out book
+      → CommandProgress result ⊥ None (state old.store.medium) (state new.store.medium) exchange
+      taken old new from to out book
   pub leaves : LineAfter result exchange taken old new from to (length out)
-  pub unchanged : IsUnchanged (state old.store.medium) (state new.store.medium)
+  pub medium : new.store.medium ≡ old.store.medium
   pub passes : UnitKept state Follows old new from to
   pub parsed : (wanted : Wanted) → result ≡ Some wanted
       → command_for old exchange.command.block.items ≡ Ok wanted.command
@@ -164,24 +183,27 @@ pub record CanAdvance {M : Type 0} (unit : UnitValue M) (exchange : Exchange) (t
   pub pends : PendsFor unit exchange taken wanted (length out)
 
 -- A command goes on by one step. At each moment of it a loss of power leaves what may be found of
--- the book before it, perhaps with its write, whole.
+-- the book that the unit fits.
 pub record CommandAdvanced {M : Type 0} (state : M → State) (Follows : M → M → Type 0)
     (old : UnitValue M) (from : BulkState) (exchange : Exchange) (taken : List ℕ) (wanted : Wanted)
     (result : Option Want) (new : UnitValue M) (to : BulkState) (out : List ℕ) : Type 0 where
   pub goes : (book : Book)
       → FitsPending (state old.store.medium) old wanted.command taken wanted.want book
-      → CommandProgress (wanting wanted.command result) (state old.store.medium)
-      (state new.store.medium)
-      exchange taken old new from to out book
+      → CommandProgress (wanting wanted.command result) (MayPromise old wanted.command wanted.want)
+      (write_held wanted.want wanted.command taken) (state old.store.medium)
+      (state new.store.medium) exchange taken old new from to out book
   pub cuts : (book : Book)
       → FitsPending (state old.store.medium) old wanted.command taken wanted.want book
-      → book.ours ≡ true
-      → LeavesOnly (FoundWith (state old.store.medium).size book
-      (write_of_command wanted.command taken)) (state old.store.medium) (state new.store.medium)
+      → book.ours ≡ true → LeavesOnly (MayFind (state old.store.medium).size
+      (book_held wanted.want wanted.command taken book)) (state old.store.medium)
+      (state new.store.medium)
   pub leaves : LineAfter (wanting wanted.command result) exchange taken old new from to
       (length out)
   pub calls : StepCalls (state old.store.medium) (state new.store.medium) wanted.command
       wanted.want old
+  pub unsent : MayPromise old wanted.command wanted.want
+      → SendsUpTo 0 (state old.store.medium) (state new.store.medium)
+  pub dead : is_dead old.store.cached ≡ true → new.store ≡ old.store
   pub onward : GoesOnward old new wanted.want result
   pub passes : UnitKept state Follows old new from to
 
@@ -198,7 +220,7 @@ pub record PacketActedOn {M : Type 0} (before after : State) (halted : Bool) (pa
   pub step : OutStep Intends CarriesOut Ticks (has_refused before after) halted old.line.left packet
       (over old book) answer (over new later)
   pub fits : FitsDisk after new later
-  pub ours : later.ours ≡ book.ours
+  pub on : BookGoesOn ⊥ (is_dead new.unit.store.cached) None None book later
 
 -- it is, or it is pending
 abbrev pub PacketOutcome : {M : Type 0} → Option Pending → State → State → Bool → List ℕ → Answer
@@ -220,7 +242,7 @@ pub record PacketTaken {M : Type 0} (state : M → State) (Follows : M → M →
   pub pends : PendsBehind (disk_of new to after) result
   pub phase : IsInPhase (unit_limit new) (intention_of new) to.phase
   pub room : length after ≡ length before
-  pub unchanged : IsUnchanged (state old.store.medium) (state new.store.medium)
+  pub medium : new.store.medium ≡ old.store.medium
   pub passes : UnitKept state Follows old new from to
   -- where it is pending Bulk-Out is halted as before
   pub halts : HaltsAsBefore result from to
@@ -233,7 +255,7 @@ pub record PacketBegun {M : Type 0} (state : M → State) (Follows : M → M →
       → PacketOutcome result (state old.unit.store.medium) (state new.unit.store.medium)
       old.line.out_halted packet answer old new book
   pub awaits : AwaitsDevice new result
-  pub unchanged : IsUnchanged (state old.unit.store.medium) (state new.unit.store.medium)
+  pub medium : new.unit.store.medium ≡ old.unit.store.medium
   pub keeps : StepKeeps state Follows old.unit new.unit
   pub limit : unit_limit new.unit ≡ unit_limit old.unit
   pub size : new.line.packet_size ≡ old.line.packet_size
@@ -248,29 +270,26 @@ pending_behind wrapper wanted (Some want) = Some (record {
   wanted = record wanted { want = want };
 })
 
--- the bytes taken for a command, where this is left on the line
-abbrev pub taken_in : Option Exchange → Script → List ℕ
-taken_in None (taking case command intended taken due) = taken
-taken_in wrapper left = []
-
 -- A packet that was pending is acted on in this step, as if it came in it.
-pub record PendingCompleted {M : Type 0} (refused : Bool) (after : State) (new : DiskValue M)
-    (book : Book) (s : Lagging UnitState) : Type 0 where
+pub record PendingCompleted {M : Type 0} (Promises : Type 0) (held : Option Write) (refused : Bool)
+    (after : State) (new : DiskValue M) (book : Book) (s : Lagging UnitState) : Type 0 where
   pub packet : List ℕ
   pub pending_is : s.pending ≡ Some packet
   pub later : Book
   pub step : OutStep Intends CarriesOut Ticks refused s.now.line.out_halted s.now.line.left packet
       s.now Ack (over new later)
   pub fits : FitsDisk after new later
-  pub ours : later.ours ≡ book.ours
+  pub on : BookGoesOn Promises (is_dead new.unit.store.cached) held None book later
 
 -- it is, or it is still pending
-abbrev pub PendingOutcome : {M : Type 0} → Option Pending → State → State → DiskValue M → Book
-    → Lagging UnitState → Type 0
-PendingOutcome None before after new book s =
-    PendingCompleted (has_refused before after) after new book s
-PendingOutcome (Some pending) before after new book s =
+abbrev pub PendingOutcome : {M : Type 0} → Option Pending → Type 0 → Option Write → State → State
+    → DiskValue M → Book → Lagging UnitState → Type 0
+PendingOutcome None Promises held before after new book s =
+    PendingCompleted Promises held (has_refused before after) after new book s
+PendingOutcome (Some pending) Promises held before after new book s =
     StandsPending pending.wrapper new.line.left after new pending.wanted book s
+    × HasMore (with_progress book held)
+    (with_progress book (held_write (Some pending) new.line.left))
 
 -- A step of what is pending was made on a disk.
 pub record PendingAdvanced {M : Type 0} (state : M → State) (Follows : M → M → Type 0)
@@ -279,15 +298,21 @@ pub record PendingAdvanced {M : Type 0} (state : M → State) (Follows : M → M
   pub goes : (book : Book) (s : Lagging UnitState)
       → StandsPending pending.wrapper old.line.left (state old.unit.store.medium) old
       pending.wanted book s
-      → PendingOutcome result (state old.unit.store.medium) (state new.unit.store.medium) new book s
+      → PendingOutcome result (MayPromise old.unit pending.wanted.command pending.wanted.want)
+      (held_write (Some pending) old.line.left) (state old.unit.store.medium)
+      (state new.unit.store.medium) new book s
   pub cuts : (book : Book) (s : Lagging UnitState)
       → StandsPending pending.wrapper old.line.left (state old.unit.store.medium) old
       pending.wanted book s → book.ours ≡ true
-      → LeavesOnly (FoundWith (state old.unit.store.medium).size book
-      (pending_write s.pending s.now)) (state old.unit.store.medium) (state new.unit.store.medium)
+      → LeavesOnly (MayFind (state old.unit.store.medium).size
+      (with_progress book (held_write (Some pending) old.line.left)))
+      (state old.unit.store.medium) (state new.unit.store.medium)
   pub awaits : old.line.out_halted ≡ false → AwaitsDevice new result
   pub calls : StepCalls (state old.unit.store.medium) (state new.unit.store.medium)
       pending.wanted.command pending.wanted.want old.unit
+  pub unsent : MayPromise old.unit pending.wanted.command pending.wanted.want
+      → SendsUpTo 0 (state old.unit.store.medium) (state new.unit.store.medium)
+  pub dead : is_dead old.unit.store.cached ≡ true → new.unit.store ≡ old.unit.store
   pub onward : GoesOnward old.unit new.unit pending.wanted.want (want_of result)
   pub keeps : StepKeeps state Follows old.unit new.unit
   pub limit : unit_limit new.unit ≡ unit_limit old.unit
@@ -296,11 +321,12 @@ pub record PendingAdvanced {M : Type 0} (state : M → State) (Follows : M → M
 -- ---- the device refused a call
 
 -- It is acted on as by the rules of a refused call, or it waits for its blocks on a faulted unit.
-abbrev pub RefusalOutcome : {M : Type 0} → Option Pending → State → DiskValue M → Book
-    → Lagging UnitState → Type 0
-RefusalOutcome None after new book s = PendingCompleted true after new book s
-RefusalOutcome (Some pending) after new book s =
-    StandsPending pending.wrapper new.line.left after new pending.wanted book
+abbrev pub RefusalOutcome : {M : Type 0} → Option Pending → Option Write → State → DiskValue M
+    → Book → Lagging UnitState → Type 0
+RefusalOutcome None held after new book s = PendingCompleted ⊥ held true after new book s
+RefusalOutcome (Some pending) held after new book s =
+    (held ≡ held_write (Some pending) new.line.left)
+    × StandsPending pending.wrapper new.line.left after new pending.wanted book
     (record s { now = record s.now { unit = state_of new.unit book } })
     × IsFaulted true s.now.unit (state_of new.unit book)
 
@@ -310,9 +336,11 @@ pub record PendingRefused {M : Type 0} (state : M → State) (old : DiskValue M)
   pub goes : (book : Book) (s : Lagging UnitState)
       → StandsPending pending.wrapper old.line.left (state old.unit.store.medium) old
       pending.wanted book s
-      → RefusalOutcome result (state new.unit.store.medium) new book s
+      → RefusalOutcome result (held_write (Some pending) old.line.left)
+      (state new.unit.store.medium) new book s
   pub awaits : old.line.out_halted ≡ false → AwaitsDevice new result
   pub medium : new.unit.store.medium ≡ old.unit.store.medium
   pub dead : is_dead new.unit.store.cached ≡ true
-  pub limit : unit_limit new.unit ≡ unit_limit old.unit
+  pub layout : layout_of new.unit.store.cached ≡ layout_of old.unit.store.cached
+  pub keeps : new.unit.store.cached.log.keeps ≡ old.unit.store.cached.log.keeps
   pub size : new.line.packet_size ≡ old.line.packet_size

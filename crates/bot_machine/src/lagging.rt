@@ -1,29 +1,39 @@
 //! A disk whose device may be behind.
-ghost use Rattle.std.specs.Prelude.{◌≡◌, ◌≤◌, length, None, Some, false, true};
-ghost use Rattle.medium.specs.Moments.{IsUnchanged};
+ghost use Rattle.std.specs.Prelude.{⊤, ◌≡◌, ◌≤◌, ◌/◌, length, None, Some, IfSome, false, true};
+ghost use Rattle.std.specs.Borrow.{sem, follows_so};
+ghost use mathlib.Core.Option.{none};
+ghost use Rattle.medium.specs.{Inlet.AreHeld, Moments.{EachCut, IsUnchanged}};
+ghost use Rattle.spec.specs.Exchange.{in_answer, after_in};
+ghost use Rattle.spec.specs.Lagging.{Lagging};
+ghost use Rattle.scsi.specs.Rules.{UnitState};
 ghost use Rattle.scsi_unit.specs.Calls.{ComesBy};
 ghost use Rattle.spec.specs.declared.event.Event.TheVariants as event;
 ghost use Rattle.spec.specs.declared.event.Answer.TheVariants.{Ticked};
-ghost use Rattle.bot_machine.specs.Answers.{answer_to_out, answer_to_setup};
+ghost use Rattle.bot_machine.specs.Answers.{answer_to_out, answer_to_in, answer_to_setup};
+ghost use Rattle.bot_machine.specs.Answers.{IsPacket};
 ghost use Rattle.bot_machine.specs.LaggingDisk.{IsLagStep, IsLagStepBy, MakesStep, WorksAside};
-ghost use Rattle.bot_machine.specs.LaggingDisk.{want_of};
+ghost use Rattle.bot_machine.specs.LaggingDisk.{AreNeeded, ArmsLagging, MayPromiseNext, StandsFor};
+ghost use Rattle.bot_machine.specs.LaggingDisk.{GivesLagRun, TakesLagRun, after_token, held_book};
+ghost use Rattle.bot_machine.specs.Disk.{IsRearmed};
+ghost use Rattle.bot_machine.specs.contracts.lagging.LaggingDisk.{the_row};
 ghost use Rattle.bot_machine.specs.{Disk.FitsDisk, LaggingParts.PendingRefused};
 ghost use Rattle.logical_blocks.specs.Book.{Book};
-ghost use Rattle.scsi_unit.specs.{Background.is_dead, UnitValue.state_of};
+ghost use Rattle.scsi_unit.specs.{Background.is_dead, Books.MayFind, Reading.AreHome};
+ghost use Rattle.scsi_unit.specs.UnitValue.{state_of, unit_limit};
 ghost use Rattle.scsi_unit.specs.Faulting.{faulted_state, faulted_unit};
 ghost use Rattle.scsi_unit.specs.declared.progress.Want.TheVariants as want;
 ghost use Rattle.bot_machine.specs.LaggingParts.{AwaitsDevice, PacketBegun, PendingAdvanced};
 
 use crate::bulk_state::Phase;
 use crate::disk::Disk;
-use crate::event::{OutAnswer, SetupAnswer};
+use crate::event::{InAnswer, OutAnswer, SetupAnswer};
 use crate::exchange::Exchange;
 use crate::pending::{
     Pending, Wanted, advance_at_once, advance_taken, data_packet, open_packet, settle,
 };
 use crate::request::is_reset;
-use medium::Medium;
-use scsi_unit::{Want, Work};
+use medium::{Inlet, Medium, Outlet};
+use scsi_unit::{Need, Want, Work};
 use std::marker::Model;
 use std::mem;
 
@@ -65,17 +75,53 @@ impl<M: Medium> LaggingDisk<M> {
         &self.disk
     }
 
+    /// Gives the disk back. What is pending is dropped.
+    pub fn into_disk(self) -> Disk<M>
+        ensures { result ≡ self.disk }
+    {
+        self.disk
+    }
+
+    /// The medium that the disk stands on.
+    ///
+    /// Between two calls a cut leaves what may be found of the book that the unit fits.
+    pub fn medium(&self) -> &M
+        ensures is { result.now ≡ self.now.disk.unit.store.medium }
+        ensures at_rest { (book : Book) (s : Lagging UnitState)
+            → StandsFor (M.state self.now.disk.unit.store.medium) self.now book s
+            → book.ours ≡ true
+            → EachCut (MayFind (M.state self.now.disk.unit.store.medium).size
+            (held_book self.now book)) (M.state self.now.disk.unit.store.medium) }
+    {
+        self.disk.medium()
+    }
+
+    /// What the device has to do before the command that is pending makes its next step. None where
+    /// no command is.
+    pub fn needs(&self) -> Option<Need>
+        ensures is { AreNeeded self.now.disk.unit self.now.pending result }
+        ensures bounds { (need : Need) → result ≡ Some need → IfSome need.home
+            (λ home. AreHome (unit_limit self.now.disk.unit)
+            (M.state self.now.disk.unit.store.medium).size home.first home.count) }
+    {
+        match &self.pending {
+            Some(Pending { wrapper: _, wanted }) => Some(
+                self.disk.unit.needs(&wanted.command, wanted.want),
+            ),
+            None => None,
+        }
+    }
+
     /// Takes a packet to Bulk-Out, of at most as many bytes as a packet of this disk has (Bulk-Only
     /// Transport 1.0, 5.1). No call of the medium is made: a command that needs one is pending.
     pub fn bulk_out(&mut self, packet: &[u8]) -> OutAnswer
         requires { length packet.now ≤ self.old.disk.line.packet_size }
-        ensures step { IsLagStep (M.state self.old.disk.unit.store.medium)
+        ensures step { IsLagStep ⊥ (M.state self.old.disk.unit.store.medium)
             (M.state self.new.disk.unit.store.medium) self.old
             (event.Out (record { items = packet.now })) (answer_to_out result) self.new }
         ensures follows { ComesBy M.state M.follows self.old.disk.unit.store
             self.new.disk.unit.store }
-        ensures unchanged { IsUnchanged (M.state self.old.disk.unit.store.medium)
-            (M.state self.new.disk.unit.store.medium) }
+        ensures medium { self.new.disk.unit.store.medium ≡ self.old.disk.unit.store.medium }
     {
         match &self.pending {
             Some(_) => OutAnswer::Nak,
@@ -91,7 +137,8 @@ impl<M: Medium> LaggingDisk<M> {
     /// that read the blocks of a READ. The step in which it ends lays its answer out. Nothing is
     /// done where none is pending.
     pub fn go_on(&mut self)
-        ensures step { IsLagStep (M.state self.old.disk.unit.store.medium)
+        ensures step { IsLagStep (MayPromiseNext self.old)
+            (M.state self.old.disk.unit.store.medium)
             (M.state self.new.disk.unit.store.medium) self.old event.Tick Ticked self.new }
         ensures makes { MakesStep M.state M.follows self.old self.new }
     {
@@ -103,7 +150,7 @@ impl<M: Medium> LaggingDisk<M> {
     /// Makes a step in the background that works towards this, of at most two calls of the medium.
     /// None is made while a command is pending, which makes its own.
     pub fn work(&mut self, work: Work)
-        ensures step { IsLagStep (M.state self.old.disk.unit.store.medium)
+        ensures step { IsLagStep ⊥ (M.state self.old.disk.unit.store.medium)
             (M.state self.new.disk.unit.store.medium) self.old event.Tick Ticked self.new }
         ensures works { WorksAside work M.state M.follows self.old.pending self.old self.new }
     {
@@ -118,7 +165,7 @@ impl<M: Medium> LaggingDisk<M> {
     /// writes durable. A READ that waits for its blocks ends in its next step, as on a unit that
     /// was faulted before.
     pub fn refuse(&mut self)
-        ensures step { IsLagStepBy true (M.state self.old.disk.unit.store.medium)
+        ensures step { IsLagStepBy ⊥ true (M.state self.old.disk.unit.store.medium)
             (M.state self.new.disk.unit.store.medium) self.old event.Tick Ticked self.new }
         ensures dead { is_dead self.new.disk.unit.store.cached ≡ true }
         ensures medium { self.new.disk.unit.store.medium ≡ self.old.disk.unit.store.medium }
@@ -133,7 +180,7 @@ impl<M: Medium> LaggingDisk<M> {
     /// the command that is pending: its write is the last one accepted, whole, or is not accepted.
     /// No call of the medium is made.
     pub fn setup(&mut self, packet: [u8; 8]) -> SetupAnswer
-        ensures step { IsLagStep (M.state self.old.disk.unit.store.medium)
+        ensures step { IsLagStep ⊥ (M.state self.old.disk.unit.store.medium)
             (M.state self.new.disk.unit.store.medium) self.old (event.Setup packet)
             (answer_to_setup result) self.new }
         ensures unit { self.new.disk.unit ≡ self.old.disk.unit }
@@ -145,14 +192,64 @@ impl<M: Medium> LaggingDisk<M> {
         self.disk.setup(packet)
     }
 
-    /// What the command that is pending wants of the device.
-    pub fn wants(&self) -> Option<Want>
-        ensures { result ≡ want_of self.now.pending }
+    /// Takes a token to Bulk-In, and lends the packet to send (Bulk-Only Transport 1.0, 5.2). None
+    /// is sent while a command is pending. No call of the medium is made.
+    pub fn bulk_in(&mut self) -> InAnswer<'_>
+        ensures* after { sem 𝓛 (follows_so (the_row M.row M.Medium) (the_row M.row M.Medium)
+            self.entry.ghost_name none (λ _ _. ⊤) (λ new. new ≡ after_token self.old)) }
+        ensures answer { answer_to_in result ≡ in_answer self.old.disk.line }
+        ensures fits { IsPacket self.old.disk.line.packet_size result }
+        ensures most { self.old.disk.line.packet_size ≤ 512 }
+        ensures step { IsLagStep ⊥ (M.state self.old.disk.unit.store.medium)
+            (M.state self.old.disk.unit.store.medium) self.old event.In
+            (in_answer self.old.disk.line) (after_token self.old) }
     {
-        match &self.pending {
-            Some(pending) => Some(pending.wanted.want),
-            None => None,
-        }
+        self.disk.bulk_in()
+    }
+
+    /// Gives packets that are to be sent, as `Disk::bulk_in_run` does. Each is an event of its own.
+    pub fn bulk_in_run(&mut self, room: &mut [u8]) -> usize
+        ensures { GivesLagRun M.state self.old room.old self.new room.new result }
+    {
+        self.disk.bulk_in_run(room)
+    }
+
+    /// Takes packets in the midst of data, as `Disk::bulk_out_run` does. Each is an event of its
+    /// own. None is taken while a command is pending.
+    pub fn bulk_out_run(&mut self, bytes: &[u8]) -> usize
+        ensures { TakesLagRun M.state self.old bytes.now self.new result }
+    {
+        self.disk.bulk_out_run(bytes)
+    }
+}
+
+impl<M: Outlet> LaggingDisk<M> {
+    /// Lets go of the call that the medium's device is to carry out next, if there is one.
+    pub fn pop(&mut self)
+        ensures { ArmsLagging M.state M.given self.old self.new }
+    {
+        self.disk.pop();
+    }
+}
+
+impl<M: Inlet> LaggingDisk<M> {
+    /// Shows sectors to the medium as its device holds them: where they are, the disk stands for
+    /// what it stood for, and where they are not, nothing but the medium has changed.
+    pub fn show(&mut self, first: u64, bytes: &[u8]) -> bool
+        ensures shown { M.shown first bytes.now result self.old.disk.unit.store.medium
+            self.new.disk.unit.store.medium }
+        ensures others { IsRearmed self.old.disk self.new.disk }
+        ensures pending { self.new.pending ≡ self.old.pending }
+        ensures unchanged { AreHeld (M.state self.old.disk.unit.store.medium).content first
+            (length bytes.now / 512) bytes.now
+            → IsUnchanged (M.state self.old.disk.unit.store.medium)
+            (M.state self.new.disk.unit.store.medium) }
+        ensures stands { AreHeld (M.state self.old.disk.unit.store.medium).content first
+            (length bytes.now / 512) bytes.now → (book : Book) (s : Lagging UnitState)
+            → StandsFor (M.state self.old.disk.unit.store.medium) self.old book s
+            → StandsFor (M.state self.new.disk.unit.store.medium) self.new book s }
+    {
+        self.disk.show(first, bytes)
     }
 }
 

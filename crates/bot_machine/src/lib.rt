@@ -32,7 +32,7 @@ pub use laws::{book_laws, policy_laws};
 pub use lives::{DiskSetup, Life, Lives, run_lives, run_lives_by, run_lives_with};
 pub use run::{answer_to, run_events};
 pub use scsi_unit::{
-    HomeSectors, Identity, RecoveredMedium, Retiring, StartError, StartFault, Work,
+    HomeSectors, Identity, Need, RecoveredMedium, Retiring, StartError, StartFault, Work,
 };
 pub use spec::{Answer, Case, Cbw, Endpoint, Event, Outcome, PacketSize, Status, Way};
 pub use status::write_csw;

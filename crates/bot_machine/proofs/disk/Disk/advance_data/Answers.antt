@@ -12,7 +12,7 @@ returns-in_err-want g c =
     let p = subst (λ (l : Script). PendsOnLine l (disk_of d.unit d.bulk d.transfer.items) c.args.wanted)
     (left_data d.bulk d.transfer.items t is) (rw (← c.self.view_is) at c.requires.1) in
     rw (← c.self.view_is, c.from_residual.ensures)
-    (over_data d.unit c.advance_taken.new.unit d.bulk c.advance_taken.new.bulk d.transfer.items t c.args.wanted is p.0 p.1 p.2
+    (over_data d.unit c.advance_taken.new.unit d.bulk c.advance_taken.new.bulk d.transfer.items t c.args.wanted is p.0 p.1
     (rw (← c.self.view_is) at c.requires.0) c.advance_taken.result
     (rw (c.replace.ensures.after, c.deref.ensures.value) at c.advance_taken.ensures) c.in_err-want.was)
 
@@ -24,6 +24,6 @@ returns g c =
     let p = subst (λ (l : Script). PendsOnLine l (disk_of d.unit d.bulk d.transfer.items) c.args.wanted)
     (left_data d.bulk d.transfer.items t is) (rw (← c.self.view_is) at c.requires.1) in
     rw (← c.self.view_is)
-    (waits_data d.unit c.advance_taken.new.unit d.bulk c.advance_taken.new.bulk d.transfer.items t c.args.wanted is p.0 p.1 p.2
+    (waits_data d.unit c.advance_taken.new.unit d.bulk c.advance_taken.new.bulk d.transfer.items t c.args.wanted is p.0 p.1
     (rw (← c.self.view_is) at c.requires.0) c.advance_taken.result
     (rw (c.replace.ensures.after, c.deref.ensures.value) at c.advance_taken.ensures) c.in_ok-want.want c.in_ok-want.was)

@@ -8,7 +8,7 @@ returns-in-Some-clause-step g c =
     let is = sym c.replace.ensures.value ∙ c.in-Some.is in
     let awaits = rw is at c.self.invariant in
     rw (← c.self.view_is, is)
-    (goes d.disk c.advance-self-inside.new.self c.in-Some.pending awaits.0 c.advance-self-inside.result c.advance-self-inside.ensures)
+    (goes d.disk c.advance-self-inside.new.self c.in-Some.pending awaits c.advance-self-inside.result c.advance-self-inside.ensures)
 
 pub returns-in_default-clause-step : goal.returns-in_default-clause-step
 returns-in_default-clause-step g c =

@@ -1,4 +1,4 @@
-use Rattle.bot_machine.proofs.LaggingEvents.{ticks_on, plain}
+use Rattle.bot_machine.proofs.LaggingEvents.{ticks_on, works}
 use Rattle.bot_machine.proofs.lagging.LaggingDisk.work.Goals as goal
 
 pub returns-in-Some-clause-step : goal.returns-in-Some-clause-step
@@ -9,4 +9,4 @@ returns-in-Some-clause-step g c =
 
 pub returns-in-None-clause-step : goal.returns-in-None-clause-step
 returns-in-None-clause-step g c =
-    rw (← c.self.view_is, c.in-None.is) (plain c.args.work _ _ _ _ _ _ c.work.ensures.step)
+    rw (← c.self.view_is, c.in-None.is) (works c.args.work _ _ _ _ c.work.ensures.step)
