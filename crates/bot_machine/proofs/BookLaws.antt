@@ -1,18 +1,21 @@
 -- What an event has a unit do, and what that does to the book of a life.
-use Rattle.std.proofs.Common.{◌≡◌, ℕ, Bool, true, false, List, [], Option, None, refl, ap, ◌∙◌, arith, ◌⊎◌, inl, inr, ⊎_elim, length}
+use Rattle.std.proofs.Common.{◌≡◌, ℕ, Bool, true, false, List, [], Option, None, Some, refl, ap, ◌∙◌, arith, ◌⊎◌, inl, inr, ⊎_elim, length}
 use Rattle.std.proofs.{Common.{Result, Ok, Err, sym, subst}, lemmas.Bool.Decides.nat_tests}
 use Rattle.std.specs.Prelude.{Result, if◌then◌else◌}
 use Rattle.logical_blocks.specs.Blocks.{Write}
 use Rattle.scsi.specs.Sense.{Sense}
 use Rattle.spec.specs.declared.{wrapper.Cbw.Cbw, way.Way.Way, case.Case.Case}
 use Rattle.spec.specs.{declared.event.Event.Event, declared.event.Answer.Answer}
-use Rattle.scsi.specs.Rules.{UnitState, CarriesOut, Ticks, write_in_progress, checked}
+use Rattle.scsi.specs.{Commands.command_of, Rules.{UnitState, CarriesOut, Ticks, write_in_progress, write_after, checked}}
+use Rattle.scsi.specs.Rules.{checked_for_fault, command_by}
 use Rattle.spec.specs.Exchange.{Script, finished, taking}
 use Rattle.spec.specs.Conversation.{Conversation, OpensExchange, Takes, OutStep}
 use Rattle.logical_blocks.specs.Book.{Book}
 use Rattle.scsi.specs.declared.command.Command.{Command}
 use Rattle.spec.specs.UnitConversation.{Intends, UnitStep, write_of_packet, write_of_event}
+use Rattle.spec.specs.Lagging.{Lagging, LagStepAt, Drops}
 use Rattle.spec.specs.declared.event.Event.TheVariants as event
+use Rattle.spec.specs.declared.event.Answer.TheVariants.{Ack}
 use Rattle.bot_machine.specs.Acts.{CarriesOutAtOnce, CarriesOutLast, PacketCarriesOut, EventCarriesOut}
 use Rattle.bot_machine.specs.{BookLaws.{GrowsBy, MarkMoves, FaultStays, AreBookLaws}, Promising.promises_by}
 use Rattle.transport_laws.proofs.Wrappers.{at_once-writes_none}
@@ -124,3 +127,42 @@ book_laws = record {
       event answer
       (λ block taken told may carried faulted. stays_faulted.command refused block taken old.unit new.unit told faulted carried) step;
 }
+
+-- ---- where the device is behind
+
+-- a faulted unit writes nothing
+none_after : (told : Result Command Sense) (taken : List ℕ) → write_after (checked_for_fault true told) taken ≡ None
+none_after told taken = grind arith
+
+none_written : (unit : UnitState) (block taken : List ℕ) → unit.faulted ≡ true → write_in_progress unit block taken ≡ None
+unfolding command_by
+none_written unit block taken faulted = rw faulted (grind (arith, none_after (command_of unit.book.blocks unit.limit block) taken))
+
+none_pending : (most : ℕ) (halted : Bool) (left : Script) (packet : List ℕ) (unit : UnitState) → unit.faulted ≡ true
+    → write_of_packet most halted left packet unit ≡ None
+none_pending most halted left packet unit faulted = grind (arith, none_written unit, faulted)
+
+-- a reset leaves the unit
+none_dropped : (old : Conversation UnitState) (packet : List ℕ) (new : UnitState) → old.unit.faulted ≡ true → Drops old packet new
+    → new ≡ old.unit
+none_dropped old packet new faulted (inl same) = same
+none_dropped old packet new faulted (inr after) =
+    after ∙ rw (none_pending old.line.packet_size old.line.out_halted old.line.left packet old.unit faulted) refl
+
+-- a faulted unit stays so, and its book stays as it is
+pub lag_fault : (refused : Bool) (pending : Option (List ℕ)) (old new : Lagging UnitState) (happens : Event) (answer : Answer)
+    → LagStepAt Intends CarriesOut Ticks Drops refused pending old happens answer new → FaultStays old.now happens new.now
+lag_fault refused None old new (event.Out packet) answer (inl step) =
+    book_laws.fault refused old.now new.now (event.Out packet) answer step.step
+lag_fault refused None old new (event.Out packet) answer (inr deferred) = λ faulted. rw deferred.after (faulted, refl)
+lag_fault refused None old new happens answer step = book_laws.fault refused old.now new.now happens answer step.step
+lag_fault refused (Some packet) old new (event.Out other) answer step = λ faulted. rw step.1 (faulted, refl)
+lag_fault refused (Some packet) old new event.In answer step = book_laws.fault refused old.now new.now event.In answer step.step
+lag_fault refused (Some packet) old new (event.Setup setup) answer (inl step) =
+    book_laws.fault refused old.now new.now (event.Setup setup) answer step.1.step
+lag_fault refused (Some packet) old new (event.Setup setup) answer (inr dropped) = λ faulted.
+    rw (none_dropped old.now packet new.now.unit faulted dropped.unit) (faulted, refl)
+lag_fault refused (Some packet) old new event.Tick answer (inl step) =
+    book_laws.fault refused old.now new.now event.Tick answer step.step
+lag_fault refused (Some packet) old new event.Tick answer (inr done) =
+    book_laws.fault refused old.now new.now (event.Out (record { items = packet })) Ack done.step

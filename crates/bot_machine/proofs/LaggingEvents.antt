@@ -21,7 +21,7 @@ use Rattle.bot_machine.specs.{Disk.{DiskValue, over, IsStepBy}, PacketRuns.after
 use Rattle.bot_machine.specs.LaggingDisk.{LaggingValue, StandsFor, StandsWith, StandsPending, LagStepMade, IsLagStep}
 use Rattle.bot_machine.specs.LaggingDisk.{MayPromiseNext, held_book, held_write, taken_in}
 use Rattle.bot_machine.specs.LaggingParts.{AwaitsDevice, PendsOnDisk, PendsOnLine, PacketBegun, PendingAdvanced, BookGoesOn}
-use Rattle.bot_machine.proofs.{UnitLaws.between_calls, LaggingGoing.{wrapper_write, data_write}, BookLaws.same_book}
+use Rattle.bot_machine.proofs.{UnitLaws.between_calls, LaggingGoing.{wrapper_write, data_write}, BookLaws.{lag_fault, same_book}}
 use Rattle.bot_machine.proofs.BooksGoOn.{found_held, held_ours, more_held, same_more, stays_on}
 
 -- ---- what is known of a command that is pending
@@ -35,6 +35,7 @@ pub record Facts {M : Type 0} (m : State) (disk : DiskValue M) (left : Script) (
   pub waits : AcknowledgesAny false s.now.line.left
   pub fits : FitsPending m disk.unit pending.wanted.command (taken_in pending.wrapper left) pending.wanted.want book
   pub write : write_of_command pending.wanted.command (taken_in pending.wrapper left) ≡ pending_write s.pending s.now
+  pub live : (pending.wanted.want ≡ want.Read → ⊥) → is_dead disk.unit.store.cached ≡ false
 
 module _ {M : Type 0} (m : State) (disk : DiskValue M) (halted : disk.line.out_halted ≡ false) (wanted : Wanted) (book : Book)
     (s : Lagging UnitState) where
@@ -50,6 +51,7 @@ module _ {M : Type 0} (m : State) (disk : DiskValue M) (halted : disk.line.out_h
     waits = subst (λ (x : Lagging UnitState). AcknowledgesAny false x.now.line.left) (sym h.is) tt;
     fits = h.fits;
     write = data_write m disk (record { case = case; command = command; intended = intended }) taken wanted p.2 halted s book h;
+    live = p.2.live;
   }
   facts_on (sending packets halt status) h p = absurd h
 
@@ -64,6 +66,7 @@ module _ {M : Type 0} (m : State) (disk : DiskValue M) (halted : disk.line.out_h
     waits = subst (λ (x : Lagging UnitState). AcknowledgesAny false x.now.line.left) (sym h.is) (rw p.expected tt);
     fits = h.fits;
     write = wrapper_write m (unit_limit disk.unit) disk e wanted p halted s book h;
+    live = p.pends.live;
   }
 
 pub facts : {M : Type 0} (m : State) (disk : DiskValue M) (pending : Pending) (book : Book) (s : Lagging UnitState)
@@ -115,6 +118,26 @@ fits_held m disk None book s awaits h = h.fits
 fits_held m disk (Some p) book s awaits h =
     dropped m disk.unit p.wanted.command (taken_in p.wrapper disk.line.left) p.wanted.want book (facts m disk p book s awaits h).fits
 
+-- on a faulted unit a READ alone is pending
+none_held : (wanted : Want) (command : Command) (taken : List ℕ) (dead : Bool) → ((wanted ≡ want.Read → ⊥) → dead ≡ false)
+    → dead ≡ true → write_held wanted command taken ≡ None
+none_held want.Room command taken dead live is = refl
+none_held want.Commit command taken dead live is = absurd (let alive = live (λ is. cc) in cc)
+none_held want.Read command taken dead live is = refl
+
+held_dead : {M : Type 0} (m : State) (disk : DiskValue M) (pending : Option Pending) (book : Book) (s : Lagging UnitState)
+    → AwaitsDevice disk pending → StandsWith pending m disk book s → is_dead disk.unit.store.cached ≡ true
+    → held_write pending disk.line.left ≡ None
+held_dead m disk None book s awaits h dead = refl
+held_dead m disk (Some p) book s awaits h dead =
+    none_held p.wanted.want p.wanted.command (taken_in p.wrapper disk.line.left) (is_dead disk.unit.store.cached)
+    (facts m disk p book s awaits h).live dead
+
+unit_now : {M : Type 0} (m : State) (disk : DiskValue M) (pending : Option Pending) (book : Book) (s : Lagging UnitState)
+    → AwaitsDevice disk pending → StandsWith pending m disk book s → s.now.unit ≡ state_of disk.unit book
+unit_now m disk None book s awaits h = ap (λ (x : Lagging UnitState). x.now.unit) h.is
+unit_now m disk (Some p) book s awaits h = (facts m disk p book s awaits h).unit_is
+
 -- between two events a cut leaves what may be found of that book
 pub at_rest : {M : Type 0} (m : State) (disk : DiskValue M) (pending : Option Pending) (book : Book) (s : Lagging UnitState)
     → AwaitsDevice disk pending → StandsWith pending m disk book s → book.ours ≡ true
@@ -156,6 +179,14 @@ module _ {M : Type 0} {Promises : Type 0} (refused : Bool) (before after : State
         at_exit = λ ours image cut. found_held after.size later (held_write new.pending new.disk.line.left)
             (pending_write next.pending next.now) (held_now after new.disk new.pending later next now stands) image (rests ours image cut);
         grows = on.grows;
+        fault = λ dead.
+            let here = unit_now before old.disk old.pending book s was stood in
+            let there = unit_now after new.disk new.pending later next now stands in
+            let kept = lag_fault refused s.pending s next happens answer step (ap (λ (u : UnitState). u.faulted) here ∙ dead) in
+            let still = ap (λ (u : UnitState). u.faulted) (sym there) ∙ kept.0 in
+            let none = held_dead before old.disk old.pending book s was stood dead in
+            rw (none, held_dead after new.disk new.pending later next now stands still)
+            (ap (λ (u : UnitState). u.book) (sym there) ∙ kept.1 ∙ ap (λ (u : UnitState). u.book) here);
         held_cuts = cuts;
         held_exit = rests;
       }

@@ -136,6 +136,9 @@ pub record LagStepMade {M : Type 0} (Promises : Type 0) (refused : Bool) (before
   -- the same of the books that the unit fits, whose writes a device that is behind may have
   pub grows : GrowsTo (is_dead new.disk.unit.store.cached) (held_book old book)
       (held_book new later)
+  -- a faulted unit accepts and promises nothing
+  pub fault : is_dead old.disk.unit.store.cached ≡ true
+      → held_book new later ≡ held_book old book
   pub held_cuts : book.ours ≡ true
       → LeavesOnly (MayFind before.size (held_book old book)) before after
   pub held_exit : book.ours ≡ true → EachCut (MayFind after.size (held_book new later)) after
