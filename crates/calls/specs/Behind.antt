@@ -22,17 +22,17 @@ device_of plan = device_by plan.identity plan.size (Kept plan.kept)
 
 -- A disk was started on a device that was recovered, and holds this behind its super. No call of
 -- the device was made: a loss of power leaves what it held. If that is what the recovery left, the
--- disk serves what the image stood for. No packet is refused a call for want of room.
+-- disk serves what the image stood for. No step is refused a call for want of room.
 pub record DiskBehindPost (on : RecoveredDevice) (content : List ℕ) (device : Device)
     (new : Machine) : Type 0 where
   pub first : Window
   pub medium : IsMediumBehind on content (room_of on.found.sizes.format) first
-  pub starts : DiskStartFromPost state_of on.found first device new.disk
-  pub is : new ≡ begun new.disk (first.room - 2)
+  pub starts : DiskStartFromPost state_of on.found first device new.disk.disk
+  pub is : new ≡ begun new.disk.disk (first.room - 2)
   pub serves : ServesAtRest new
   pub leaves : LeavesOfStart first new
   pub beside : HasRoomBeside new
-  -- no event is refused a READ for want of sight of its log
+  -- no step is refused a read of its log
   pub holds : HoldsLog new.disk
 
 -- so a store that keeps so many records

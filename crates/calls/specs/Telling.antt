@@ -8,9 +8,7 @@ use Rattle.image_calls.specs.declared.recovering.Recovering.{Recovering}
 use Rattle.image_calls.specs.declared.read_end.ReadEnd.{ReadEnd}
 use Rattle.disk_machine.specs.Codes.{BAD_LENGTH}
 use Rattle.disk_machine.specs.Machine.{Machine}
-use Rattle.disk_machine.specs.Asking as machine
-use Rattle.disk_machine.specs.Asking.{IsHonest}
-use Rattle.disk_machine.specs.Moves.{StaysSafe, ServesAtRest}
+use Rattle.disk_machine.specs.{Asking.HearsSafely, Moves.ServesAtRest}
 use Rattle.store_calls.specs.Asking as stores
 use Rattle.store_calls.specs.StoreMachine as store
 use Rattle.image_calls.specs.Machines as images
@@ -55,7 +53,7 @@ HearsAt content ok bytes (held.Opening o work) old new code = (result : Result R
     × (o' : Reading) × HasRead o ok bytes result o' × EndsRead content result work o' old new code
 HearsAt content ok bytes (held.Disk s) old new code = (result : Result (Unit {0}) DoneFault)
     × (s' : Machine) × (new ≡ held.Disk s') × (code ≡ code_of_done result)
-    × machine.Hears s ok bytes result s' × (IsHonest s ok bytes → StaysSafe s s') × ServesAtRest s'
+    × HearsSafely s ok bytes result s' × ServesAtRest s'
 HearsAt content ok bytes (held.Store s) old new code = (result : Result (Unit {0}) DoneFault)
     × (s' : store.Machine) × (new ≡ held.Store s') × (code ≡ code_of_done result)
     × stores.Ends s ok bytes result s'

@@ -1,8 +1,11 @@
+pub mod Finding
+pub mod Still
 pub mod Rooms
+pub mod Sights
+pub mod Onward
 pub mod Handing
 pub mod Hearing
-pub mod Events
-pub mod Playing
 pub mod Living
+pub mod Waiting
 pub mod PacketLaws
 pub mod PacketRuns

@@ -1,6 +1,7 @@
 pub mod Codes
 pub mod Parts
 pub mod Seen
+pub mod Machine
 pub mod Wanted
 pub mod Refusals
 pub mod Plays
@@ -8,13 +9,11 @@ pub mod Room
 pub mod Refused
 pub mod Layouts
 pub mod Starting
-pub mod Ahead
+pub mod Moves
+pub mod Going
 pub mod Asking
 pub mod Idling
-pub mod Lives
-pub mod Machine
-pub mod Moves
+pub mod Ahead
 pub mod Packets
-pub mod PuttingOff
 pub mod Transfers
-pub mod Turns
+pub mod Lives

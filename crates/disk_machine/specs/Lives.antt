@@ -1,17 +1,17 @@
 -- Calls of a machine, one after the other: what they keep of a life, and what is said in them.
 use Rattle.std.specs.Prelude.{◌≡◌, ℕ, ◌≤◌, Bool, List, [], ◌∷◌, ◌++◌, length, Result}
-use Rattle.logical_blocks.specs.{Blocks.Write, Book.Book}
+use Rattle.logical_blocks.specs.Book.{Book}
+use Rattle.scsi.specs.Rules.{UnitState}
+use Rattle.spec.specs.Lagging.{Lagging}
 use Rattle.window.specs.declared.{ask.DeviceAsk.DeviceAsk, done_fault.DoneFault.DoneFault}
-use Rattle.scsi_unit.specs.Laws.{IsSameLife}
-use Rattle.bot_machine.specs.Disk.{over}
-use Rattle.disk_machine.specs.{Ahead.LooksAhead, Asking.{AsksFor, Hears, IsHonest}, Idling.Idles}
-use Rattle.disk_machine.specs.{Idling.WorksAhead, Machine.{Machine, Serves, LeavesOf, IsCaughtUp}}
-use Rattle.disk_machine.specs.{Moves.{StaysSafe, begun}, Plays.{Disk, medium_of}}
 use Rattle.window.specs.{Device.{durable, after}, declared.call.DeviceCall.DeviceCall}
-use Rattle.disk_machine.specs.{Packets.{TakesOut, SendsIn, AnswersSetup}, Transfers.TakesTransfer}
-use Rattle.disk_machine.specs.{Transfers.SendsInto, Turns.{Turn, played, TurnsRun, turns_out}}
-use Rattle.disk_machine.specs.Turns.{turns_in, turns_done, turns_ahead, turns_idle, turns_of_taking}
-use Rattle.disk_machine.specs.Turns.{turns_into}
+use Rattle.disk_machine.specs.{Ahead.LooksAhead, Asking.{AsksFor, HearsSafely, IsHonest, turns_told}}
+use Rattle.disk_machine.specs.{Idling.{Idles, WorksAhead, steps_ahead, steps_idle}}
+use Rattle.disk_machine.specs.Machine.{Machine, Serves, LeavesOf, IsCaughtUp}
+use Rattle.disk_machine.specs.Moves.{ServesLater, StaysSafe, Turn, begun, played, ticks}
+use Rattle.disk_machine.specs.{Packets.{TakesOut, SendsIn, AnswersSetup}, Plays.{Prompt}}
+use Rattle.disk_machine.specs.Transfers.{SendsInto, TakesTransfer, turns_in, turns_into, turns_out}
+use Rattle.disk_machine.specs.Transfers.{turns_of_taking}
 use Rattle.spec.specs.declared.event.Event.TheVariants as event
 
 -- a call, with what it is given
@@ -32,8 +32,7 @@ abbrev pub IsMade : Call → Machine → Machine → Type 0
 IsMade (next room) old new = (what : DeviceAsk) × (filled : List ℕ)
     × AsksFor old room what new filled × StaysSafe old new
 IsMade (done ok bytes) old new = IsHonest old ok bytes
-    × ((result : Result (Unit {0}) DoneFault) × Hears old ok bytes result new
-    × StaysSafe old new)
+    × ((result : Result (Unit {0}) DoneFault) × HearsSafely old ok bytes result new)
 IsMade (bulk_out packet) old new = (code : ℕ) × TakesOut old packet new code
 IsMade (bulk_in room) old new = (filled : List ℕ) × (size : ℕ) × (code : ℕ)
     × SendsIn old room new filled size code
@@ -54,7 +53,8 @@ AreMade (call ∷ calls) old new = (mid : Machine) × IsMade call old mid × Are
 -- what the host and the disk say to each other in a call
 abbrev pub turns_of : (call : Call) (old new : Machine) → IsMade call old new → List Turn
 turns_of (next room) old new made = []
-turns_of (done ok bytes) old new made = turns_done old.asked ok
+turns_of (done ok bytes) old new made =
+    turns_told old.asked ok ++ ticks made.1.1.hears.goes.count
 turns_of (bulk_out packet) old new (code, takes) = turns_out old packet new code takes
 turns_of (bulk_in room) old new (filled, size, code, sends) =
     turns_in old room new filled size code sends
@@ -63,9 +63,9 @@ turns_of (take_transfer bytes) old new (taken, code, takes) =
 turns_of (send_transfer room) old new (was, filled, given, code, sends) =
     turns_into old room was new filled given code sends
 turns_of (setup packet room) old new (filled, size, code, answers) =
-    played (event.Setup packet) answers.0 ∷ []
-turns_of idle old new (left, idles) = turns_idle old new idles.stepped
-turns_of work_ahead old new works = turns_ahead old new works.gone
+    played (event.Setup packet) answers.answer ∷ []
+turns_of idle old new (left, idles) = ticks (steps_idle old new idles.stepped)
+turns_of work_ahead old new works = ticks (steps_ahead old new works.gone)
 turns_of (look_ahead first count) old new made = []
 
 abbrev pub turns_in_all : (calls : List Call) (old new : Machine) → AreMade calls old new
@@ -74,24 +74,11 @@ turns_in_all [] old new same = []
 turns_in_all (call ∷ calls) old new (mid, made, rest) =
     turns_of call old mid made ++ turns_in_all calls mid new rest
 
--- The life is served on: all that was told is told still, and the accepted writes are those of
--- before, and maybe more. What was said since is by the rules, from this book to the later one.
-pub record ServesLater (told : ℕ) (book : Book) (old : Machine) (turns : List Turn) (new : Machine)
-    : Type 0 where
-  pub told_now : ℕ
-  pub later : Book
-  pub serves : Serves new told_now later
-  pub told_stays : told ≤ told_now
-  pub life : IsSameLife book later
-  pub since : List Write
-  pub writes : later.writes ≡ book.writes ++ since
-  pub run : TurnsRun (over old.disk book) turns (over new.disk later)
-
 -- whatever calls of a machine come, in any order
 abbrev pub ServesThroughout : Type 0
 ServesThroughout = (calls : List Call) (old new : Machine) (made : AreMade calls old new)
-    (told : ℕ) (book : Book) → Serves old told book
-    → ServesLater told book old (turns_in_all calls old new made) new
+    (book : Book) (c : Lagging UnitState) → Serves old book c
+    → ServesLater book c (turns_in_all calls old new made) new
 
 -- what the laws suppose of a device is met
 pub record DeviceWitness : Type 0 where
@@ -99,5 +86,5 @@ pub record DeviceWitness : Type 0 where
   pub leaves : (opening : List ℕ) (calls : List DeviceCall) (told : ℕ) → told ≤ length calls
       → LeavesOf opening calls told (after (durable opening) calls).content
   -- where a start left no call, it is caught up
-  pub caught_up : (disk : Disk) (most : ℕ) → (medium_of disk).outbox ≡ []
+  pub caught_up : (disk : Prompt) (most : ℕ) → disk.unit.store.medium.outbox ≡ []
       → IsCaughtUp (begun disk most)

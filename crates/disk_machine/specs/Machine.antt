@@ -4,19 +4,17 @@ use Rattle.std.specs.Prelude.{◌≡◌, ◌⊎◌, ℕ, ◌+◌, ◌-◌, ◌�
 use Rattle.medium.specs.Medium.{Image, CutLeaves}
 use Rattle.logical_blocks.specs.{Blocks.Write, Book.{Book, with_write}}
 use Rattle.scsi.specs.Rules.{UnitState}
+use Rattle.spec.specs.Lagging.{Lagging}
 use Rattle.window.specs.{Device.{durable, after}, OutboxMedium.sent, Parts.AreCarriedOut}
 use Rattle.window.specs.{declared.{call.DeviceCall.DeviceCall, asked.Asked.Asked}, Window.state_of}
 use Rattle.window.specs.Window.{mirror_of}
 use Rattle.scsi_unit.specs.Books.{MayFind}
-use Rattle.bot_machine.specs.Disk.{FitsDisk}
-use Rattle.disk_machine.specs.{Plays.medium_of, declared.machine.DiskMachine.DiskMachine}
-use Rattle.scsi_unit.specs.UnitValue.{state_of as unit_state}
+use Rattle.bot_machine.specs.LaggingDisk.{StandsFor, held_book}
+use Rattle.disk_machine.specs.{Seen.{is_faulted, medium_of}, declared.machine.DiskMachine.DiskMachine}
 use Rattle.window.specs.declared.asked.Asked.TheVariants as asked
-use Rattle.disk_machine.specs.declared.waiting.Waiting.TheVariants as waiting
 
--- a disk, how many calls may wait in its outbox when a packet is taken, what the device was asked
--- for last and has not told done, what waits until the device has carried out all, and the
--- sectors that it is to read
+-- a disk, how many calls may wait in its outbox when a step is made, what the device was asked for
+-- last and has not told done, and the sectors that it is to read ahead
 abbrev pub Machine : Type 0
 Machine = DiskMachine
 
@@ -61,30 +59,22 @@ MayLeave s image = LeavesOf (medium_of s.disk).seen.told.opening
 
 -- ---- the promise
 
--- the book of a life of which the host was told promises of so many writes alone
-abbrev pub promising : ℕ → Book → Book
-promising told book = record book { mark = told }
+-- A start finds the first k of the writes of this book, the promised ones among them. A unit that
+-- an error faulted may have had a write in progress: k may count it too.
+abbrev pub Finds : ℕ → Bool → Book → Image → Type 0
+Finds size faulted book image = MayFind size book image
+    ⊎ ((faulted ≡ true) × ((write : Write) × MayFind size (with_write book write) image))
 
--- A start finds the first k of the accepted writes, and those that were promised to the host are
--- among them. A unit that an error faulted may have had a write in progress: k may count it too.
-abbrev pub Finds : ℕ → ℕ → UnitState → Image → Type 0
-Finds size told u image =
-    MayFind size (promising told u.book) image
-    ⊎ ((u.faulted ≡ true)
-    × ((write : Write) × MayFind size (with_write (promising told u.book) write) image))
+-- Whatever a loss of power leaves, wherever the device is, a start finds the promised writes of the
+-- life, and of those behind them the first some, none in part. That of a command that is pending,
+-- where a batch has it, is the last of them.
+abbrev pub Keeps : Machine → Book → Type 0
+Keeps s book = book.ours ≡ true → (image : Image) → MayLeave s image
+    → Finds (state_of (medium_of s.disk)).size (is_faulted s.disk) (held_book s.disk book) image
 
--- whatever a loss of power leaves, wherever the device is, a start finds the first `told` writes of
--- the book, and of those behind them the first some, none in part
-abbrev pub Keeps : Machine → ℕ → Book → Type 0
-Keeps s told book = book.ours ≡ true → (image : Image) → MayLeave s image
-    → Finds (state_of (medium_of s.disk)).size told (unit_state s.disk.unit book) image
-
--- The machine serves a life with this book, of which the host was promised the first `told` writes.
-pub record Serves (s : Machine) (told : ℕ) (book : Book) : Type 0 where
-  pub fits : FitsDisk (state_of (medium_of s.disk)) s.disk book
-  pub fewer : told ≤ book.mark
-  pub keeps : Keeps s told book
-  -- where nothing waits for the device, all that the book promises is kept, unless the device
-  -- refused a call: then the unit is faulted
-  pub all : s.waiting ≡ waiting.Nothing → has_refused s.asked ≡ false → Keeps s book.mark book
-  pub faulted : has_refused s.asked ≡ true → (unit_state s.disk.unit book).faulted ≡ true
+-- The machine serves a life with this book, of which the host and the disk have come so far.
+pub record Serves (s : Machine) (book : Book) (c : Lagging UnitState) : Type 0 where
+  pub stands : StandsFor (state_of (medium_of s.disk)) s.disk book c
+  pub keeps : Keeps s book
+  -- where the device refused a call the unit is faulted
+  pub faulted : has_refused s.asked ≡ true → is_faulted s.disk ≡ true

@@ -2,16 +2,12 @@
 use Rattle.std.specs.Prelude.{◌≡◌, ◌≢◌, ◌≤◌, ◌<◌, ◌⊎◌, ℕ, ◌+◌, ◌*◌}
 use Rattle.journal.specs.{Places.{Shape, limit_of}, Sectors.version_of}
 use Rattle.journal.specs.declared.log_format.LogFormat.{TheVariants.{One, Two}, LogFormat}
-use Rattle.scsi_unit.specs.Calls.{most_steps}
--- handed on
-pub use Rattle.store_calls.specs.Rooms.{most_sent}
+use Rattle.store_calls.specs.Rooms.{most_left}
 
--- As many writes and flushes as make one record durable, 52 in format 1 and 250 in format 2, and
--- two more: so a step has room where a whole record waits. No packet that is played makes more: one
--- that asks for any is put off until the records before it are written, and its own takes no call
--- for its room.
+-- As many calls as steps leave there: each is made while 63 wait at most, and makes two at most. No
+-- other event asks the device for anything.
 abbrev pub room_of : LogFormat → ℕ
-room_of format = most_steps format + 2
+room_of format = most_left
 
 -- that of an image
 abbrev pub room_for : Shape → ℕ

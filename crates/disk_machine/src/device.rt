@@ -1,15 +1,16 @@
 //! What the device is asked for.
-ghost use Rattle.std.specs.Prelude.{◌≡◌, ◌⊎◌, ◌↔◌, List, [], ℕ, length, IsTrue};
+ghost use Rattle.std.specs.Prelude.{◌≡◌, List, [], ℕ, length};
 ghost use Rattle.store_calls.specs.Outbox.{IsNoRoom};
 ghost use Rattle.disk_machine.specs.Plays.{medium_of};
-ghost use Rattle.disk_machine.specs.Asking.{AsksFor, HandsOut, IsOvertaken};
+ghost use Rattle.disk_machine.specs.{Asking.{AsksFor, HandsOut}, Wanted.LacksNone};
 ghost use Rattle.disk_machine.specs.Moves.{StaysSafe};
+ghost use Rattle.window.specs.declared.ask.DeviceAsk.TheVariants as ask;
 ghost use Rattle.window.specs.declared.asked.Asked.TheVariants as asked;
 
 use crate::lack::Lack;
 use crate::machine::DiskMachine;
 use crate::run::let_go;
-use window::{Asked, DeviceAsk};
+use window::{Asked, DeviceAsk, DeviceRead};
 
 impl DiskMachine {
     /// What the device is to do next: nothing as long as it has not told the last call done. The
@@ -32,27 +33,28 @@ impl DiskMachine {
         ensures { self.old.asked ≡ asked.Nothing → ¬ IsNoRoom (length buffer.old)
             → AsksFor self.old buffer.old result self.new buffer.new }
     {
-        if self.is_overtaken() {
-            self.ask_to_read()
-        } else {
-            self.ask_in_order(buffer)
+        match self.lacks() {
+            Some(home) => {
+                self.lack = Lack::Nothing;
+                self.read(home)
+            }
+            None => self.ask_in_order(buffer),
         }
     }
 
-    // Whether a READ lacks sectors.
-    fn is_overtaken(&self) -> bool
-        ensures { IsTrue result ↔ IsOvertaken self.now }
+    // The device is asked to read.
+    fn read(&mut self, home: DeviceRead) -> DeviceAsk
+        ensures is { self.new ≡ record self.old { asked = asked.Read home } }
+        ensures told { result ≡ ask.Read home }
     {
-        match self.lack {
-            Lack::Wanted(_) => true,
-            Lack::Nothing | Lack::Ahead(_) | Lack::Ended | Lack::Unread(_) => false,
-        }
+        self.asked = Asked::Read(home);
+        DeviceAsk::Read(home)
     }
 
-    // What it is to do next where no READ comes before the calls that wait.
+    // What it is to do next where no READ lacks sectors.
     fn ask_in_order(&mut self, buffer: &mut [u8]) -> DeviceAsk
         ensures { self.old.asked ≡ asked.Nothing → ¬ IsNoRoom (length buffer.old)
-            → ¬ IsOvertaken self.old → AsksFor self.old buffer.old result self.new buffer.new }
+            → LacksNone self.old → AsksFor self.old buffer.old result self.new buffer.new }
     {
         let ask = self.disk.medium().ask(buffer);
         match ask {
@@ -64,7 +66,7 @@ impl DiskMachine {
                 self.hand_out(1);
                 ask
             }
-            DeviceAsk::Nothing | DeviceAsk::Read(_) => self.ask_to_read(),
+            DeviceAsk::Nothing | DeviceAsk::Read(_) => self.read_ahead(),
         }
     }
 
@@ -76,18 +78,15 @@ impl DiskMachine {
         self.asked = Asked::Calls(count);
     }
 
-    // The sectors that are to be read, where they come before the calls that wait, or none waits.
-    fn ask_to_read(&mut self) -> DeviceAsk
-        ensures { self.old.asked ≡ asked.Nothing
-            → IsOvertaken self.old ⊎ ((medium_of self.old.disk).outbox ≡ [])
+    // The sectors that are to be read ahead, where no call waits.
+    fn read_ahead(&mut self) -> DeviceAsk
+        ensures { self.old.asked ≡ asked.Nothing → (medium_of self.old.disk).outbox ≡ []
+            → LacksNone self.old
             → (buffer : List ℕ) → AsksFor self.old buffer result self.new buffer }
     {
         match self.lack {
-            Lack::Wanted(home) | Lack::Ahead(home) => {
-                self.asked = Asked::Read(home);
-                DeviceAsk::Read(home)
-            }
-            _ => DeviceAsk::Nothing,
+            Lack::Ahead(home) => self.read(home),
+            Lack::Nothing | Lack::Ended | Lack::Unread(_) => DeviceAsk::Nothing,
         }
     }
 }

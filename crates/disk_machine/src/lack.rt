@@ -1,15 +1,13 @@
-//! What the device is to read, and what became of it.
+//! What the device is to read ahead, and what became of a read.
 use window::DeviceRead;
 
-/// The sectors that the device is to read, or was asked to, since a packet was played.
+/// The sectors that the device is to read ahead, or what became of its last read since a packet.
 #[derive(Clone, Copy, Debug, PartialEq, Eq)]
 pub enum Lack {
     Nothing,
-    /// A READ lacks these home sectors: they are to be read.
-    Wanted(DeviceRead),
-    /// No READ lacks these sectors yet: they are to be read ahead.
+    /// No READ lacks these sectors yet: they are to be read ahead, or the device reads them.
     Ahead(DeviceRead),
-    /// The read has ended, of a READ good: nothing is read ahead before the next packet is played.
+    /// The read has ended, of a READ good: nothing is read ahead before the next packet.
     Ended,
     /// The device could not read these home sectors, which a READ lacks.
     Unread(DeviceRead),

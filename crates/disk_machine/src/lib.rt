@@ -1,13 +1,14 @@
 //! A disk that says what its device is to do next, while packets come.
 //!
-//! Below it a disk over a medium that reads on demand: what each event of it answers by number,
-//! what leaves its outbox, and which sectors it wants. include/usbdisk.h tells the numbers.
+//! A packet is acknowledged once its bytes are all there, and its command goes on by steps, as far
+//! as the device has come. include/usbdisk.h tells the numbers of the answers.
 #![tactic(auto)]
 
 mod ahead;
 mod codes;
 mod device;
 mod identity;
+mod going;
 mod idle;
 mod lack;
 mod laws;
@@ -15,7 +16,6 @@ mod look;
 mod machine;
 mod packets;
 mod play;
-mod putting_off;
 mod refused;
 mod resting;
 mod room;
@@ -23,7 +23,6 @@ mod run;
 mod tokens;
 mod told;
 mod transfers;
-mod waiting;
 mod wanted;
 
 pub use codes::{
@@ -35,8 +34,4 @@ pub use lack::Lack;
 pub use laws::machine_laws;
 pub use look::{UsbDiskLayout, layout_of, super_code};
 pub use machine::DiskMachine;
-pub use play::{answer_request, make_step, play_packet, send_packet, show_sectors};
-pub use refused::refuse;
 pub use room::room_for;
-pub use waiting::Waiting;
-pub use wanted::unseen;

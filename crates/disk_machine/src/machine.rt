@@ -1,12 +1,12 @@
 //! A disk, and the device behind it, which may be behind.
-ghost use Rattle.std.specs.Prelude.{◌≡◌};
-ghost use Rattle.disk_machine.specs.Moves.{ServesAtRest, BeginsBehind, WaitsForDevice};
-ghost use Rattle.disk_machine.specs.Moves.{begun, state_by, state_of};
+ghost use Rattle.std.specs.Prelude.{◌≡◌, ◌↔◌, IsTrue};
+ghost use Rattle.disk_machine.specs.Idling.{is_pending};
+ghost use Rattle.disk_machine.specs.Machine.{IsCaughtUp, has_refused};
+ghost use Rattle.disk_machine.specs.Moves.{ServesAtRest, BeginsBehind, begun, state_of};
 
 use crate::lack::Lack;
 use crate::play::foresee;
-use crate::waiting::Waiting;
-use bot_machine::Disk;
+use bot_machine::{Disk, LaggingDisk};
 use medium::Medium;
 use window::{Asked, MachineState, WindowMedium};
 
@@ -14,14 +14,12 @@ use window::{Asked, MachineState, WindowMedium};
 /// device does it.
 #[derive(Drop)]
 pub struct DiskMachine {
-    pub(crate) disk: Disk<WindowMedium>,
+    pub(crate) disk: LaggingDisk<WindowMedium>,
     // How many calls may wait in the outbox when a step is made.
     pub(crate) most: usize,
     // What the device was asked for last, and has not told done.
     pub(crate) asked: Asked,
-    // What waits until the device has carried out all.
-    pub(crate) waiting: Waiting,
-    // The sectors that it is to read, or was asked to, since a packet was played.
+    // What it is to read ahead, and what became of its last read.
     pub(crate) lack: Lack,
 }
 
@@ -32,18 +30,11 @@ impl DiskMachine {
         ensures is { result ≡ begun disk most }
         ensures serves { ServesAtRest result }
         ensures starts { BeginsBehind result }
-        ensures waits { WaitsForDevice result }
     {
-        let waiting = if disk.medium().waiting() == 0 {
-            Waiting::Nothing
-        } else {
-            Waiting::Start
-        };
         let machine = DiskMachine {
-            disk,
+            disk: LaggingDisk::new(disk),
             most,
             asked: Asked::Nothing,
-            waiting,
             lack: Lack::Nothing,
         };
         machine.rest();
@@ -54,27 +45,39 @@ impl DiskMachine {
     pub fn state(&self) -> MachineState
         ensures { result ≡ state_of self.now }
     {
+        if self.is_refused() {
+            MachineState::Refused
+        } else {
+            MachineState::Serving
+        }
+    }
+
+    // Whether the device refused a call.
+    pub(crate) fn is_refused(&self) -> bool
+        ensures { result ≡ has_refused self.now.asked }
+    {
         match self.asked {
-            Asked::Refused(_, _) => MachineState::Refused,
-            Asked::Nothing | Asked::Calls(_) | Asked::Read(_) => self.starting_or_serving(),
+            Asked::Refused(_, _) => true,
+            Asked::Nothing | Asked::Calls(_) | Asked::Read(_) => false,
         }
     }
 
-    // What a machine is at whose device refused nothing.
-    fn starting_or_serving(&self) -> MachineState
-        ensures { result ≡ state_by self.now.waiting }
+    // Whether the device has told each call done that the disk ever made.
+    pub(crate) fn is_caught_up(&self) -> bool
+        ensures { IsTrue result ↔ IsCaughtUp self.now }
     {
-        match self.waiting {
-            Waiting::Start => MachineState::Starting,
-            Waiting::Nothing | Waiting::Promise => MachineState::Serving,
+        match self.asked {
+            Asked::Nothing | Asked::Read(_) => self.disk.medium().waiting() == 0,
+            Asked::Calls(count) => count == 0 && self.disk.medium().waiting() == 0,
+            Asked::Refused(_, _) => false,
         }
     }
 
-    /// Gives the disk back, wherever its device is.
-    pub fn into_disk(self) -> Disk<WindowMedium>
-        ensures { result ≡ self.disk }
+    // Whether a command is pending.
+    pub(crate) fn is_pending(&self) -> bool
+        ensures { result ≡ is_pending self.now.disk }
     {
-        self.disk
+        self.disk.needs().is_some()
     }
 
     // Does nothing. Where the device has carried out all, each promise stands; where it has carried

@@ -2,19 +2,19 @@
 ghost use Rattle.disk_machine.specs.Refused.{IsRefused, IsDrained};
 
 use crate::run::let_go;
-use bot_machine::Disk;
+use bot_machine::LaggingDisk;
 use window::WindowMedium;
 
 /// The device refused the call that was handed out last.
-pub fn refuse(disk: &mut Disk<WindowMedium>)
+pub(crate) fn refuse(disk: &mut LaggingDisk<WindowMedium>)
     ensures { IsRefused disk.old disk.new }
 {
     drain(disk);
-    disk.fault();
+    disk.refuse();
 }
 
 // All that waits leaves the outbox.
-fn drain(disk: &mut Disk<WindowMedium>)
+fn drain(disk: &mut LaggingDisk<WindowMedium>)
     ensures { IsDrained disk.old disk.new }
 {
     let waiting = disk.medium().waiting();

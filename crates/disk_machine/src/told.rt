@@ -1,14 +1,13 @@
 //! What the device tells of what it was asked for.
 ghost use Rattle.std.specs.Prelude.{◌≡◌};
-ghost use Rattle.disk_machine.specs.Asking.{Hears, IsDone, IsHonest, HasRead};
+ghost use Rattle.disk_machine.specs.Asking.{HearsSafely, IsDone, HasRead};
 ghost use Rattle.disk_machine.specs.Asking.{IsGivenUp, counted, is_ahead, read_over};
-ghost use Rattle.disk_machine.specs.Moves.{StaysSafe, ServesAtRest};
+ghost use Rattle.disk_machine.specs.Moves.{ServesAtRest};
 
 use crate::lack::Lack;
 use crate::machine::DiskMachine;
 use crate::play::show_sectors;
 use crate::refused::refuse;
-use crate::waiting::Waiting;
 use window::{Asked, DeviceRead, DoneFault, SECTOR};
 
 impl DiskMachine {
@@ -16,17 +15,17 @@ impl DiskMachine {
     /// the sectors, and of other calls no bytes are looked at. Writes that ended good need not be
     /// durable before the next flush has. A call that it refused is its last: it is asked for
     /// nothing more, and the disk is faulted. What it could not read ahead is read anew for a READ
-    /// that lacks it.
+    /// that lacks it. Then a command that is pending goes on.
     ///
     /// # Errors
     /// `NothingAsked` where the device is at no call, and `BadLength` where the bytes are not as
     /// many as those of the sectors that it was to read. Nothing changes then.
     pub fn done(&mut self, ok: bool, bytes: &[u8]) -> Result<(), DoneFault>
-        ensures is { Hears self.old ok bytes.now result self.new }
-        ensures stays { IsHonest self.old ok bytes.now → StaysSafe self.old self.new }
+        ensures is { HearsSafely self.old ok bytes.now result self.new }
         ensures rest { ServesAtRest self.new }
     {
         let told = self.hear(ok, bytes);
+        self.go_on();
         self.rest();
         told
     }
@@ -54,9 +53,6 @@ impl DiskMachine {
         ensures { self.new ≡ counted self.old }
     {
         self.asked = Asked::Nothing;
-        if self.disk.medium().waiting() == 0 {
-            self.waiting = Waiting::Nothing;
-        }
     }
 
     // The device refused so many calls.
@@ -66,7 +62,6 @@ impl DiskMachine {
         let behind = self.disk.medium().waiting();
         refuse(&mut self.disk);
         self.asked = Asked::Refused(count, behind);
-        self.waiting = Waiting::Nothing;
     }
 
     // A read of these sectors has ended, good or not.
@@ -90,20 +85,20 @@ impl DiskMachine {
         ensures { self.new ≡ read_over self.old home taken }
     {
         self.asked = Asked::Nothing;
-        self.lack = if taken || self.is_ahead() {
+        self.lack = if taken || is_ahead(self.lack) {
             Lack::Ended
         } else {
             Lack::Unread(home)
         };
     }
+}
 
-    // Whether the device reads ahead, or is to.
-    fn is_ahead(&self) -> bool
-        ensures { result ≡ is_ahead self.now.lack }
-    {
-        match self.lack {
-            Lack::Nothing | Lack::Wanted(_) | Lack::Ended | Lack::Unread(_) => false,
-            Lack::Ahead(_) => true,
-        }
+/// Whether the device reads ahead, or is to.
+pub(crate) fn is_ahead(lack: Lack) -> bool
+    ensures { result ≡ is_ahead lack }
+{
+    match lack {
+        Lack::Nothing | Lack::Ended | Lack::Unread(_) => false,
+        Lack::Ahead(_) => true,
     }
 }

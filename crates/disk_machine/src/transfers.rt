@@ -3,12 +3,10 @@ ghost use Rattle.std.specs.Prelude.{◌≡◌, ◌⊎◌, ◌↔◌, ℕ, ◌*�
 ghost use Rattle.disk_machine.specs.Transfers.{TakesTransfer, SendsToken, SendsTransfer};
 ghost use Rattle.disk_machine.specs.Transfers.{SendsInto, TakesAmid, SendsAmid};
 
-use crate::codes::{ACK, BAD_LENGTH, NAK};
-use crate::lack::Lack;
+use crate::codes::{ACK, BAD_LENGTH};
 use crate::machine::DiskMachine;
-use crate::play::foresee;
+use crate::packets::lack_after;
 use crate::tokens::give_packet;
-use crate::waiting::Waiting;
 
 impl DiskMachine {
     /// A transfer to Bulk-Out, or a part of one that ends where a packet does: each packet as many
@@ -18,7 +16,7 @@ impl DiskMachine {
     pub fn take_transfer(&mut self, bytes: &[u8], taken: &mut usize) -> u32
         ensures { TakesTransfer self.old bytes.now self.new taken.new result }
     {
-        let most = self.disk.packet_size() as usize;
+        let most = self.disk.disk().packet_size() as usize;
         for number in self.take_run(bytes)..count_of(bytes.len(), most) {
             let at = number * most;
             let size = most.min(bytes.len() - at);
@@ -40,7 +38,7 @@ impl DiskMachine {
     pub fn send_transfer(&mut self, room: &mut [u8], given: &mut usize) -> u32
         ensures { SendsInto self.old room.old given.old self.new room.new given.new result }
     {
-        if room.len() < self.disk.packet_size() as usize {
+        if room.len() < self.disk.disk().packet_size() as usize {
             return BAD_LENGTH;
         }
         self.fill(room, given)
@@ -50,7 +48,7 @@ impl DiskMachine {
     fn fill(&mut self, room: &mut [u8], given: &mut usize) -> u32
         ensures { SendsTransfer self.old room.old self.new room.new given.new result }
     {
-        let most = self.disk.packet_size() as usize;
+        let most = self.disk.disk().packet_size() as usize;
         let places = room.len() / most;
         for count in self.give_run(room)..places {
             let at = count * most;
@@ -69,19 +67,17 @@ impl DiskMachine {
         ACK
     }
 
-    // The first packets, as far as they lie in the midst of data: all by one copy. No event of such
-    // a packet is put off, lacks sectors, or asks the device for anything.
+    // The first packets, as far as they lie in the midst of data: all by one copy. None of them
+    // begins a command.
     fn take_run(&mut self, bytes: &[u8]) -> usize
         ensures { TakesAmid self.old bytes.now self.new result }
     {
-        if self.holds_back() {
+        if self.is_pending() {
             return 0;
         }
-        self.rest();
-        foresee(&self.disk);
         let count = self.disk.bulk_out_run(bytes);
         if count > 0 {
-            self.lack = Lack::Nothing;
+            self.lack = lack_after(self.lack);
         }
         count
     }
@@ -90,27 +86,15 @@ impl DiskMachine {
     fn give_run(&mut self, room: &mut [u8]) -> usize
         ensures { SendsAmid self.old room.old self.new room.new result }
     {
-        match self.waiting {
-            Waiting::Nothing => {
-                foresee(&self.disk);
-                self.disk.bulk_in_run(room)
-            }
-            Waiting::Promise | Waiting::Start => 0,
-        }
+        self.disk.bulk_in_run(room)
     }
 
     // A token to Bulk-In, whose packet goes to the front of a room in which the greatest has place.
     fn token(&mut self, to: &mut [u8], size: &mut usize) -> u32
-        requires { self.old.disk.line.packet_size ≤ length to.old }
+        requires { self.old.disk.disk.line.packet_size ≤ length to.old }
         ensures { SendsToken self.old to.old self.new to.new size.new result }
     {
-        match self.waiting {
-            Waiting::Nothing => give_packet(&mut self.disk, to, size),
-            Waiting::Promise | Waiting::Start => {
-                *size = 0;
-                NAK
-            }
-        }
+        give_packet(&mut self.disk, to, size)
     }
 }
 

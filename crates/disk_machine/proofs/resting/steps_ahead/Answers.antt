@@ -7,11 +7,11 @@ pub loop-made-preserved : goal.loop-made-preserved
 loop-made-preserved c =
     let before = c.waiting-before.ensures.is ∙ ap (λ (w : Window). length w.outbox) c.medium.ensures.is in
     let after = c.waiting.ensures.is ∙ ap (λ (w : Window). length w.outbox) c.medium-in-loop-made.ensures.is in
-    let may : AsksAhead c.args.most c.loop-made.disk c.make_step-left.new.disk = record {
+    let may : AsksAhead c.args.most c.loop-made.disk c.make_step.new.disk = record {
       short = omega (arith, c.if-before-most.false, before);
       asks = λ same. c.if-waiting-before.false (after ∙ same ∙ sym before);
     } in
-    rw add-one (c.loop-made.disk, c.loop-made.invariant, may, c.make_step-left.ensures.plays)
+    rw add-one (c.loop-made.disk, c.loop-made.invariant, may, c.make_step.ensures)
 
 pub returns-then-before-most : goal.returns-then-before-most
 returns-then-before-most c =
@@ -34,6 +34,6 @@ returns-then-waiting-before c =
       steps = c.loop-made.invariant;
       ends = inr (
         omega (arith, c.loop-made-test.true),
-        (short, c.make_step-left.ensures.plays, sym after ∙ c.if-waiting-before.true ∙ before),
+        (short, c.make_step.ensures, sym after ∙ c.if-waiting-before.true ∙ before),
       );
     }

@@ -11,5 +11,5 @@ loop-gone-preserved c = (
   taking.one_more c.loop-gone._gone (medium_of c.args.disk.now) (medium_of c.loop-gone.disk) (medium_of c.pop.new.self)
       c.loop-gone.invariant.0 c.pop.ensures.armed,
   one_more c.args.disk.now c.loop-gone.disk c.pop.new.self c.loop-gone.invariant.1
-      (record { others = c.pop.ensures.others; fits = c.pop.ensures.fits }),
+      (record { others = c.pop.ensures.rearmed; pending = c.pop.ensures.pending; stands = c.pop.ensures.stands }),
 )

@@ -20,7 +20,7 @@ none_waits waits room filled ask.Flush is asks = absurd (elim is [ inl e ↦ cc 
 none_waits waits room filled (ask.Read read) is asks = absurd asks
 
 pub returns-in-Nothing : goal.returns-in-Nothing
-returns-in-Nothing c = λ free room over.
+returns-in-Nothing c = λ free room lacks.
     let asks = rw c.medium.ensures.is at c.ask-ask.ensures in
     let none = none_waits _ c.args.buffer.now c.ask-ask.new.to c.ask-ask.result c.in-Nothing.is asks in
-    rw none.1 (c.ask_to_read.ensures free (inr none.0) c.args.buffer.now)
+    rw none.1 (c.read_ahead.ensures free none.0 lacks c.args.buffer.now)

@@ -1,5 +1,5 @@
-use Rattle.disk_machine.proofs.Playing.{sends_on}
+use Rattle.disk_machine.proofs.Still.{serves_still}
 use Rattle.disk_machine.proofs.machine.DiskMachine.bulk_in.Goals as goal
 
-pub returns-in-Nothing : goal.returns-in-Nothing
-returns-in-Nothing c = sends_on c.args.self.now c.send_packet.new.disk _ _ _ _ c.in-Nothing.is c.send_packet.ensures
+pub returns : goal.returns
+returns c = let told = c.give_packet-code.ensures in serves_still c.args.self.now _ _ _ _ _ _ _ told.1 told.2

@@ -1,5 +1,5 @@
-use Rattle.std.proofs.Common.{◌∙◌, ◌*◌, ◌+◌, ◌-◌, ◌≤◌, ℕ, length, sym, subst, arith}
-use Rattle.disk_machine.{specs.Transfers.SendsFirst, proofs.PacketLaws.{token_stays, has_place, sent_more}}
+use Rattle.std.proofs.Common.{◌∙◌, ◌*◌, ◌+◌, ◌-◌, ◌≤◌, ℕ, length, ap, sym, subst, arith}
+use Rattle.disk_machine.{specs.{Seen.Prompt, Transfers.SendsFirst}, proofs.PacketLaws.{token_stays, has_place, sent_more}}
 use borrow.Rule.Slice.PartMut.{put_mid}
 use Rattle.disk_machine.proofs.machine.DiskMachine.fill.Goals as goal
 
@@ -7,7 +7,7 @@ pub loop-count-preserved : goal.loop-count-preserved
 loop-count-preserved c =
     let count = c.loop-count.count in
     let most = c.packet_size-most.result in
-    let is = c.packet_size-most.ensures.is in
+    let is = c.packet_size-most.ensures.is ∙ ap (λ (d : Prompt). d.line.packet_size) c.disk.ensures in
     let room = c.loop-count.room in
     let told = c.token-told in
     let fits : count * most + most ≤ length room =

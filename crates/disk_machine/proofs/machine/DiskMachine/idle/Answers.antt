@@ -1,5 +1,5 @@
 use Rattle.std.proofs.Common.{◌↔◌, ◌≡◌, Bool, false, not, IsTrue, arith}
-use Rattle.disk_machine.proofs.Playing.{idle_goes_on}
+use Rattle.disk_machine.proofs.Onward.{idle_serves}
 use Rattle.disk_machine.proofs.machine.DiskMachine.idle.Goals as goal
 
 -- some are left where not all is settled
@@ -9,8 +9,8 @@ told settled P is = grind (arith, is)
 pub returns : goal.returns
 returns c = record {
   stepped = c.step.ensures;
-  none_left = told _ _ c.is_settled.ensures.steps;
-  at_home = λ none. c.is_settled.ensures.settled (grind (arith, none));
-  serves = (idle_goes_on _ _ c.step.ensures).0;
-  goes_on = (idle_goes_on _ _ c.step.ensures).1;
+  none_left = told _ _ (rw c.disk.ensures at c.is_settled.ensures.steps);
+  at_home = λ none. rw c.disk.ensures at (c.is_settled.ensures.settled (grind (arith, none)));
+  serves = (idle_serves _ _ c.step.ensures).0;
+  goes_on = (idle_serves _ _ c.step.ensures).1;
 }

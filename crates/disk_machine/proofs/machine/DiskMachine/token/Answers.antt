@@ -1,6 +1,5 @@
-use Rattle.disk_machine.proofs.Playing.{sends_on}
+use Rattle.disk_machine.proofs.Still.{serves_still}
 use Rattle.disk_machine.proofs.machine.DiskMachine.token.Goals as goal
 
-pub returns-in-Nothing : goal.returns-in-Nothing
-returns-in-Nothing c =
-    (sends_on c.args.self.now c.give_packet.new.disk _ _ _ _ c.in-Nothing.is c.give_packet.ensures.0, c.give_packet.ensures.1)
+pub returns : goal.returns
+returns c = let told = c.give_packet.ensures in (serves_still c.args.self.now _ _ _ _ _ _ _ told.1 told.2, told.3)
