@@ -6,7 +6,7 @@
  * 3 a READ is given up where steps were made meanwhile
  * 4 a WRITE with the write cache off is taken for one that promises nothing
  * 5 the device is asked to read before it has carried out what waits
- * 6 the status of each WRITE waits until the device has caught up
+ * 6 the answer of a command that asks for nothing waits until the device has caught up
  * 7 a status that waits is told while the last call is under way
  * 8 a status waits on behind a refusal
  * 9 sectors that the device could not read are asked for again
@@ -27,7 +27,12 @@
  * 24 of a transfer that is taken in part nothing is told to be taken
  * 25 a byte of the room behind the packets changes
  * 26 a start flushes nothing before its first write
- * 27 in format 2 a block that goes home while no promise waits is told done, and stays away */
+ * 27 in format 2 a block that goes home while no promise waits is told done, and stays away
+ * 28 a class reset leaves a command that is pending
+ * 29 a READ is told the bytes of the READ before it
+ * 30 a FLUSH is told done when it begins
+ * 31 a READ sends what lies at home, and not what waits to go there
+ * 32 a recovery writes nothing */
 #include "planted.h"
 #include <stdlib.h>
 #include <string.h>
@@ -39,7 +44,7 @@ uint32_t WRAP(start)(struct usbdisk *disk, const struct usbdisk_options *options
         free(it->queue[it->oldest++ % 64].bytes);
     memset(it, 0, sizeof *it);
     it->disk = disk;
-    it->is_cached = true;
+    it->is_started = it->is_cached = true;
     return REAL(start)(disk, options);
 }
 
@@ -105,7 +110,8 @@ static bool is_left_out(struct spy *it, const struct usbdisk_call *call, bool *o
         is_lost = it->is_ahead_lost && is_read && meets_ahead(it, call) && !it->is_ahead;
     *ok = !is_read;
     it->is_ahead_lost &= !is_lost;
-    return (PLANTED == 12 && is_flush && it->call.kind == USBDISK_WRITE) ||
+    return (PLANTED == 12 && is_flush && it->is_open && it->call.kind == USBDISK_WRITE) ||
+           (PLANTED == 32 && call->kind == USBDISK_WRITE && it->is_started && it->mended < 3) ||
            (PLANTED == 26 && is_flush && !it->has_written) ||
            (PLANTED == 27 && is_home(it, call) && it->has_served && !it->waits) ||
            (PLANTED == 18 && is_read) || is_lost;
@@ -152,8 +158,10 @@ uint32_t WRAP(next)(struct usbdisk *disk, struct usbdisk_call *call, uint8_t *bu
         it->is_again = it->rests = false;
         return 0;
     }
+    if (it->is_told)
+        *call = (struct usbdisk_call){ .kind = USBDISK_NOTHING };
     if (is_under_way)
-        return REAL(next)(disk, call, buffer, size);
+        return it->is_told ? 0 : REAL(next)(disk, call, buffer, size);
     is_longer &= !it->is_open && size < sizeof it->ahead_bytes;
     bool is_queued = PLANTED == 5 && takes_queued(it, call, buffer, size);
     uint32_t code = is_queued ? 0 : tell_next(it, disk, call, buffer, size + 512 * is_longer);
@@ -163,14 +171,30 @@ uint32_t WRAP(next)(struct usbdisk *disk, struct usbdisk_call *call, uint8_t *bu
     it->is_ahead &= is_same(call, &it->ahead);
     it->is_idled = false;
     it->call = it->rests ? it->call : *call;
+    it->is_told = PLANTED == 30 && it->is_open && call->kind == USBDISK_FLUSH;
+    if (it->is_told)
+        REAL(done)(disk, true, buffer, 0);
+    spy_writes(it, buffer);
     return 0;
 }
 
+/* The bytes of the READ before, where it had as many. */
+static const uint8_t *bytes_before(struct spy *it, const uint8_t *bytes, size_t size)
+{
+    static uint8_t told[USBDISK_LIMIT(2) * 512];
+    memcpy(told, it->read_size == size ? it->read_bytes : bytes, size);
+    memcpy(it->read_bytes, bytes, size);
+    it->read_size = size;
+    return told;
+}
+
 /* What a READ of a host is told to hold. */
-static const uint8_t *told_bytes(const struct spy *it, const uint8_t *bytes, size_t size)
+static const uint8_t *told_bytes(struct spy *it, const uint8_t *bytes, size_t size)
 {
     static uint8_t mixed[USBDISK_LIMIT(2) * 512];
     const struct usbdisk_call *ahead = &it->ahead;
+    if (PLANTED == 29)
+        return bytes_before(it, bytes, size);
     if (PLANTED != 21 || it->is_ahead || !meets_ahead(it, &it->call) || !size)
         return bytes;
     memcpy(mixed, bytes, size);
@@ -201,6 +225,10 @@ uint32_t WRAP(done)(struct usbdisk *disk, bool ok, const uint8_t *bytes, size_t 
     if (is_read && ok && size != 512 * it->call.count)
         return REAL(done)(disk, ok, bytes, size);
     it->rests = it->has_ended = true;
+    if (it->is_told) {
+        it->is_told = false;
+        return 0;
+    }
     if (PLANTED == 9 && is_host && !ok && !it->is_ahead) {
         it->is_again = true;
         return 0;
@@ -285,9 +313,9 @@ static uint32_t tell_status(struct spy *it, uint8_t *room, size_t *given)
 uint32_t WRAP(in)(struct usbdisk *disk, uint8_t *room, size_t size, size_t *given)
 {
     struct spy *it = spy_of(disk);
-    bool is_write = (it->code == 0x2A || it->code == 0x8A) && !it->due;
+    bool is_quiet = (it->code == 0x03 || it->code == 0x1A) && size >= 512;
     bool is_late =
-        (PLANTED == 6 && is_write && !it->rests) || (PLANTED == 8 && it->is_refused && it->waits);
+        (PLANTED == 6 && is_quiet && !it->rests) || (PLANTED == 8 && it->is_refused && it->waits);
     *given = is_late ? 0 : *given;
     if (is_late)
         return USBDISK_NAK;
@@ -295,6 +323,8 @@ uint32_t WRAP(in)(struct usbdisk *disk, uint8_t *room, size_t size, size_t *give
     if (code == USBDISK_NAK && !it->owes && spy_tells_early(it))
         return tell_status(it, room, given);
     it->waits &= code != USBDISK_ACK;
+    if (PLANTED == 31 && code == USBDISK_ACK)
+        spy_sends_home(it, room, *given);
     if (PLANTED == 25 && code == USBDISK_ACK && *given < size)
         room[*given] ^= 1;
     return code;
@@ -302,9 +332,11 @@ uint32_t WRAP(in)(struct usbdisk *disk, uint8_t *room, size_t size, size_t *give
 
 uint32_t WRAP(setup)(struct usbdisk *disk, const uint8_t setup[8], uint8_t data[2], uint32_t *size)
 {
-    uint32_t code = REAL(setup)(disk, setup, data, size);
-    if (code == USBDISK_ACK && setup[0] == 0x21 && setup[1] == 0xFF)
-        spy_resets(spy_of(disk));
+    struct spy *it = spy_of(disk);
+    bool is_reset = setup[0] == 0x21 && setup[1] == 0xFF, is_left = PLANTED == 28 && it->waits;
+    uint32_t code = is_reset && is_left ? USBDISK_ACK : REAL(setup)(disk, setup, data, size);
+    if (code == USBDISK_ACK && is_reset)
+        spy_resets(it);
     return code;
 }
 

@@ -41,14 +41,15 @@ struct spy {
     const struct usbdisk *disk;
     struct usbdisk_call call; /* under way at the device, or none */
     struct usbdisk_layout layout;
-    bool has_served;          /* bytes of a host were taken */
-    unsigned mended;          /* so many FLUSHes were told */
-    bool has_written;         /* a WRITE was told */
-    bool is_open;             /* the first sectors were read, and something else was told since */
-    bool is_refused;          /* the device refused a WRITE or a FLUSH */
-    bool is_idled;            /* steps were made since the call began */
-    bool is_again;            /* the READ that failed is told once more */
-    bool rests;               /* nothing is under way, and nothing was told to be */
+    bool is_started;  /* it is a disk, and not the work on an image */
+    bool has_served;  /* bytes of a host were taken */
+    unsigned mended;  /* so many FLUSHes were told */
+    bool has_written; /* a WRITE was told */
+    bool is_open;     /* the first sectors were read, and something else was told since */
+    bool is_refused;  /* the device refused a WRITE or a FLUSH */
+    bool is_idled;    /* steps were made since the call began */
+    bool is_again;    /* the READ that failed is told once more */
+    bool rests;       /* nothing is under way, and nothing was told to be */
     /* the command in progress: bytes of its data that are due; what it is */
     uint64_t due;
     uint8_t code, tag[4];
@@ -60,6 +61,14 @@ struct spy {
     struct usbdisk_call ahead;
     uint8_t ahead_bytes[USBDISK_LIMIT(2) * 512];
     bool is_ahead, is_ahead_lost;
+    bool is_told; /* the FLUSH that is under way was told done */
+    /* what a READ was told, and how many bytes */
+    uint8_t read_bytes[USBDISK_LIMIT(2) * 512];
+    size_t read_size;
+    /* the first block of a READ, how many bytes of it came, and the numbers that fill blocks at
+     * home, where a WRITE brought them there */
+    uint32_t address, sent, home[512];
+    bool is_home[512];
     struct taken queue[64];
     size_t oldest, queued;
     unsigned packets;
@@ -76,6 +85,12 @@ void spy_resets(struct spy *it);
 
 /* Takes the status that the library still holds, where it gives it. False: it holds one. */
 bool spy_settles(struct spy *it, struct usbdisk *disk);
+
+/* A WRITE of these bytes was told: what it brings home is noted. */
+void spy_writes(struct spy *it, const uint8_t *bytes);
+
+/* Of so many bytes of a READ each block that was brought home becomes what lies there. */
+void spy_sends_home(struct spy *it, uint8_t *room, size_t given);
 
 /* Whether a status that waits is told now. */
 bool spy_tells_early(const struct spy *it);

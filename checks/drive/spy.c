@@ -40,6 +40,10 @@ static void note_wrapper(struct spy *it, const uint8_t *wrapper)
     it->due = wrapper[12] & 0x80 ? 0 : length;
     it->waits = !it->due && promises(it);
     it->has_ended = false;
+    it->sent = 0;
+    it->address = wrapper[20] | (uint32_t)wrapper[19] << 8;
+    if (it->code == READ_16)
+        it->address = wrapper[24] | (uint32_t)wrapper[23] << 8;
 }
 
 void spy_notes(struct spy *it, const uint8_t *bytes, size_t size)
@@ -71,6 +75,29 @@ bool spy_settles(struct spy *it, struct usbdisk *disk)
     if (it->owes && REAL(in)(disk, packet, sizeof packet, &given) == USBDISK_ACK)
         it->owes = false;
     return !it->owes;
+}
+
+void spy_writes(struct spy *it, const uint8_t *bytes)
+{
+    const struct usbdisk_call *call = &it->call;
+    for (uint64_t i = 0; i < call->count && call->kind == USBDISK_WRITE && !it->rests; i++) {
+        uint64_t block = call->sector + i - it->layout.home;
+        if (call->sector < it->layout.home || block >= it->layout.blocks)
+            continue;
+        memcpy(&it->home[block], bytes + 512 * i, 4);
+        it->is_home[block] = true;
+    }
+}
+
+void spy_sends_home(struct spy *it, uint8_t *room, size_t given)
+{
+    bool is_read = it->code == READ_10 || it->code == READ_16;
+    for (size_t at = 0; is_read && at + 512 <= given && it->sent % 512 == 0; at += 512) {
+        uint32_t block = it->address + (uint32_t)(it->sent + at) / 512;
+        for (size_t i = 0; block < 512 && it->is_home[block] && i < 512; i += 4)
+            memcpy(room + at + i, &it->home[block], 4);
+    }
+    it->sent += (uint32_t)given;
 }
 
 bool spy_tells_early(const struct spy *it)

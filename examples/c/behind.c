@@ -4,7 +4,8 @@
  * calls the power may go, and of the writes since the last flush, those of a run under way among
  * them, any may be missing. A disk that starts on what is left must find the blocks after the first
  * k of the accepted writes, in order, none in part: all that were promised by a status that the
- * host was given. No answer may wait that promises nothing, and none where the device rests.
+ * host was given. Only the answer of a command may wait that asks the device for something, none
+ * where the device rests; and only such a command may fail by a call that the device refuses.
  *
  * In some lives the disk stops and the device keeps its power, with what it had not flushed. The
  * next disk starts on that, and is cut behind each of the calls by which it does.
@@ -19,7 +20,8 @@
 #include <stdlib.h>
 #include <string.h>
 
-enum { STEPS = 3000, LIVES_OF_AN_IMAGE = 10, CUTS_AT_ONCE = 3, SEEN = 50, ENOUGH = 1000 };
+enum { STEPS = 3000, LIVES_OF_AN_IMAGE = 10, CUTS_AT_ONCE = 3, SEEN = 50 };
+enum sense { POWER_ON = 1, UNREAD = 2, REFUSED = 4, LATER = 8 };
 
 /* What the judge knows of a life besides what was promised. */
 static struct history history;
@@ -32,13 +34,15 @@ static struct {
     bool is_plain;           /* nearly all of its commands are WRITEs that promise nothing */
     bool is_unflushed;       /* the device had unflushed sectors when the disk started */
     bool keeps_power;        /* the device does, when the disk stops */
-    uint8_t key, code;       /* of the sense that is told next, or 0 */
+    unsigned senses;         /* of these one is told next, or none */
 } book;
 
 static struct {
-    uint64_t cuts, starting, faulted; /* of them while a start is under way, and behind a refusal */
-    uint64_t stops, unflushed; /* with no cut, and of them with unflushed sectors */
-    uint64_t writes, behind, parts, reads, refused, ahead, failed, resets, waiting, wrong;
+    uint64_t cuts, under_way, pending; /* of them while the device works, and a command waits, */
+    uint64_t starting, faulted;        /* while a start is under way, and behind a refusal */
+    uint64_t stops, unflushed;         /* with no cut, and of them with unflushed sectors */
+    uint64_t writes, behind, parts, reads, refused, ahead, failed, resets, dropped, wrong;
+    uint64_t spared; /* commands that are good though the device refused a call */
 } counts;
 
 static struct bench bench;
@@ -47,6 +51,8 @@ static bool cut(unsigned kept, uint32_t found[BLOCKS])
 {
     uint32_t fault;
     counts.cuts++;
+    counts.under_way += bench.device.call.kind != USBDISK_NOTHING;
+    counts.pending += may_be_pending(&bench.host);
     counts.starting += usbdisk_state(&bench.disk, &fault) == USBDISK_STARTING;
     counts.faulted += bench.is_faulted;
     return finds_what_it_may(&bench.device, kept, &history, found);
@@ -68,7 +74,7 @@ static bool cut_here(void)
 static void begin(void)
 {
     struct command command;
-    if (!is_asked(book.key, &command))
+    if (!is_asked(book.senses, &command))
         command = some_command(book.is_plain);
     host_begin(&bench.host, &command, promises(&command, book.is_cached));
 }
@@ -77,7 +83,7 @@ static void begin(void)
 static void note_command(void)
 {
     const struct command *command = &bench.host.command;
-    note_cache(book.is_cached);
+    note_taken(&bench.host, book.is_cached);
     if (bench.is_faulted)
         return;
     if (writes(command)) {
@@ -93,17 +99,22 @@ static void note_command(void)
     book.mark = history.accepted;
 }
 
+/* Which sense comes: of the power that was off, of a read or a write of the device that ended a
+ * command, or of a unit that was faulted before. */
+static enum sense sense_of(const uint8_t *told)
+{
+    static const uint8_t codes[][2] = { { 6, 0x29 }, { 3, 0x11 }, { 3, 0x0C }, { 4, 0x44 } };
+    for (unsigned i = 0; i < 4; i++)
+        if ((told[2] & 15) == codes[i][0] && told[12] == codes[i][1])
+            return (enum sense)(1u << i);
+    return 0;
+}
+
 static bool judge_sense(void)
 {
-    const uint8_t *sense = bench.host.data;
-    uint8_t key = sense[2] & 15, code = sense[12];
-    bool is_told = book.key == key && book.code == code;
-    bool is_unread = key == 3 && code == 0x11, is_later = key == 4 && code == 0x44;
-    book.key = 0;
-    if (is_told && code == 0x0C)
-        return is_own_error();
-    return is_told || (bench.is_faulted && (is_unread || is_later)) ||
-           fails("a sense is not that of what went wrong");
+    bool is_told = book.senses & sense_of(bench.host.data);
+    book.senses = 0;
+    return is_told || fails("a sense is not that of what went wrong");
 }
 
 static bool judge_read(const struct command *command)
@@ -115,20 +126,29 @@ static bool judge_read(const struct command *command)
     return true;
 }
 
+/* Whether the bytes of the command were taken before the device refused a call. */
+static bool is_spared(void)
+{
+    return bench.spared == bench.host.commands;
+}
+
+/* What a command may fail by: a READ by sectors that were not read, and where the unit is faulted;
+ * one that asks for writes where one of these was refused. None does of which data came. */
 static bool judge_failure(const struct command *command)
 {
-    if (bench.is_faulted) {
-        book.key = 3;
-        book.code = 0x0C;
-        return judge_fault(&bench.host, &book.is_cached);
-    }
-    if (!reads(command) || !bench.is_unread)
-        return fails("a command is not good");
+    bool may_ask = writes(command) || bench.host.promises;
+    if (reads(command) && bench.is_unread)
+        book.senses = UNREAD;
+    if (bench.is_faulted && (reads(command) || !is_spared()))
+        book.senses |= LATER;
+    if (bench.is_faulted && is_spared() && may_ask)
+        book.senses |= REFUSED;
+    counts.refused += book.senses == UNREAD;
     bench.is_unread = false;
-    counts.refused++;
-    book.key = 3;
-    book.code = 0x11;
-    return true;
+    note_failure(&bench.host, &book.is_cached);
+    if (reads(command) && bench.host.moved)
+        return fails("a READ that failed has sent its blocks");
+    return book.senses || fails("a command is not good");
 }
 
 /* A status came. One that is good and promises is what a cut is held to. */
@@ -141,11 +161,10 @@ static bool judge_status(void)
         return judge_sense();
     if (command->code == 0x1A)
         return judge_cache(&bench.host, &book.is_cached);
-    if (bench.is_faulted)
+    if (bench.is_faulted && !is_spared())
         return fails("a command is good though the device refused a call");
-    /* (a MODE SELECT that leaves the write cache on may wait like one that turns it off, and
-     * promises nothing) */
-    if (bench.host.promises && !(command->code == 0x15 && command->cache))
+    counts.spared += bench.is_faulted;
+    if (bench.host.promises)
         history.promised = book.mark;
     return !reads(command) || judge_read(command);
 }
@@ -154,9 +173,9 @@ static bool judge_status(void)
 static void give_up(void)
 {
     if (bench.host.command.code == 0x03 && bench.host.stage != WRAPPER)
-        book.key = 0;
+        book.senses = 0;
     counts.resets++;
-    counts.waiting += bench.host.waits && bench.host.stage == STATUS;
+    counts.dropped += may_be_pending(&bench.host);
     host_reset(&bench.host);
 }
 
@@ -171,7 +190,6 @@ static bool play_host(void)
     if (is_busy && !random_below(often)) {
         counts.wrong++;
         bench.rests = false;
-        bench.wish.kind = USBDISK_NOTHING;
         return host_errs(&bench.host);
     }
     switch (bench_host(&bench)) {
@@ -214,7 +232,7 @@ static bool play_device(void)
         return false;
     if (!bench.device.count && history.promised < book.found)
         history.promised = book.found;
-    if (bench.rests && book.is_settled && !bench.is_faulted)
+    if (bench.rests && book.is_settled && !bench.is_faulted && !is_unsure())
         history.promised = history.accepted;
     return cut_start();
 }
@@ -314,8 +332,7 @@ static void open_book(void)
     forget_last();
     book.is_plain = random_below(4) == 0;
     book.keeps_power = random_below(3) == 0;
-    book.key = 6; /* the first command is told that the power was off */
-    book.code = 0x29;
+    book.senses = POWER_ON; /* the first command is told that the power was off */
 }
 
 /* A life on what the last one left. Its own end may come at once, before its start is carried out.
@@ -357,9 +374,12 @@ static bool play_lives(uint32_t format, long lives)
         }
     }
     printf("format %u: %ld lives, each start finds what it may\n", format, lives);
-    printf("  %" PRIu64 " cuts, %" PRIu64 " of them in a start, ", counts.cuts, counts.starting);
-    printf("%" PRIu64 " behind a refusal; %" PRIu64 " starts failed\n", counts.faulted,
-           counts.failed);
+    printf("  %" PRIu64 " cuts, %" PRIu64 " of them while a call was under way, %" PRIu64
+           " while a command waited,\n",
+           counts.cuts, counts.under_way, counts.pending);
+    printf("  %" PRIu64 " in a start, %" PRIu64 " behind a refusal; %" PRIu64
+           " starts failed, %" PRIu64 " commands spared\n",
+           counts.starting, counts.faulted, counts.failed, counts.spared);
     printf("  %" PRIu64 " stops with no cut, %" PRIu64 " of them with unflushed sectors\n",
            counts.stops, counts.unflushed);
     printf("  %" PRIu64 " writes accepted, %" PRIu64 " of them while a call was under way, %" PRIu64
@@ -368,9 +388,9 @@ static bool play_lives(uint32_t format, long lives)
     printf("  %" PRIu64 " reads, %" PRIu64 " of refused sectors, %" PRIu64
            " wishes to read ahead\n",
            counts.reads, counts.refused, counts.ahead);
-    printf("  %" PRIu64 " class resets, %" PRIu64 " of them while a promise waited; %" PRIu64
+    printf("  %" PRIu64 " class resets, %" PRIu64 " of them while a command waited; %" PRIu64
            " wrong packets\n",
-           counts.resets, counts.waiting, counts.wrong);
+           counts.resets, counts.dropped, counts.wrong);
     return true;
 }
 
@@ -388,8 +408,7 @@ int main(int count, char **words)
     setvbuf(stdout, NULL, _IOLBF, 0);
     if (!device_open(&bench.device) || !finds_open())
         return EXIT_FAILURE;
-    bool good = play_lives(1, (long)lives) && play_lives(2, (long)lives) &&
-                tell_departures(lives >= ENOUGH);
+    bool good = play_lives(1, (long)lives) && play_lives(2, (long)lives);
     device_close(&bench.device);
     finds_close();
     if (heap_blocks)

@@ -90,8 +90,6 @@ struct host {
     uint8_t data[MOST * 512];
     uint8_t status;
     bool promises;            /* the command is good only when all is durable */
-    bool waits;               /* a promise was asked for, and the disk may wait for its device */
-    bool is_dropped;          /* the promise that it may wait for was dropped by a class reset */
     bool is_refused;          /* the last packet was, or the last token */
     bool is_opening;          /* the image is recovered: requests may be refused */
     unsigned commands, parts; /* how many there were, and transfers that were taken in part */
@@ -109,45 +107,28 @@ void host_reset(struct host *host);
 /* Sends a packet that is wrong where the disk is now. */
 bool host_errs(struct host *host);
 
-/* ---- where the disk departs from the definitions */
+/* ---- a command that is pending */
 
-enum departure {
-    TAKEN_BACK,
-    FAILED_READ_SENDS,
-    CACHE_OFF,
-    HALTED_WAITS,
-    WAITS_FOR_DROPPED,
-    GOOD_ANSWER_WAITS,
-    COMES_AGAIN,
-    DEPARTURES
-};
+/* Whether the bytes of a command were taken, and its status is not there; and whether it may be
+ * pending, as the device may have something to do for it. */
+bool is_taken(const struct host *host);
+bool may_be_pending(const struct host *host);
 
-/* It is seen. False where it is none of those that are known. */
-bool departs(enum departure departure);
-
-/* Whether a command of which the device has done nothing yet may be pending that promises nothing:
- * not as long as packets come again in place of that. */
-bool may_be_pending(const struct command *command);
-
-/* What was pending is dropped by a class reset. */
+/* The bytes of a command were taken. It is dropped by a class reset; or it failed, and a MODE
+ * SELECT that does leaves the write cache as it was. */
+void note_taken(const struct host *host, bool is_cached);
 void note_reset(const struct host *host);
-
-/* A MODE SELECT that fails leaves the write cache as it is noted here. */
-void note_cache(bool is_cached);
+void note_failure(const struct host *host, bool *is_cached);
 void forget_last(void);
 
+/* Whether the last WRITE may have been dropped by a reset. */
+bool is_unsure(void);
+
 /* Whether a command has to come next, and which: for the sense; the WRITE again of which is not
- * known whether a reset dropped it; or for the write cache behind a MODE SELECT that failed. */
+ * known whether a reset dropped it; or for the write cache behind a MODE SELECT that failed or may
+ * have been dropped. */
 bool is_asked(bool has_sense, struct command *command);
 bool judge_cache(const struct host *host, bool *is_cached);
-
-/* A command failed as a write or a flush was refused; and its sense is that of such a call, by
- * which only one that writes or promises may fail. */
-bool judge_fault(const struct host *host, bool *is_cached);
-bool is_own_error(void);
-
-/* Tells how often each that is known was seen. False where one that has to be was not. */
-bool tell_departures(bool has_to_see);
 
 /* ---- the bench */
 
@@ -156,8 +137,8 @@ struct bench {
     struct device device;
     struct host host;
     bool rests;      /* nothing is under way, and the disk has nothing for the device */
-    bool is_faulted; /* the device refused a WRITE or a FLUSH */
-    unsigned mended; /* the flushes of the recovery which have ended */
+    bool is_faulted; /* the device refused a WRITE or a FLUSH, */
+    unsigned spared; /* when the bytes of this command were taken, and no status was given */
     bool has_failed; /* it refused a call of that */
     uint32_t fault;  /* which, of enum usbdisk_fault */
     uint64_t behind; /* the sector behind the last one that it was to read */

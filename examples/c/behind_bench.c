@@ -11,7 +11,7 @@ bool bench_start(struct bench *bench, unsigned packet)
     };
     bench->rests = bench->is_faulted = bench->has_failed = bench->is_unread = false;
     bench->reads_ahead = false;
-    bench->mended = 0;
+    bench->spared = 0;
     bench->wish.kind = USBDISK_NOTHING;
     bench->host = (struct host){ .disk = &bench->disk, .packet = packet, .is_opening = true };
     return !usbdisk_start(&bench->disk, &options) || fails("a start is refused");
@@ -51,21 +51,29 @@ static bool note_rest(struct bench *bench)
     return true;
 }
 
-/* A READ: of a start; of what is wished for; or of what a host lacks. */
+/* Whether a READ of the host may be pending. */
+static bool may_lack(const struct host *host)
+{
+    return may_be_pending(host) && reads(&host->command) && !host->moved;
+}
+
+/* A READ: of a start; of what is wished for; or of what a READ of the host lacks. */
 static bool judge_read(struct bench *bench, size_t room)
 {
     const struct usbdisk_call *call = &bench->device.call;
     const struct usbdisk_call *wish = &bench->wish;
     bool is_again = bench->is_unread && bench->unread == call->sector &&
                     bench->unread_in == bench->host.commands;
-    bench->reads_ahead = wish->kind != USBDISK_NOTHING;
+    bool is_wished =
+        wish->kind != USBDISK_NOTHING && call->sector == wish->sector && call->count == wish->count;
+    bench->reads_ahead = is_wished && !may_lack(&bench->host);
     bench->wish.kind = USBDISK_NOTHING;
     bench->behind = call->sector + call->count;
     if (bench->host.is_opening && (call->count > MENDS || 512 * call->count > room))
         return fails("a start reads too many sectors at a time");
-    if (bench->reads_ahead && (call->sector != wish->sector || call->count != wish->count))
-        return fails("other sectors are read than were wished for");
-    if (is_again && bench->host.stage == WRAPPER && !bench->reads_ahead)
+    if (!bench->host.is_opening && !is_wished && !may_lack(&bench->host))
+        return fails("sectors are read that nobody lacks or wished for");
+    if (is_again && !bench->reads_ahead)
         return fails("sectors that could not be read are asked for again");
     bench->is_unread &= bench->reads_ahead;
     return true;
@@ -89,11 +97,11 @@ static bool begin(struct bench *bench)
     return (!is_read || judge_read(bench, room)) && device_begin(device);
 }
 
-/* A call of a start has ended. The third flush is the last one. */
-static void note_opening(struct bench *bench, const struct usbdisk_call *call)
+/* A call of a start has ended, maybe the last one. */
+static void note_opening(struct bench *bench)
 {
-    bench->mended += call->kind == USBDISK_FLUSH;
-    bench->host.is_opening = bench->mended < 3;
+    uint32_t fault;
+    bench->host.is_opening = usbdisk_state(&bench->disk, &fault) == USBDISK_STARTING;
 }
 
 static void note_refusal(struct bench *bench, struct usbdisk_call call)
@@ -103,8 +111,10 @@ static void note_refusal(struct bench *bench, struct usbdisk_call call)
     if (bench->host.is_opening) {
         bench->has_failed = true;
         bench->fault = faults[call.kind];
-    } else if (call.kind != USBDISK_READ)
+    } else if (call.kind != USBDISK_READ) {
         bench->is_faulted = true;
+        bench->spared = is_taken(&bench->host) ? bench->host.commands : 0;
+    }
     if (bench->is_faulted)
         bench->wish.kind = USBDISK_NOTHING;
     if (bench->host.is_opening || call.kind != USBDISK_READ || bench->reads_ahead)
@@ -137,7 +147,7 @@ static bool end(struct bench *bench)
     if (usbdisk_done(&bench->disk, is_good, device->buffer, size))
         return fails("no call ends");
     if (is_good && bench->host.is_opening)
-        note_opening(bench, &call);
+        note_opening(bench);
     if (!is_good)
         note_refusal(bench, call);
     return true;
@@ -168,13 +178,8 @@ bool bench_ahead(struct bench *bench)
 
 enum outcome bench_host(struct bench *bench)
 {
-    bool is_packet = bench->host.stage == WRAPPER || bench->host.stage == DATA_OUT;
-    if (is_packet)
-        bench->wish.kind = USBDISK_NOTHING;
     enum outcome outcome = host_step(&bench->host);
-    /* a packet that was not taken may want the device to read, an answer never */
-    bool is_answer = bench->host.stage == DATA_IN || bench->host.stage == STATUS;
-    if (bench->rests && bench->host.is_refused && is_answer) {
+    if (bench->rests && bench->host.is_refused && is_taken(&bench->host)) {
         fails("an answer waits though the device rests");
         return WRONG;
     }
@@ -185,7 +190,7 @@ enum outcome bench_host(struct bench *bench)
 bool bench_run(struct bench *bench, const struct command *command)
 {
     enum outcome outcome = GOES_ON;
-    host_begin(&bench->host, command, true);
+    host_begin(&bench->host, command, promises(command, true));
     while (outcome == GOES_ON || outcome == CARRIED_OUT) {
         outcome = bench_host(bench);
         if (!bench_device(bench))

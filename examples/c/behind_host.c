@@ -35,7 +35,7 @@ bool promises(const struct command *command, bool is_cached)
     if (reads(command))
         return command->flags;
     if (command->code == 0x15)
-        return is_cached;
+        return is_cached && !command->cache;
     return command->code != 0x03 && command->code != 0x1A;
 }
 
@@ -94,7 +94,6 @@ void host_reset(struct host *host)
     note_reset(host);
     host->stage = RESET;
     host->requests = 0;
-    host->is_dropped |= host->waits;
 }
 
 /* The command block, of 6, 10 or 16 bytes. */
@@ -156,15 +155,15 @@ static enum outcome take_on(struct host *host, unsigned size)
     }
     host->stage = wants_data(command) ? DATA_IN : STATUS;
     host->moved = 0;
-    host->waits |= host->promises;
     return CARRIED_OUT;
 }
 
-/* A packet was not taken, and while no start is under way none is pending. */
+/* A packet was not taken, though no command is pending: a start is under way. */
 static bool may_come_again(const struct host *host)
 {
     uint32_t fault;
-    return usbdisk_state(host->disk, &fault) == USBDISK_STARTING || departs(COMES_AGAIN);
+    return usbdisk_state(host->disk, &fault) == USBDISK_STARTING ||
+           fails("a packet has to come again, and no command is pending");
 }
 
 /* How many of the bytes were taken: all, or so many packets. */
@@ -219,7 +218,6 @@ static enum outcome receive(struct host *host, const uint8_t *bytes, size_t size
 {
     size_t left = host->length - host->moved, of_data = size < left ? size : left;
     bool is_status = host->stage == STATUS || (size == 13 && !memcmp(bytes, "USBS", 4));
-    host->waits = host->is_dropped = false;
     if (is_status)
         return hear_status(host, bytes, size);
     memcpy(host->data + host->moved, bytes, of_data);
@@ -251,23 +249,13 @@ static bool keeps_the_rest(const uint8_t *room, size_t given, size_t size)
     return true;
 }
 
-/* Whether an answer may wait: that of a command that may ask the device for something. */
-static bool may_wait(const struct host *host)
-{
-    const struct command *command = &host->command;
-    bool asks_none = command->code == 0x15 && command->cache;
-    if (!host->waits)
-        return may_be_pending(command) || fails("an answer waits that promises nothing");
-    if (!host->promises && !reads(command) && !writes(command))
-        return !host->is_dropped || departs(WAITS_FOR_DROPPED);
-    return !asks_none || departs(GOOD_ANSWER_WAITS);
-}
-
 /* A token was answered NAK or STALL. */
 static enum outcome wait_or_halt(struct host *host, uint32_t code)
 {
     if (code == USBDISK_NAK)
-        return may_wait(host) ? GOES_ON : WRONG;
+        return may_be_pending(host) || fails("an answer waits that asks the device for nothing")
+                   ? GOES_ON
+                   : WRONG;
     if (host->stage != DATA_IN || code != USBDISK_STALL)
         fails("a status is halted");
     else if (request(host, requests[1])) {
@@ -315,18 +303,15 @@ enum outcome host_step(struct host *host)
     }
 }
 
-/* Of the endpoints behind a packet that spelled no wrapper each is halted; Bulk-In may wait first.
- */
+/* Behind a packet that spelled no wrapper both endpoints are halted. */
 static bool are_halted(struct host *host)
 {
     uint8_t packet[512] = { 0 };
     size_t moved;
     uint32_t in = usbdisk_in(host->disk, packet, sizeof packet, &moved);
     uint32_t out = usbdisk_out(host->disk, packet, 31, &moved);
-    bool in_waits = in == USBDISK_NAK && host->waits;
-    if ((in != USBDISK_STALL && !in_waits) || (out != USBDISK_STALL && out != USBDISK_NAK))
-        return fails("an endpoint is not halted behind a wrong packet");
-    return in == USBDISK_STALL || departs(HALTED_WAITS);
+    return (in == USBDISK_STALL && out == USBDISK_STALL) ||
+           fails("an endpoint is not halted behind a wrong packet");
 }
 
 bool host_errs(struct host *host)
@@ -338,7 +323,7 @@ bool host_errs(struct host *host)
         return true;
     uint32_t code = usbdisk_out(host->disk, packet, 5, &taken);
     if (code == USBDISK_NAK)
-        return true;
+        return may_come_again(host);
     if (code != USBDISK_ACK)
         return fails("a wrong packet is not taken");
     if (is_expected && !are_halted(host))

@@ -16,7 +16,7 @@ enum { BLOCKS_AT = 16 };
 
 /* What a start takes and gives back: its recovery. What a handle takes of which nothing is left to
  * do. */
-enum { RECOVERY = 37472, HANDLE = 896 };
+enum { RECOVERY = 37472, HANDLE = 992 };
 
 static uint8_t *medium;
 static struct usbdisk_options options = {
@@ -81,7 +81,7 @@ static bool serves_in(struct usbdisk *handle, const char *what, uint64_t told)
 
 static uint64_t store_takes_less(uint32_t format)
 {
-    return format == 1 ? 18768 : 221616;
+    return format == 1 ? 24576 : 122880;
 }
 
 /* The memory that a disk takes is what usbdisk_memory_kept tells, to the byte. A store takes so
@@ -143,7 +143,7 @@ static bool is_work_told(uint32_t format, uint64_t slots, uint64_t between)
     const struct usbdisk_plan plan = { sectors, format, slots, BLOCKS, home };
     uint64_t made = usbdisk_memory_to_format(format, slots);
     uint64_t moved =
-        format == 1 ? usbdisk_memory_to_migrate(slots) : 4032 + 254208 * slots + 512 * between;
+        format == 1 ? usbdisk_memory_to_migrate(slots) : 4128 + 254208 * slots + 512 * between;
     medium = calloc(512, sectors);
     bool good = medium && takes(usbdisk_format, &plan, "a format", made) &&
                 takes(usbdisk_lay_log, &plan, "a laying", made) &&

@@ -161,24 +161,31 @@ static const uint8_t read_five[31] = {
     'U', 'S', 'B', 'C', [9] = 2, [12] = 0x80, [14] = 10, 0x28, [20] = 5, [23] = 1
 };
 
-/* A packet takes the wish away, and one that comes while the device reads has to wait. */
+/* The sense and its status come whatever the device is at. */
+static void play_sense(struct usbdisk *disk, const char *what)
+{
+    size_t moved;
+    must(!usbdisk_out(disk, sense, 31, &moved) && moved == 31, what);
+    must(!usbdisk_in(disk, bytes, 512, &moved) && !usbdisk_in(disk, bytes, 512, &moved), what);
+}
+
+/* Packets are taken before what is wished for is read, and meanwhile, and the wish stays. */
 static void play_wish(void)
 {
     struct usbdisk disk = USBDISK_NONE;
     struct usbdisk_call call;
-    size_t moved;
     begin(&disk);
     carry_all(&disk, medium);
-    must(usbdisk_ahead(&disk, FIRST, 2) == 1 && !usbdisk_out(&disk, sense, 31, &moved), "a packet");
-    must(!carry_one(&disk, medium, &call), "a wish that a packet took away");
-    must(!usbdisk_in(&disk, bytes, 512, &moved) && !usbdisk_in(&disk, bytes, 512, &moved),
-         "the sense and its status");
-    must(usbdisk_ahead(&disk, FIRST, 2) == 1 && !usbdisk_next(&disk, &call, bytes, 512) &&
-             call.kind == USBDISK_READ,
-         "a wish behind it");
-    must(usbdisk_out(&disk, sense, 31, &moved) == USBDISK_NAK && !moved, "a packet meanwhile");
+    must(usbdisk_ahead(&disk, FIRST, 2) == 1, "a wish");
+    play_sense(&disk, "a packet behind a wish");
+    must(!usbdisk_next(&disk, &call, bytes, 512) && call.kind == USBDISK_READ &&
+             call.sector == FIRST && call.count == 2,
+         "a wish behind a packet");
+    play_sense(&disk, "a packet while sectors are read ahead");
     must(!usbdisk_done(&disk, true, medium + 512 * FIRST, 1024), "the READ ends");
-    must(!usbdisk_out(&disk, sense, 31, &moved) && moved == 31, "the packet behind it");
+    must(!usbdisk_ahead(&disk, FIRST, 2), "a second wish before a packet");
+    play_sense(&disk, "a packet behind it");
+    must(usbdisk_ahead(&disk, FIRST, 2) == 1, "a wish behind that");
     end(&disk);
 }
 

@@ -23,7 +23,7 @@ TellsMemory format slots kept told =
 -- By measure, of work that has read so many sectors, and of which so many calls wait at most:
 -- these, and what the box behind a handle takes.
 abbrev pub memory_of_work : ℕ → ℕ → ℕ
-memory_of_work read waiting = 512 * read + 528 * waiting + 896
+memory_of_work read waiting = 512 * read + 528 * waiting + 992
 
 -- an image is made, or a log laid: sector 0 is read, and a part waits at a time
 abbrev pub TellsMemoryToFormat : ℕ → ℕ → ℕ → Type 0

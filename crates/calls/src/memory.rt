@@ -11,7 +11,7 @@ use journal::LogFormat;
 use store_calls::span_of;
 
 // What the box behind a handle takes.
-const HELD: u64 = 896;
+const HELD: u64 = 992;
 
 // What the first two sectors take.
 const NEAR: u64 = 1_024;

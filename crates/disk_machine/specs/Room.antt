@@ -41,4 +41,4 @@ record_memory format = 1928 * version_of format + 520 * limit_of format + 64
 -- what each record takes, and the disk.
 abbrev pub memory_of : ℕ → ℕ → ℕ → ℕ → LogFormat → ℕ
 memory_of size ring span room format =
-    size + 512 * span + 528 * room + 1584 * limit_of format + record_memory format * ring + 824
+    size + 512 * span + 528 * room + 1584 * limit_of format + record_memory format * ring + 920
