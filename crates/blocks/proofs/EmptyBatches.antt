@@ -1,13 +1,12 @@
 -- A store whose batches are empty: what fits, what is sent, how many steps are left else, and that at rest everything is at home.
-use Rattle.std.proofs.Common.{rules, ◌≡◌, ◌+◌, ◌<◌, ◌≤◌, ℕ, ◌∙◌, sym, ap, arith, true, false, List, [], length, ◌⊎◌, Bool, refl, inl, inr}
-use Rattle.std.{proofs.lemmas.{Bool.{Decides.nat_tests, cases_lt, cases_Bool}, List.nil_from_length}, specs.Prelude.false}
+use Rattle.std.proofs.Common.{rules, ◌≡◌, ◌+◌, ◌<◌, ◌≤◌, ℕ, ◌∙◌, sym, ap, arith, true, false, List, [], length, ◌⊎◌, Bool, inl, inr}
+use Rattle.std.{proofs.lemmas.{Bool.{Decides.nat_tests, cases_lt}, List.nil_from_length}, specs.Prelude.false}
 use Rattle.medium.specs.{Medium.{State, IsSound}, Moments.EachCut, Sent.SendsUpTo}
 use Rattle.logical_blocks.specs.Book.{Book, array_of}
 use Rattle.redo_log.{specs.Value.{LogValue, Owes, CanPass, IsAway}, proofs.{StoreFacts.{home_is, blocks_guarded}, HeldLog.many}}
-use Rattle.theorems.specs.{Room.RestsAhead, Ahead.is_covered}
 use Rattle.cache.{specs.{Entries.{map_of, Entries}, Blocks.over}, proofs.Arrays.unlisted_empty}
 use Rattle.blocks.specs.StoreValue.{Cached, layout_of, is_dead, steps_left, FitsBook, FitsBeside, active_of, transfer_limit, unwritten}
-use Rattle.blocks.specs.{Work.{IsAheadStep, GoesOnAhead}, Settled.{IsAtHome, IsSettled}, Background.with_counted, OneBatch.SendsOneBatch}
+use Rattle.blocks.specs.{Work.GoesOnAhead, Settled.{IsAtHome, IsSettled}, OneBatch.SendsOneBatch}
 use Rattle.blocks.{specs.Written.IsWritten, proofs.{BookTurns.{over_none, settles}, TurnsJoined.nothing_left}}
 
 -- a list without elements is empty
@@ -74,19 +73,3 @@ pub go_falls : (before after : State) (old new : Cached) → GoesOnAhead before 
     → is_dead new ≡ false → steps_left new < steps_left old
 go_falls before after old new goes (inl can) live = grind (arith, nat_tests, goes.active, goes.frozen, (goes.passes can).log live, can)
 go_falls before after old new goes (inr away) live = (goes.brings away).fewer live
-
--- what a step ahead does takes none back
-no_more_ahead : (before after : State) (old new : Cached) → GoesOnAhead before after old new → is_dead new ≡ false
-    → steps_left new ≤ steps_left old
-no_more_ahead before after old new goes lives =
-    grind (arith, nat_tests, goes.rests, (λ (does : CanPass old.log ⊎ IsAway old.log). go_falls before after old new goes does lives))
-
--- a step ahead leaves fewer where something is to be done ahead of the next record
-pub ahead_fewer : (before after : State) (old new : Cached) → IsAheadStep true before after old new → is_dead old ≡ false
-    → old.log.steps_left ≡ 0 → ¬ RestsAhead old.log → is_dead new ≡ false → steps_left new < steps_left old
-ahead_fewer before after old new step live idle some lives =
-    let goes = step.goes refl live idle in
-    elim (cases_Bool (is_covered old.log)) [
-      | inl covered ↦ grind (arith, nat_tests, covered, idle, no_more_ahead before after (with_counted old) new goes lives)
-      | inr not ↦ go_falls before after old new (rw not at goes) (grind (arith, nat_tests, not, some)) lives
-    ]

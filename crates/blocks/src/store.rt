@@ -1,6 +1,6 @@
 //! What a store is made of.
 ghost use Rattle.std.specs.Prelude.{◌≡◌, ◌↔◌, ◌<◌, ◌≤◌, ◌+◌, ◌/◌, ℕ, true, false, []};
-ghost use Rattle.std.specs.Prelude.{length, IsTrue, None};
+ghost use Rattle.std.specs.Prelude.{length, IsTrue};
 ghost use Rattle.medium.specs.Inlet.{AreHeld};
 ghost use Rattle.medium.specs.Moments.{EachCut};
 ghost use Rattle.journal.specs.Places.{first_home, sectors_of};
@@ -10,10 +10,9 @@ ghost use Rattle.blocks.specs.StoreValue.{blocks_of, layout_of, transfer_limit, 
 ghost use Rattle.blocks.specs.StoreValue.{steps_left, HasLimits, FitsBook};
 ghost use Rattle.blocks.specs.Settled.{IsSettled};
 ghost use Rattle.blocks.specs.Passing.{IsUntouched};
-ghost use Rattle.blocks.specs.Prepared.{IsTakenAtOnce, TellsWork};
+ghost use Rattle.blocks.specs.Prepared.{IsTakenAtOnce};
 ghost use Rattle.blocks.specs.Written.{IsWritten};
 
-use crate::Work;
 use cache::{Batch, Frozen};
 use journal::Super;
 use medium::{Inlet, Medium, Outlet, Switch};
@@ -125,21 +124,6 @@ impl<M: Medium> Store<M> {
         ensures { IsTrue result ↔ IsTakenAtOnce self.now.cached address count }
     {
         self.frozen.is_empty() || self.active.fits(address, count)
-    }
-
-    /// What a step has to work towards so that the next record takes no call for its room, or none
-    /// where that is so already. Where no step is left none is told.
-    pub fn work_for_room(&self) -> Option<Work>
-        ensures is { TellsWork self.now.goes_ahead self.now.cached.log result }
-        ensures rests { steps_left self.now.cached ≡ 0 → result ≡ None }
-    {
-        if !self.log.has_room() {
-            return Some(Work::Settle);
-        }
-        if !self.goes_ahead || self.needs_none_ahead() {
-            return None;
-        }
-        Some(Work::Ahead)
     }
 
     /// The medium that the store stands on.
