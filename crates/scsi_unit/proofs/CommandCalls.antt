@@ -1,26 +1,25 @@
 -- The calls that a command makes: how many, which sectors they name, how many batches they make durable, and what a record costs.
 use Rattle.std.proofs.Common.{◌≡◌, ◌≢◌, ◌≤◌, ◌<◌, ◌+◌, ℕ, Bool, false, List, [], None, Option, Some, Result, Ok, Err, arith, ap, refl, inl}
-use Rattle.std.{proofs.{Common.{inr, true, length, ◌∙◌, ◌*◌}, lemmas.Bool.Decides.nat_tests}, specs.Prelude.{◌||◌, not, if◌then◌else◌}}
-use Rattle.medium.specs.{Medium.State, Sent.{sent, SendsUpTo}, declared.fault.MediumFault.{TheVariants.{Write, Flush}, MediumFault}}
+use Rattle.std.{proofs.{Common.{true, length, ◌∙◌, ◌*◌}, lemmas.Bool.Decides.nat_tests}, specs.Prelude.{◌||◌, not, if◌then◌else◌}}
+use Rattle.medium.specs.{Medium.State, Sent.{sent, SendsUpTo}}
 use Rattle.medium.proofs.SectorsRead.{no_looks, looks_joined, looks_wider}
-use Rattle.scsi.specs.{Sense.Sense, declared.command.{Transfer.Transfer, Command.Command}, Rules.{forces_reading, moves_blocks}}
+use Rattle.scsi.specs.{Sense.Sense, declared.command.{Transfer.Transfer, Command.Command}, Rules.moves_blocks}
 use Rattle.theorems.{specs.Retiring.{firsts_in, wants}, proofs.{Headroom.{one_each, both_each, headroom_finished}, Steady.steady_sync}}
 use Rattle.blocks.specs.{Limit.Shape, Looks.{LooksAtLog, IsReadFor}, OneBatch.SendsOneBatch, Sent.most_sent, StoreValue.StoreValue}
 use Rattle.blocks.specs.StoreValue.{is_dead, transfer_limit, active_of, Cached, HasLimits, blocks_of, slots_of, batch_steps}
-use Rattle.blocks.{specs.StoreValue.{steps_left, unwritten, FitsBeside}, proofs.EmptyBatches.{both_empty, fits_alone, frozen_as, step_sent}}
+use Rattle.blocks.{specs.StoreValue.{steps_left, FitsBeside}, proofs.EmptyBatches.{both_empty, fits_alone, frozen_as, step_sent}}
 use Rattle.blocks.proofs.{OneBatchSent.none_sent, ReadCalls.reads_few, SectorsRead.looks_on, Limits.few_batch_steps}
 use Rattle.scsi_unit.specs.{UnitValue.{UnitValue, unit_limit}, Calls.{calls_of_sync, calls_of_read, calls_of_write, MakesAtMost}}
-use Rattle.scsi_unit.specs.{Calls.{PromisesFew, calls_of, most_calls_of, most_calls}, Promising.{forces_writing, IsQuietBy, IsQuietWrite}}
+use Rattle.scsi_unit.specs.Calls.{calls_of, most_calls_of, most_calls, IsWritten}
 use Rattle.scsi_unit.specs.Reading.{ReadsBack, ReadsBackOr, LooksToRead, first_home_of, home_sectors_of, some_read}
-use Rattle.scsi_unit.specs.{StoreCalls.{MakesDurable, MakesNone, ReadsBlocks, WritesBlocks}, Costs.{CostsFinishing, CostsWriting}}
+use Rattle.scsi_unit.specs.{StoreCalls.{MakesDurable, ReadsBlocks, WritesBlocks}, Costs.{CostsFinishing, CostsWriting}}
 use Rattle.scsi_unit.specs.{Costs.{SteadyIsCheap, RecordsFlushOnce}, Performing.{Spares, silent}}
 use Rattle.scsi_commands.specs.Supported.{IsSupported}
 use Rattle.scsi.specs.declared.command.Command.TheVariants as command
 
 -- no call was made
-pub no_calls : {M : Type 0} (count : ℕ) (read : Option Transfer) (promising : Bool) (Quiet : Type 0) (m : State) (unit : UnitValue M)
-    → MakesAtMost count read promising Quiet m m unit
-no_calls count read promising Quiet m unit =
+pub no_calls : {M : Type 0} (count : ℕ) (read : Option Transfer) (m : State) (unit : UnitValue M) → MakesAtMost count read m m unit
+no_calls count read m unit =
     let looks = no_looks (ReadsBackOr unit (home_sectors_of (first_home_of unit) read)) m m refl in grind (arith, looks)
 
 -- the log alone was read
@@ -28,37 +27,21 @@ pub log_looked : {M : Type 0} (before after : State) (unit : UnitValue M) (read 
     → LooksAtLog before after unit.store.cached → LooksToRead before after unit read
 log_looked before after unit read looks = looks_wider (ReadsBack unit) _ before after (λ x low. inl low) looks
 
--- writes are made durable where something is promised, and then no more is sent
-synced_few : {M : Type 0} (promising : Bool) (before mid after : State) (unit : UnitValue M)
-    → is_dead unit.store.cached ≡ false → (promising ≡ false → sent mid ≡ sent before)
+-- writes are made durable where no record is left to write, and then no more is sent
+synced_few : {M : Type 0} (before mid after : State) (unit : UnitValue M) → is_dead unit.store.cached ≡ false
     → (unit.store.cached.frozen.numbers ≡ [] → SendsOneBatch unit.store.goes_ahead before mid unit.store.cached.log)
-    → sent after ≤ sent mid + 0 → PromisesFew promising before after unit
-synced_few promising before mid after unit live unwanted one none = grind (arith, unwanted, one, none, live, both_empty unit.store.cached)
-
--- nothing is sent where nothing is promised, or no record is left to write
-synced_none : {M : Type 0} (promising : Bool) (before mid after : State) (unit : UnitValue M)
-    → is_dead unit.store.cached ≡ false → (promising ≡ false → sent mid ≡ sent before)
-    → (unwritten unit.store.cached ≡ 0 → MakesNone before mid)
-    → IsQuietBy promising unit.store.cached → sent after ≤ sent mid + 0 → SendsUpTo 0 before after
-synced_none promising before mid after unit live unwanted rests (inl plain) none = omega (arith, unwanted plain, none)
-synced_none promising before mid after unit live unwanted rests (inr (inl dead)) none = absurd (grind (arith, dead, live))
-synced_none promising before mid after unit live unwanted rests (inr (inr all)) none =
-    omega (arith, ap (λ (made : MediumFault → ℕ). made Write + made Flush) (rests all).made, none)
+    → sent after ≤ sent mid + 0 → IsWritten unit.store.cached → SendsOneBatch unit.store.goes_ahead before after unit.store.cached.log
+synced_few before mid after unit live one none all = grind (arith, one, none, both_empty unit.store.cached live all)
 
 module _ {M : Type 0} {Comes : StoreValue M → StoreValue M → Type 0} {before after : State} {old : UnitValue M} {last : StoreValue M}
     {done : Result (Unit {0}) Sense} (live : is_dead old.store.cached ≡ false) where
   -- writes are made durable, if that is wanted
-  pub synced : {wanted : Bool} {count : ℕ} {read : Option Transfer} {promising : Bool}
-      → MakesDurable Comes wanted before after old.store last done → (promising ≡ false → wanted ≡ false)
-      → (if wanted then calls_of_sync old.store.cached else 0) ≤ count
-      → MakesAtMost count read promising (IsQuietBy promising old.store.cached) before after old
-  synced {read = read} {promising = promising} makes wants few = record {
+  pub synced : {wanted : Bool} {count : ℕ} {read : Option Transfer} → MakesDurable Comes wanted before after old.store last done
+      → (if wanted then calls_of_sync old.store.cached else 0) ≤ count → MakesAtMost count read before after old
+  synced {read = read} makes few = record {
     calls = omega (arith, makes.calls, few);
     sent = omega (arith, makes.sent);
-    one_batch = synced_few promising before after after old live (λ plain. grind (arith, wants, makes.unwanted)) makes.one_batch
-        (omega arith);
-    quiet = λ quiet. synced_none promising before after after old live (λ plain. grind (arith, wants, makes.unwanted)) makes.rests quiet
-        (omega arith);
+    one_batch = synced_few before after after old live makes.one_batch (omega arith);
     looks = log_looked before after old read makes.looks;
   }
 
@@ -66,17 +49,13 @@ module _ {M : Type 0} {Comes : StoreValue M → StoreValue M → Type 0} {before
     -- and blocks are read behind that
     pub read_on : {result : Result ℕ Sense} {out : List ℕ} → MakesDurable Comes transfer.fua before mid old.store half done
         → ReadsBlocks Comes transfer mid after half last out result
-        → MakesAtMost (calls_of_read transfer old.store.cached) (some_read transfer) (forces_reading transfer)
-        (IsQuietBy (forces_reading transfer) old.store.cached) before after old
+        → MakesAtMost (calls_of_read transfer old.store.cached) (some_read transfer) before after old
     read_on makes reads =
         let is : some_read transfer ≡ Some transfer = grind (arith, nat_tests) in
         record {
           calls = grind (arith, nat_tests, makes.calls, makes.unwanted, reads.calls, reads_few half.cached transfer.address transfer.count);
           sent = omega (arith, makes.sent, reads.sent);
-          one_batch = synced_few (forces_reading transfer) before mid after old live (λ plain. grind (arith, nat_tests, makes.unwanted))
-              makes.one_batch reads.sent;
-          quiet = λ quiet. synced_none (forces_reading transfer) before mid after old live
-              (λ plain. grind (arith, nat_tests, makes.unwanted)) makes.rests quiet reads.sent;
+          one_batch = synced_few before mid after old live makes.one_batch reads.sent;
           looks = rw is (looks_joined _ before mid after (log_looked before mid old (Some transfer) makes.looks)
               (looks_wider (IsReadFor half.cached transfer.address transfer.count) _ mid after
               (λ x named. rw (makes.turn.goes_on.layout_stays, makes.turn.goes_on.keeps_stays) at named) reads.looks));
@@ -86,23 +65,18 @@ module _ {M : Type 0} {Comes : StoreValue M → StoreValue M → Type 0} {before
     pub write_on : {value : Unit {0}} {taken : List ℕ} → WritesBlocks Comes transfer taken before mid old.store half (Ok value)
         → MakesDurable Comes (transfer.fua || not old.write_cache) mid after half last done
         → transfer.count ≤ transfer_limit old.store.cached
-        → MakesAtMost (calls_of_write transfer old.write_cache old.store.cached) None (forces_writing transfer old.write_cache)
-        (IsQuietWrite transfer old.write_cache old.store.cached) before after old
+        → MakesAtMost (calls_of_write transfer old.write_cache old.store.cached) None before after old
     write_on writes makes few =
         let layout = writes.turn.goes_on.layout_stays in
         record {
           calls = grind (arith, nat_tests, writes.calls, writes.paid, makes.calls);
           sent = omega (arith, writes.sent, makes.sent, ap (λ (s : Shape). most_sent s.format) layout);
-          one_batch = record {
-            plain = λ nothing. grind (arith, nat_tests, nothing, makes.unwanted, writes.one_batch);
-            written = λ all.
-                let none = both_empty old.store.cached live all in
-                let fits = fits_alone old.store.cached transfer.address transfer.count none.1 few in
-                let beside = writes.batches.beside fits in
-                let one = makes.one_batch (frozen_as old.store.cached half.cached beside.0 none.0) in
-                grind (arith, one, writes.follows.policy, (writes.quiet (inl fits)).1, beside);
-          };
-          quiet = λ quiet. grind (arith, nat_tests, some, quiet, writes.quiet, makes.unwanted);
+          one_batch = λ all.
+              let none = both_empty old.store.cached live all in
+              let fits = fits_alone old.store.cached transfer.address transfer.count none.1 few in
+              let beside = writes.batches.beside fits in
+              let one = makes.one_batch (frozen_as old.store.cached half.cached beside.0 none.0) in
+              grind (arith, one, writes.follows.policy, writes.quiet (inl fits), beside);
           looks = log_looked before after old None
               (looks_on before mid after old.store.cached half.cached writes.turn.goes_on writes.looks makes.looks);
         }
@@ -112,8 +86,7 @@ pub write_stops : {M : Type 0} {Comes : StoreValue M → StoreValue M → Type 0
     {last : StoreValue M}
     {transfer : Transfer} {taken : List ℕ} {sense : Sense} → transfer.count ≢ 0
     → WritesBlocks Comes transfer taken before after old.store last (Err sense)
-    → MakesAtMost (calls_of_write transfer old.write_cache old.store.cached) None (forces_writing transfer old.write_cache)
-    (IsQuietWrite transfer old.write_cache old.store.cached) before after old
+    → MakesAtMost (calls_of_write transfer old.write_cache old.store.cached) None before after old
 write_stops {before = before} {after = after} {old = old} some writes =
     let looks = log_looked before after old None writes.looks in grind (arith, nat_tests, writes, looks)
 
@@ -136,7 +109,7 @@ module _ {M : Type 0} {Comes : StoreValue M → StoreValue M → Type 0} {before
   costs_by writes false after costs = λ not. let alone = writes.alone not in grind (arith, costs, alone)
   costs_by {half = half} writes true after costs = record {
     beside = λ fits.
-        let quiet = (writes.quiet (inl fits)).1 in
+        let quiet = writes.quiet (inl fits) in
         let turned = writes.batches.beside fits in
         record { active = active_of half.cached; takes = writes.active; both = grind (arith, costs, quiet, turned) };
     alone = λ not.

@@ -3,17 +3,14 @@
 pub use Rattle.scsi_unit.proofs.Intentions.{keeps_intentions, writes_are_writes}
 pub use Rattle.scsi_unit.proofs.Outcomes.{is_function, keeps_writes, stays_faulted, ticks_only, keeps_limit}
 pub use Rattle.scsi_unit.proofs.CommandCalls.{none_made, step_made, few_ticks}
-pub use Rattle.blocks.proofs.EmptyBatches.{steps_to_write, written_live, ahead_fewer, both_empty}
-use Rattle.std.specs.Prelude.{Result}
-use Rattle.std.proofs.{Common.{◌≡◌, ℕ, Bool, List, [], true, false, ap, sym, subst, arith}, lemmas.Bool.Decides.nat_tests}
+use Rattle.std.proofs.Common.{◌≡◌, ℕ, List, true, ap}
 use Rattle.logical_blocks.specs.Book.{Book}
-use Rattle.scsi.specs.{Sense.Sense, declared.command.Command.Command, Rules.{intention, intention_by, checked, command_by}}
+use Rattle.scsi.specs.Rules.{intention, intention_by}
 use Rattle.medium.specs.{Medium.State, Moments.EachCut}
 use Rattle.blocks.specs.{Finding.MayFind, StoreValue.is_dead, Limit.HasLimit}
 use Rattle.blocks.proofs.{TurnsJoined.exits, ImageLimit.{some_limit, one_limit, cut_keeps_limit}}
 use Rattle.blocks.proofs.KnownImages.{found_ours, ours_for_opening, stands_for_opening, stands_for_some}
 pub use Rattle.blocks.proofs.ImageLimit.{start_keeps_limit}
-use Rattle.scsi_unit.specs.{Calls.Cached, Promising.{promises_for, IsQuietFor}, Serving.command_for}
 use Rattle.scsi_unit.specs.{UnitValue.{UnitValue, unit_limit, state_of, FitsUnit, IsOfSize, intention_of}, Laws.KnowsImages}
 
 pub knows_images : KnowsImages
@@ -44,22 +41,3 @@ fits_size m unit book fits = fits.blocks
 pub intends_by_book : {M : Type 0} (unit : UnitValue M) (book : Book) (block : List ℕ)
     → IsOfSize unit book → intention_of unit block ≡ intention (state_of unit book) block
 intends_by_book unit book block size = ap (λ n. intention_by n (unit_limit unit) unit.kept.attention (is_dead unit.store.cached) block) size
-
--- whether it promises, too
-pub promises_by_book : {M : Type 0} (unit : UnitValue M) (book : Book) (block : List ℕ) → IsOfSize unit book
-    → promises_for (command_for unit block) unit.write_cache ≡ promises_for (checked (state_of unit book) block) unit.write_cache
-promises_by_book unit book block size =
-    ap (λ n. promises_for (command_by n (unit_limit unit) unit.kept.attention (is_dead unit.store.cached) block) unit.write_cache) size
-
--- whether it is quiet, too
-pub quiet_by_book : {M : Type 0} (unit : UnitValue M) (book : Book) (block : List ℕ) → IsOfSize unit book
-    → IsQuietFor (checked (state_of unit book) block) unit.write_cache unit.store.cached
-    → IsQuietFor (command_for unit block) unit.write_cache unit.store.cached
-quiet_by_book unit book block size quiet =
-    subst (λ (n : ℕ). IsQuietFor (command_by n (unit_limit unit) unit.kept.attention (is_dead unit.store.cached) block) unit.write_cache
-    unit.store.cached) (sym size) quiet
-
--- where the frozen batch is empty each command is quiet that promises nothing
-pub plain_quiet : (told : Result Command Sense) (write_cache : Bool) (cached : Cached) → promises_for told write_cache ≡ false
-    → cached.frozen.numbers ≡ [] → IsQuietFor told write_cache cached
-plain_quiet told write_cache cached plain empty = grind (arith, nat_tests, plain, empty)

@@ -4,7 +4,5 @@ pub use Rattle.blocks.specs.declared.work.Work.{Work}
 pub use Rattle.blocks.specs.declared.work.Work.TheVariants.{Settle, Ahead, WriteBack}
 pub use Rattle.blocks.specs.Work.{IsWork, LeavesBy}
 pub use Rattle.blocks.specs.Written.{IsWritten}
-pub use Rattle.theorems.specs.Room.{IsPrepared, NeedsNoneAhead, RestsAhead}
-pub use Rattle.blocks.specs.Prepared.{HasRoom, TellsWork}
 pub use Rattle.blocks.specs.Settled.{IsSettled, IsAtHome}
 pub use Rattle.blocks.specs.StoreValue.{is_dead, steps_left, HasLimits}

@@ -1,9 +1,9 @@
 -- How many calls of the medium a command makes at most: what its calls of the store add up to.
-use Rattle.std.specs.Prelude.{◌≡◌, ◌≢◌, ℕ, ◌+◌, ◌*◌, ◌≤◌, ◌||◌, not, Bool, false, List, Result}
+use Rattle.std.specs.Prelude.{◌≡◌, ◌≢◌, ℕ, ◌+◌, ◌*◌, ◌≤◌, ◌||◌, not, Bool, List, Result}
 use Rattle.std.specs.Prelude.{Ok, Err, IfOk, Option, if◌then◌else◌}
 use Rattle.medium.specs.{Medium.State, Sent.SendsUpTo}
 -- handed on to the layers above
-pub use Rattle.blocks.specs.OneBatch.{SendsOneBatch, most_steps}
+pub use Rattle.blocks.specs.OneBatch.{SendsOneBatch}
 pub use Rattle.blocks.specs.Written.{IsWritten}
 use Rattle.blocks.specs.Sent.{LogFormat, most_sent}
 use Rattle.blocks.specs.StoreValue.{layout_of, slots_of, batch_steps, steps_left}
@@ -16,8 +16,7 @@ use Rattle.scsi.specs.{Sense.Sense, declared.command.{Command.Command, Transfer.
 use Rattle.scsi.specs.Rules.{moves_blocks, forces_reading, clears, selected_by, Intention}
 use Rattle.scsi.specs.declared.command.Command.TheVariants as command
 use Rattle.scsi_unit.specs.UnitValue.{UnitValue, unit_limit, intention_of}
-use Rattle.scsi_unit.specs.{Promising.{promises_for, IsQuietFor}, Serving.command_for}
-use Rattle.scsi_unit.specs.Reading.{read_of, LooksToRead}
+use Rattle.scsi_unit.specs.{Reading.{read_of, LooksToRead}, Serving.command_for}
 use Rattle.scsi.specs.declared.intent.Intent.TheVariants as intent
 
 -- making all accepted writes durable: two for each step that is left
@@ -57,24 +56,14 @@ abbrev pub calls_after : Result Command Sense → List ℕ → Bool → Cached �
 calls_after (Ok command) taken write_cache cached = calls_of command taken write_cache cached
 calls_after (Err sense) taken write_cache cached = 0
 
--- One batch at most is made durable by a command that promises nothing, and by any where no record
--- is left to write.
-pub record PromisesFew {M : Type 0} (promising : Bool) (before after : State) (old : UnitValue M)
-    : Type 0 where
-  pub plain : promising ≡ false
-      → SendsOneBatch old.store.goes_ahead before after old.store.cached.log
-  pub written : IsWritten old.store.cached
-      → SendsOneBatch old.store.goes_ahead before after old.store.cached.log
-
--- A command block was carried out by no more calls than that, and by reads alone where it is quiet.
+-- A command block was carried out by no more calls than that. Where no record is left to write, one
+-- batch at most is made durable.
 pub record IsBounded {M : Type 0} (before after : State) (block taken : List ℕ) (old : UnitValue M)
     : Type 0 where
   pub most : after.calls
       ≤ before.calls + calls_after (command_for old block) taken old.write_cache old.store.cached
-  pub one_batch : PromisesFew (promises_for (command_for old block) old.write_cache) before after
-      old
-  pub quiet : IsQuietFor (command_for old block) old.write_cache old.store.cached
-      → SendsUpTo 0 before after
+  pub one_batch : IsWritten old.store.cached
+      → SendsOneBatch old.store.goes_ahead before after old.store.cached.log
 
 -- The most that any command makes over `slots` slots, with at most `limit` blocks in a transfer:
 -- two for each step that may be left and for each of one more batch, and two for each block of one
@@ -95,15 +84,15 @@ most_sends_of format = 3 * most_sent format
 abbrev pub most_sends : {M : Type 0} → UnitValue M → ℕ
 most_sends unit = most_sends_of (layout_of unit.store.cached).format
 
--- A command that reads these blocks, or none, and that promises or does not, makes at most count
--- calls, and no more writes and flushes than any, none where it is quiet. Its reads name no home
+-- A command that reads these blocks, or none, makes at most count calls, and no more writes and
+-- flushes than any, those of one batch where no record is left to write. Its reads name no home
 -- sector but theirs.
-pub record MakesAtMost {M : Type 0} (count : ℕ) (read : Option Transfer) (promising : Bool)
-    (Quiet : Type 0) (before after : State) (old : UnitValue M) : Type 0 where
+pub record MakesAtMost {M : Type 0} (count : ℕ) (read : Option Transfer) (before after : State)
+    (old : UnitValue M) : Type 0 where
   pub calls : after.calls ≤ before.calls + count
   pub sent : SendsUpTo (most_sends old) before after
-  pub one_batch : PromisesFew promising before after old
-  pub quiet : Quiet → SendsUpTo 0 before after
+  pub one_batch : IsWritten old.store.cached
+      → SendsOneBatch old.store.goes_ahead before after old.store.cached.log
   pub looks : LooksToRead before after old read
 
 -- The calls of a command block: no more than its command makes, nor than any makes; and no more

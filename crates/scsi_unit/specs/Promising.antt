@@ -1,6 +1,5 @@
 -- Which commands promise: they are good only when all accepted writes are durable.
-use Rattle.std.specs.Prelude.{⊤, ◌≡◌, ◌⊎◌, ◌&&◌, ◌||◌, not, Bool, true, false, Result, Ok, Err}
-use Rattle.blocks.specs.{Prepared.IsTakenAtOnce, StoreValue.Cached, Written.IsWritten}
+use Rattle.std.specs.Prelude.{◌&&◌, ◌||◌, not, Bool, true, false, Result, Ok, Err}
 use Rattle.scsi.specs.{Sense.Sense, declared.command.Command.Command}
 use Rattle.scsi.specs.{declared.command.Transfer.Transfer, Rules.{moves_blocks, forces_reading}}
 use Rattle.scsi.specs.declared.command.Command.TheVariants as command
@@ -27,25 +26,3 @@ promises command write_cache = false
 abbrev pub promises_for : Result Command Sense → Bool → Bool
 promises_for (Ok command) write_cache = promises command write_cache
 promises_for (Err sense) write_cache = false
-
--- ---- which commands ask the medium for no write and no flush
-
--- a WRITE of no blocks, or one that promises nothing and is taken at once
-abbrev pub IsQuietWrite : Transfer → Bool → Cached → Type 0
-IsQuietWrite transfer write_cache cached = (moves_blocks transfer ≡ false)
-    ⊎ ((forces_writing transfer write_cache ≡ false)
-    × IsTakenAtOnce cached transfer.address transfer.count)
-
--- any other command, which promises or does not: it promises nothing, or no record is left to write
-abbrev pub IsQuietBy : Bool → Cached → Type 0
-IsQuietBy promising cached = (promising ≡ false) ⊎ IsWritten cached
-
-abbrev pub IsQuiet : Command → Bool → Cached → Type 0
-IsQuiet (command.Write10 transfer) write_cache cached = IsQuietWrite transfer write_cache cached
-IsQuiet (command.Write16 transfer) write_cache cached = IsQuietWrite transfer write_cache cached
-IsQuiet command write_cache cached = IsQuietBy (promises command write_cache) cached
-
--- and one that is refused
-abbrev pub IsQuietFor : Result Command Sense → Bool → Cached → Type 0
-IsQuietFor (Ok command) write_cache cached = IsQuiet command write_cache cached
-IsQuietFor (Err sense) write_cache cached = ⊤

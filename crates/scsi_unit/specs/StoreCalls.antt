@@ -8,7 +8,7 @@ use Rattle.scsi.specs.declared.command.Transfer.{Transfer}
 use Rattle.blocks.specs.{Calls.{reads_of, TurnsBatches}, Headroom.KeepsHeadroom}
 use Rattle.blocks.specs.{Looks.{LooksAtLog, LooksAtBlocks}, Passing.MayEmpty}
 use Rattle.blocks.specs.{OneBatch.SendsOneBatch, Sent.batch_sends, StoreValue.{Cached, StoreValue}}
-use Rattle.blocks.specs.StoreValue.{transfer_limit, is_dead, active_of, batch_steps, unwritten}
+use Rattle.blocks.specs.StoreValue.{transfer_limit, is_dead, active_of, batch_steps}
 use Rattle.blocks.specs.{StoreValue.{FitsBook, FitsBeside, TakesRange}, Prepared.IsTakenAtOnce}
 use Rattle.blocks.specs.{Turns.{IsTurn, IsWriteTurn}, Work.{IsWork, LeavesBy}}
 use Rattle.blocks.specs.declared.work.Work.{Work}
@@ -21,11 +21,6 @@ pub record ComesAfter {M : Type 0} (Comes : StoreValue M → StoreValue M → Ty
   pub comes : Comes old new
   pub policy : new.goes_ahead ≡ old.goes_ahead
   pub headroom : KeepsHeadroom old new
-
--- no call was made
-pub record MakesNone (before after : State) : Type 0 where
-  pub calls : after.calls ≡ before.calls
-  pub made : after.made ≡ before.made
 
 -- the store is live behind a good answer, and dead behind a write error
 abbrev pub TellsDeath : Result (Unit {0}) Sense → Cached → Type 0
@@ -49,10 +44,8 @@ pub record MakesDurable {M : Type 0} (Comes : StoreValue M → StoreValue M → 
   -- those of one batch where the frozen one is empty
   pub one_batch : old.cached.frozen.numbers ≡ []
       → SendsOneBatch old.goes_ahead before after old.cached.log
-  -- none where no block is to be written
-  pub rests : unwritten old.cached ≡ 0 → MakesNone before after
   pub looks : LooksAtLog before after old.cached
-  pub unwanted : wanted ≡ false → (new ≡ old) × MakesNone before after × (is_ok result ≡ true)
+  pub unwanted : wanted ≡ false → (new ≡ old) × (is_ok result ≡ true)
   pub follows : ComesAfter Comes old new
 
 -- The blocks of a transfer are at the front of a buffer, all of them, where the answer is good. The
@@ -92,7 +85,8 @@ pub record WritesBlocks {M : Type 0} (Comes : StoreValue M → StoreValue M → 
       ≤ before.calls + calls_of_sync old.cached + 2 * batch_steps old.cached)
   -- one that is taken at once makes no call, and is good
   pub quiet : IsTakenAtOnce old.cached transfer.address transfer.count
-      → (new.medium ≡ old.medium) × MakesNone before after × (is_ok result ≡ true)
+      → (new.medium ≡ old.medium) × (after.calls ≡ before.calls) × (after.made ≡ before.made)
+      × (is_ok result ≡ true)
   -- one that does not makes the frozen batch durable
   pub alone : ¬ FitsBeside (transfer_limit old.cached) (active_of old.cached) transfer.address
       transfer.count

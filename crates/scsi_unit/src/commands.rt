@@ -11,7 +11,6 @@ ghost use Rattle.scsi_unit.specs.Reading.{read_of};
 ghost use Rattle.scsi_unit.specs.Asking.{CanCarryOut, CanPerform};
 ghost use Rattle.scsi_unit.specs.Calls.{calls_of, MakesAtMost, MakesFew, SendsOver};
 ghost use Rattle.scsi_unit.specs.Performing.{Performs, Spares, silent};
-ghost use Rattle.scsi_unit.specs.Promising.{promises, IsQuiet};
 
 use crate::Unit;
 use crate::checks::BLOCK;
@@ -105,9 +104,8 @@ impl<M: Medium> Unit<M> {
             (answer_of result out.new) self.new }
         ensures bounded { MakesAtMost
             (calls_of command taken.now self.old.write_cache self.old.store.cached)
-            (read_of (Ok command)) (promises command self.old.write_cache)
-            (IsQuiet command self.old.write_cache self.old.store.cached)
-            (M.state self.old.store.medium) (M.state self.new.store.medium) self.old }
+            (read_of (Ok command)) (M.state self.old.store.medium)
+            (M.state self.new.store.medium) self.old }
         ensures sends { SendsOver (ComesBy M.state M.follows) (moves command) (unit_limit self.old)
             result self.old.store self.new.store }
     {

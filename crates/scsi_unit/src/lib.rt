@@ -14,7 +14,6 @@ mod need;
 mod parsed;
 mod pending;
 mod progress;
-mod promising;
 mod reading;
 mod retiring;
 mod start;

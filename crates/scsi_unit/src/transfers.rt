@@ -3,14 +3,12 @@ ghost use Rattle.std.specs.Prelude.{◌≡◌, ◌&&◌, ◌||◌, ℕ, true, fa
 ghost use Rattle.blocks.specs.StoreValue.{is_dead};
 ghost use Rattle.scsi.specs.declared.command.BlockRange.{BlockRange};
 ghost use Rattle.scsi.specs.declared.command.Command.TheVariants as command;
-ghost use Rattle.scsi.specs.Rules.{forces_reading};
 ghost use Rattle.blocks.specs.Running.{ComesBy};
 ghost use Rattle.scsi_unit.specs.UnitValue.{answer_of};
 ghost use Rattle.scsi_unit.specs.Asking.{CanRead, CanWrite, CanSelect};
 ghost use Rattle.scsi_unit.specs.Calls.{calls_of_sync, calls_of_read, calls_of_write, calls_of};
 ghost use Rattle.scsi_unit.specs.Calls.{MakesAtMost};
 ghost use Rattle.scsi_unit.specs.Performing.{Performs, Spares, silent};
-ghost use Rattle.scsi_unit.specs.Promising.{forces_writing, IsQuietBy, IsQuietWrite};
 ghost use Rattle.scsi_unit.specs.Reading.{some_read};
 ghost use Rattle.scsi_unit.specs.StoreCalls.{SendsRead};
 
@@ -31,9 +29,8 @@ impl<M: Medium> Unit<M> {
             (M.state self.new.store.medium) (Ok (command.Read10 transfer)) taken self.old
             (answer_of result out.new) self.new }
         ensures bounded { MakesAtMost (calls_of_read transfer self.old.store.cached)
-            (some_read transfer) (forces_reading transfer)
-            (IsQuietBy (forces_reading transfer) self.old.store.cached)
-            (M.state self.old.store.medium) (M.state self.new.store.medium) self.old }
+            (some_read transfer) (M.state self.old.store.medium)
+            (M.state self.new.store.medium) self.old }
         ensures sends { SendsRead (ComesBy M.state M.follows) transfer self.old.store self.new.store
             result }
     {
@@ -56,9 +53,7 @@ impl<M: Medium> Unit<M> {
             (silent result) self.new }
         ensures bounded { MakesAtMost
             (calls_of_write transfer self.old.write_cache self.old.store.cached)
-            None (forces_writing transfer self.old.write_cache)
-            (IsQuietWrite transfer self.old.write_cache self.old.store.cached)
-            (M.state self.old.store.medium) (M.state self.new.store.medium) self.old }
+            None (M.state self.old.store.medium) (M.state self.new.store.medium) self.old }
         ensures follows { ComesBy M.state M.follows self.old.store self.new.store }
     {
         if transfer.count == 0 {
@@ -79,8 +74,7 @@ impl<M: Medium> Unit<M> {
             → Spares (M.state self.old.store.medium) (M.state self.new.store.medium)
             (Ok (command.SynchronizeCache10 range)) taken self.old (silent result) self.new }
         ensures bounded { MakesAtMost (calls_of_sync self.old.store.cached)
-            None true (IsQuietBy true self.old.store.cached) (M.state self.old.store.medium)
-            (M.state self.new.store.medium) self.old }
+            None (M.state self.old.store.medium) (M.state self.new.store.medium) self.old }
         ensures follows { ComesBy M.state M.follows self.old.store self.new.store }
     {
         synchronize_if(&mut self.store, true)
@@ -98,9 +92,7 @@ impl<M: Medium> Unit<M> {
             (silent result) self.new }
         ensures bounded { MakesAtMost (calls_of (command.ModeSelect list_len) taken.now
             self.old.write_cache self.old.store.cached)
-            None self.old.write_cache
-            (IsQuietBy self.old.write_cache self.old.store.cached)
-            (M.state self.old.store.medium) (M.state self.new.store.medium) self.old }
+            None (M.state self.old.store.medium) (M.state self.new.store.medium) self.old }
         ensures follows { ComesBy M.state M.follows self.old.store self.new.store }
     {
         let enabled = mode_select(&taken[..usize::from(list_len)], self.write_cache)?;

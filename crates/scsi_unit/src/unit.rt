@@ -13,7 +13,6 @@ ghost use Rattle.scsi_unit.specs.UnitValue.{unit_limit, state_of, intention_of, 
 ghost use Rattle.scsi_unit.specs.UnitValue.{FitsUnit, TellsLimit, ArmsUnit};
 ghost use Rattle.scsi.specs.declared.intent.Intent.TheVariants as intent;
 ghost use Rattle.blocks.specs.Limit.{HasLimit};
-ghost use Rattle.blocks.specs.Prepared.{TellsWork};
 ghost use Rattle.blocks.specs.Written.{IsWritten};
 ghost use Rattle.blocks.specs.declared.work.Work.TheVariants.{Settle};
 ghost use Rattle.scsi_unit.specs.Asking.{CanCarryOut};
@@ -143,15 +142,6 @@ impl<M: Medium> Unit<M> {
         ensures { IsTrue result ↔ (self.now.store.cached.frozen.numbers ≡ []) }
     {
         self.store.has_free_batch()
-    }
-
-    /// What a step has to work towards so that the next record takes no call for its room, or none
-    /// where that is so already. Where no step is left none is told.
-    pub fn work_for_room(&self) -> Option<Work>
-        ensures is { TellsWork self.now.store.goes_ahead self.now.store.cached.log result }
-        ensures rests { steps_left self.now.store.cached ≡ 0 → result ≡ None }
-    {
-        self.store.work_for_room()
     }
 
     /// The medium that the unit stands on.

@@ -32,7 +32,7 @@ returns-clause-calls g c =
     let few = rw c.in_ok-command.was at (c.command.ensures.few c.args.taken.now) in
     let bounded = c.perform.ensures.bounded in
     record {
-      bounded = record { most = rw is bounded.calls; one_batch = rw is bounded.one_batch; quiet = rw is bounded.quiet };
+      bounded = record { most = rw is bounded.calls; one_batch = bounded.one_batch };
       few = omega (arith, few, bounded.calls);
       sent = bounded.sent;
       looks = rw is bounded.looks;

@@ -25,7 +25,7 @@ returns-clause-performs g c taken =
 pub returns-in_err-synchronize_if-clause-bounded : goal.returns-in_err-synchronize_if-clause-bounded
 returns-in_err-synchronize_if-clause-bounded g c =
     let some = c.if-transfer-eq0.false in
-    synced c.requires.live c.in_err-synchronize_if.ensures (λ plain. grind (arith, nat_tests, some, plain)) (grind (arith, nat_tests, some))
+    synced c.requires.live c.in_err-synchronize_if.ensures (grind (arith, nat_tests, some))
 
 pub returns-clause-bounded : goal.returns-clause-bounded
 returns-clause-bounded g c = read_on c.requires.live c.if-transfer-eq0.false c.in_ok-synchronize_if.ensures c.read_blocks.ensures

@@ -29,13 +29,13 @@ pub returns-in_err-synchronize_if-clause-bounded : goal.returns-in_err-synchroni
 returns-in_err-synchronize_if-clause-bounded g c =
     let chosen = sym c.mode_select.ensures.answer ∙ c.in_ok-enabled.was in
     let clears = c.is_disabled-clears.ensures in
-    synced c.requires.live c.synchronize_if.ensures (λ plain. grind (arith, clears, plain)) (grind (arith, chosen, c.from.ensures, clears))
+    synced c.requires.live c.synchronize_if.ensures (grind (arith, chosen, c.from.ensures, clears))
 
 pub returns-clause-bounded : goal.returns-clause-bounded
 returns-clause-bounded g c =
     let chosen = sym c.mode_select.ensures.answer ∙ c.in_ok-enabled.was in
     let clears = c.is_disabled-clears.ensures in
-    synced c.requires.live c.synchronize_if.ensures (λ plain. grind (arith, clears, plain)) (grind (arith, chosen, c.from.ensures, clears))
+    synced c.requires.live c.synchronize_if.ensures (grind (arith, chosen, c.from.ensures, clears))
 
 pub returns-in_err-enabled-clause-follows : goal.returns-in_err-enabled-clause-follows
 returns-in_err-enabled-clause-follows g c = comes_itself g.met.M.Medium.follows_itself

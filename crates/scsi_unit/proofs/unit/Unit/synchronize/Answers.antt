@@ -6,4 +6,4 @@ pub returns-clause-performs : goal.returns-clause-performs
 returns-clause-performs g c range taken = synchronizes c.requires.live c.synchronize_if.result c.synchronize_if.ensures
 
 pub returns-clause-bounded : goal.returns-clause-bounded
-returns-clause-bounded g c = synced c.requires.live c.synchronize_if.ensures (λ plain. cc) (omega arith)
+returns-clause-bounded g c = synced c.requires.live c.synchronize_if.ensures (omega arith)
