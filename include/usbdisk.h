@@ -25,10 +25,13 @@
  * What a loss of power leaves, wherever the device is: the next start finds the accepted writes in
  * order, none in part, and all that were promised to the host. A status that promises (of a WRITE
  * with FUA or with the write cache off, a READ with FUA, a SYNCHRONIZE CACHE, a MODE SELECT while
- * the write cache is on) is handed out when the device has carried out all that waited. Until then
- * Bulk-In gives nothing at all: no halt, and not the answer to a command behind a class reset. With
- * no such status waiting, no answer waits for the device. docs/MAKERS.md says what the device must
- * promise.
+ * the write cache is on) is laid out when the device has carried out all that waited.
+ *
+ * A packet is acknowledged once its bytes are all there. While the device works for its command,
+ * Bulk-Out answers NAK, Bulk-In NAK or the STALL of its halt, and requests are answered. A class
+ * reset drops the command: its write is the last one, whole, or is none. Where the device refuses a
+ * call of it, it fails, and another command's status stays. docs/MAKERS.md says what the device
+ * must promise.
  *
  * Link the program with libusbdisk_c.a, and define the two functions at the end of this file.
  *
@@ -54,9 +57,9 @@
 extern "C" {
 #endif
 
-/* The version, 1.14.0: two bytes hold the first number, and one byte each of the others. The
+/* The version, 1.15.0: two bytes hold the first number, and one byte each of the others. The
  * library reports its own. Where the two differ, header and library are not of one version. */
-#define USBDISK_VERSION 0x010E00u
+#define USBDISK_VERSION 0x010F00u
 
 uint32_t usbdisk_version(void);
 

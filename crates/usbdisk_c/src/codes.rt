@@ -1,4 +1,4 @@
 //! The version that C is told.
 
 /// The version: two bytes for the first number, and one for each other.
-pub(crate) const VERSION: u32 = 0x010E00;
+pub(crate) const VERSION: u32 = 0x010F00;

@@ -35,7 +35,7 @@ pub use refusal::{Error, Fault, Misuse, Refusal};
 pub use store::Store;
 
 /// The version of `usbdisk.h` that this crate is written for.
-pub const VERSION: u32 = 0x010E00;
+pub const VERSION: u32 = 0x010F00;
 
 /// Bytes of a sector and of a block.
 pub const SECTOR: usize = 512;

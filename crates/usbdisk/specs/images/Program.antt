@@ -30,7 +30,7 @@ help_text = ended (codes "usbdisk_image make IMAGE --blocks N --slots K --format
     ++ ended (codes "usbdisk_image export IMAGE RAW [--replace]")
 
 abbrev pub version_text : List ℕ
-version_text = ended (codes "usbdisk_image 1.14")
+version_text = ended (codes "usbdisk_image 1.15")
 
 abbrev pub made_text : List ℕ
 made_text = ended (codes "made")

@@ -45,7 +45,7 @@ usbdisk_image show IMAGE\nusbdisk_image migrate IMAGE\n\
 usbdisk_image import RAW IMAGE --slots K --format 1|2 [--replace]\n\
 usbdisk_image export IMAGE RAW [--replace]\n";
 
-const VERSION: &[u8] = b"usbdisk_image 1.14\n";
+const VERSION: &[u8] = b"usbdisk_image 1.15\n";
 
 /// Does what the words after the program's name ask for, and gives the exit status.
 ///
