@@ -130,14 +130,18 @@ impl<'d> Bench<'d> {
         (answer, room)
     }
 
-    /// The status of a command, which the device may have to work for.
-    fn status(&mut self) -> Option<u8> {
+    /// The same, which the device may have to work for.
+    fn received(&mut self) -> (Answer, Vec<u8>) {
         loop {
             let (answer, bytes) = self.given();
             if answer != Answer::Nak || !self.work() {
-                return bytes.get(12).copied();
+                return (answer, bytes);
             }
         }
+    }
+
+    fn status(&mut self) -> Option<u8> {
+        self.received().1.get(12).copied()
     }
 
     /// REQUEST SENSE: the key, and the code behind it.
@@ -157,7 +161,7 @@ impl<'d> Bench<'d> {
 
     fn is_there(&mut self) -> bool {
         self.send(&wrapper(512, 0x80, &READ));
-        let is_there = self.given() == (Answer::Ack, vec![0xA5; 512]);
+        let is_there = self.received() == (Answer::Ack, vec![0xA5; 512]);
         self.status();
         is_there
     }
@@ -227,10 +231,10 @@ fn a_plain_write_is_answered_while_the_device_works_and_a_promise_is_not() {
     assert_eq!((answer, bytes.len()), (Answer::Ack, 13));
     let mut send = |bytes: &[u8]| assert_eq!(bench.disk.out(bytes), (Answer::Ack, bytes.len()));
     send(&wrapper(512, 0, &FORCED));
-    // (the WRITE before is not yet in the log)
-    assert_eq!(bench.disk.out(&[0xA5; 512]), (Answer::Nak, 0));
+    send(&[0xA5; 512]);
+    assert_eq!(bench.given(), (Answer::Nak, vec![]));
+    assert_eq!(bench.disk.out(&test), (Answer::Nak, 0));
     bench.disk.done(true, &[]).unwrap();
-    assert_eq!(bench.send(&[0xA5; 512]), Answer::Ack);
     assert_eq!(bench.given(), (Answer::Nak, vec![]));
     assert_eq!(bench.disk.setup(&lun, data), (Answer::Ack, 1));
     let call = bench.disk.next(&mut bench.buffer).unwrap();
@@ -266,13 +270,13 @@ fn a_read_waits_for_its_sectors_and_ends_where_they_are_refused() {
     bench.catch_up();
     assert_eq!(bench.sense(), [6, 0x29, 0]);
     let read = wrapper(512, 0x80, &READ);
-    assert_eq!(bench.disk.out(&read), (Answer::Nak, 0));
+    assert_eq!(bench.disk.out(&read), (Answer::Ack, 31));
+    assert_eq!(bench.given(), (Answer::Nak, vec![]));
     let (sector, count) = (Log::end_of(2, SLOTS) + 5, 1);
     let asked = Call::Read { sector, count };
     assert_eq!(bench.disk.next(&mut bench.buffer), Ok(asked));
     assert_eq!(bench.disk.done(true, &[0; 511]), Err(Misuse::BadLength));
     assert_eq!(bench.disk.done(false, &[]), Ok(()));
-    assert_eq!(bench.disk.out(&read), (Answer::Ack, 31));
     assert_eq!(bench.given().0, Answer::Stall);
     bench.disk.setup(&[2, 1, 0, 0, 0x81, 0, 0, 0], &mut [0; 2]);
     assert_eq!(bench.status(), Some(1));
