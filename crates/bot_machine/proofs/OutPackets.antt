@@ -4,12 +4,12 @@ use Rattle.scsi_unit.proofs.UnitRuns.{comes_itself}
 use Rattle.bot_machine.specs.{declared.bulk_state.Taking.Taking, declared.bulk_state.Phase.Phase}
 use Rattle.bot_machine.specs.declared.bulk_state.Phase.TheVariants.{Command, DataOut, DataIn, Status}
 use Rattle.bot_machine.specs.Disk.{status_of_answer, Tells, DiskValue, over, TicksIn, Proceeds, IsStepBy, IsStep, Elapses, TakesFew}
-use Rattle.bot_machine.specs.{Acts.{CarriesOutNone, PacketCarriesOut, EventCarriesOut}, Promising.SendsBy}
+use Rattle.bot_machine.specs.Acts.{CarriesOutNone, PacketCarriesOut, EventCarriesOut}
 use Rattle.bot_machine.specs.{Refinement.{left_of, halt_of, IsInPhase}, Reading.{LooksBesides, LooksIn, ReadsAt}}
 use Rattle.bot_machine.specs.{Serving.{ServesPacket, HandsOn}, declared.bulk_state.BulkState.BulkState}
 use Rattle.std.specs.Prelude.{Option, Some, None, Result}
 use Rattle.logical_blocks.specs.Book.{Book}
-use Rattle.scsi.specs.{Sense.Sense, Rules.{UnitState, CarriesOut, Ticks, Intention}}
+use Rattle.scsi.specs.{Sense.Sense, Rules.{CarriesOut, Ticks, Intention}}
 use Rattle.spec.specs.{declared.case.Endpoint.Endpoint, StatusWrapper.status_wrapper, Exchange.{Line, Script, sending, laid_out, in_answer}}
 use Rattle.spec.specs.{Exchange.after_in, declared.event.{Event.Event, Answer.Answer}}
 use Rattle.spec.specs.{Conversation.{OutStep, SetupStep}, UnitConversation.{Intends, UnitStep, write_of_packet, write_of_event, on_line}}
@@ -23,7 +23,7 @@ use Rattle.scsi_unit.specs.UnitValue.{UnitValue, unit_limit, state_of, FitsUnit,
 use Rattle.spec.specs.declared.event.Event.TheVariants as event
 use Rattle.spec.specs.declared.event.Answer.TheVariants as answer
 use Rattle.scsi.specs.declared.intent.Intent.TheVariants as intent
-use Rattle.bot_machine.proofs.UnitLaws.{few_ticks, none_made, step_made, staying_so, proceeding, fits_size, promises_by_book, quiet_by_book}
+use Rattle.bot_machine.proofs.UnitLaws.{few_ticks, none_made, step_made, staying_so, proceeding, fits_size}
 use Rattle.bot_machine.proofs.Wrappers.{besides, waits_to_send_none}
 
 pub one_taking : (taking other : Taking) → DataOut taking ≡ DataOut other → taking ≡ other
@@ -55,11 +55,6 @@ no_time m = record { failures_stay = omega arith; size_stays = refl }
 pub no_calls : {M : Type 0} (m : State) (unit : UnitValue M) → TakesFew m m unit unit
 no_calls m unit = let none = none_made m unit in grind (arith, none)
 
--- nothing was written
-pub sends_none : {M : Type 0} (m : State) (unit : UnitValue M) (by : UnitState) (CarriedOut : List ℕ → List ℕ → Type 0)
-    → SendsBy m m unit by CarriedOut
-sends_none m unit by CarriedOut = record { plain = λ none. none_made m unit; quiet = λ all. omega arith }
-
 -- no read was made
 pub none_named : {M : Type 0} (m : State) (disk : DiskValue M) (happens : Event) → LooksIn m m disk happens
 none_named m disk happens = no_looks (λ s. ReadsBack disk.unit s ⊎ ReadsAt disk happens s) m m refl
@@ -82,8 +77,6 @@ served state Follows At old new from to left packet halted same serves passes re
       ticks = tt;
       spares = s.spares;
       few = passes.few;
-      plain = λ book size. (s.sends book size).plain;
-      quiet = λ book size. (s.sends book size).quiet;
       looks = besides before after old.unit At (ReadsAt old (event.Out (record { items = packet }))) reads passes.looks;
       elapses = passes.elapses;
       limit_stays = passes.limit;
@@ -101,7 +94,6 @@ idle m unit from to left packet sound step none never = record {
   proceeds = λ book fits. staying_so m unit _ _ book sound fits (none book) (step book (fits_size m unit book fits));
   rests = λ book fits still. refl;
   spares = λ book fits block taken carries. absurd (never book (fits_size m unit book fits) block taken carries);
-  sends = λ book size. sends_none m unit _ _;
 }
 
 -- a packet that has this command carried out, over these bytes, and no other
@@ -122,10 +114,6 @@ carried before after old new from to left packet block bytes proceeds one spared
   rests = λ book fits none. absurd (none block bytes (one book (fits_size before old book fits)).0);
   spares = λ book fits other taken carries.
       let same = (one book (fits_size before old book fits)).1 other taken carries in rw (same.0, same.1) spared;
-  sends = λ book size. record {
-    plain = λ none. spared.2.one_batch.plain (promises_by_book old book block size ∙ none block bytes (one book size).0);
-    quiet = λ all. spared.2.quiet (quiet_by_book old book block size (all block bytes (one book size).0));
-  };
 }
 
 -- an event that has the unit do nothing
@@ -141,8 +129,6 @@ nothing_done m disk line happens told sound step none never ticks size = record 
   ticks = ticks;
   spares = λ book fits block taken carries. absurd (never book block taken carries);
   few = no_calls m disk.unit;
-  plain = λ book size none. none_made m disk.unit;
-  quiet = λ book size all. omega arith;
   looks = none_named m disk happens;
   elapses = no_time m;
   limit_stays = refl;
@@ -177,8 +163,6 @@ ticked work before after old new ticks line = record {
   few =
       let few = few_ticks before.calls after.calls old.unit ticks.few in
       let one = step_made before after old.unit ticks.sent in grind (arith, few, one, ticks);
-  plain = λ book size none. step_made before after old.unit ticks.sent;
-  quiet = λ book size loud. absurd loud;
   looks = looks_wider (ReadsBack old.unit) (λ s. ReadsBack old.unit s ⊎ ReadsAt old event.Tick s) before after
       (λ s low. inl low) ticks.looks;
   elapses = search (rules, ticks);

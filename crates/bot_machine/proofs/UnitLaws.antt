@@ -3,15 +3,13 @@ use Rattle.std.proofs.Common.{◌≡◌, ℕ, List, None, true, ap, ◌∙◌, r
 use Rattle.std.specs.Prelude.{Result, Option, None}
 use Rattle.logical_blocks.specs.{Book.Book, Blocks.Write}
 use Rattle.scsi.specs.{Sense.Sense, Rules.UnitState}
-use Rattle.spec.specs.StatusWrapper.{status_wrapper}
 pub use Rattle.scsi_unit.proofs.UnitLaws.{keeps_writes, ticks_only, stays_faulted, between_calls}
 pub use Rattle.scsi_unit.proofs.UnitLaws.{limit_between_calls, start_keeps_limit, fits_size, knows_images, few_ticks, intends_by_book}
-pub use Rattle.scsi_unit.proofs.UnitLaws.{promises_by_book, quiet_by_book, none_made, step_made, steps_to_write, written_live, ahead_fewer}
-pub use Rattle.scsi_unit.proofs.UnitLaws.{both_empty, plain_quiet}
+pub use Rattle.scsi_unit.proofs.UnitLaws.{none_made, step_made}
 use Rattle.medium.specs.{Medium.{State, IsSound}, Moments.LeavesOnly}
 use Rattle.scsi_unit.specs.{Background.is_dead, Serving.IsSparing, UnitValue.{UnitValue, state_of, FitsUnit}, Books.{MayFind, FoundWith}}
 use Rattle.scsi_unit.proofs.FaultedUnit.{wants_none}
-use Rattle.bot_machine.specs.{Faulting.TurnsGoodAlone, Disk.Proceeds}
+use Rattle.bot_machine.specs.Disk.{Proceeds}
 use Rattle.medium.proofs.Moments.{started}
 
 -- a faulted unit carries out a command without a call of the medium
@@ -24,11 +22,6 @@ faulted_rests state block taken old answer new sparing dead =
       ap (λ store. (state store.medium).calls) same,
       ap (λ store. is_dead store.cached) same ∙ dead,
     )
-
--- byte 12 of a status wrapper alone is read and turned
-pub turns_good_alone : (tag residue : ℕ) → TurnsGoodAlone tag residue
-unfolding status_wrapper
-turns_good_alone tag residue = record { good = refl; failed = refl; phase = refl }
 
 -- a unit that goes from one book to another
 pub proceeding : {M : Type 0} (before after : State) (old new : UnitValue M)

@@ -2,13 +2,11 @@
 use Rattle.spec.specs.declared.event.Event.TheVariants as event
 use Rattle.std.specs.Prelude.{◌≡◌, ⊤, ◌≤◌, ℕ, Bool, true, false, List, [], ◌++◌, length, take}
 use Rattle.spec.specs.{declared.wrapper.Cbw.Cbw, declared.way.Way.Way, declared.case.Case.Case}
-use Rattle.logical_blocks.specs.Book.{Book}
 use Rattle.spec.specs.{CommandWrapper.SpellsCommand, Cases.{IsCase, size_of_way}}
 use Rattle.scsi.specs.Rules.{UnitState}
 use Rattle.spec.specs.declared.event.Event.{Event}
 use Rattle.spec.specs.Exchange.{Script, finished, taking, sending, at_once, moment_of}
 use Rattle.spec.specs.{Conversation.Conversation, UnitConversation.Intends}
-use Rattle.scsi_unit.specs.UnitValue.{UnitValue, IsOfSize}
 
 -- the packet spells the wrapper of a command that is carried out at once, over no bytes
 pub record CarriesOutAtOnce (packet : List ℕ) (unit : UnitState) (block taken : List ℕ)
@@ -54,22 +52,6 @@ EventCarriesOut s event.Tick block taken = ⊥
 -- no command block is carried out
 abbrev pub CarriesOutNone : (List ℕ → List ℕ → Type 0) → Type 0
 CarriesOutNone CarriedOut = (block taken : List ℕ) → CarriedOut block taken → ⊥
-
--- this command block is carried out, and no other
-pub record CarriesOutOnly (CarriedOut : List ℕ → List ℕ → Type 0) (block : List ℕ) : Type 0 where
-  pub taken : List ℕ
-  pub carried_out : CarriedOut block taken
-  pub only : (other bytes : List ℕ) → CarriedOut other bytes → other ≡ block
-
--- so it is by each book of the unit's size
-abbrev pub RunsNone : {M : Type 0} → UnitValue M → (Book → List ℕ → List ℕ → Type 0) → Type 0
-RunsNone unit CarriedOut =
-    (book : Book) → IsOfSize unit book → CarriesOutNone (CarriedOut book)
-
-abbrev pub RunsOne : {M : Type 0} → UnitValue M → (Book → List ℕ → List ℕ → Type 0) → List ℕ
-    → Type 0
-RunsOne unit CarriedOut block =
-    (book : Book) → IsOfSize unit book → CarriesOutOnly (CarriedOut book) block
 
 -- an event has the unit do something
 abbrev pub Acts : Conversation UnitState → Event → Type 0

@@ -18,10 +18,10 @@ use Rattle.scsi_unit.specs.Calls.{ComesBy, IsBounded, IsWritten, SendsOneBatch, 
 use Rattle.scsi_unit.specs.Calls.{most_sends}
 use Rattle.scsi_unit.specs.{Costs.KeepsHeadroom, Serving.{has_refused, IsSparing, TicksOver}}
 use Rattle.scsi_unit.specs.Starting.{layout_of}
-use Rattle.scsi_unit.specs.UnitValue.{UnitValue, unit_limit, state_of, FitsUnit, IsOfSize}
+use Rattle.scsi_unit.specs.UnitValue.{UnitValue, unit_limit, state_of, FitsUnit}
 pub use Rattle.bot_machine.specs.DiskValue.{DiskValue}
 use Rattle.bot_machine.specs.{Turns.{ByTurns, marks_in}, Acts.{EventCarriesOut, Acts}}
-use Rattle.bot_machine.specs.{Promising.{PromisesNone, QuietIn}, Reading.LooksIn}
+use Rattle.bot_machine.specs.Reading.{LooksIn}
 
 -- the conversation of a disk, with a book of its life
 abbrev pub over : {M : Type 0} → DiskValue M → Book → Conversation UnitState
@@ -103,12 +103,6 @@ pub record IsStepBy {M : Type 0} (work : Work) (before after : State) (old : Dis
       × IsBounded before after block taken old.unit × Tells told new.line
   -- whatever the book
   pub few : TakesFew before after old.unit new.unit
-  -- where no command is carried out that promises, one batch at most is made durable
-  pub plain : (book : Book) → IsOfSize old.unit book → PromisesNone (over old book) event
-      → SendsOneBatch old.unit.store.goes_ahead before after old.unit.store.cached.log
-  -- where each command that is carried out is quiet, nothing is written or flushed
-  pub quiet : (book : Book) → IsOfSize old.unit book
-      → QuietIn (over old book) old.unit.store.cached event → SendsUpTo 0 before after
   -- each read names a sector of the log, or one that `Disk::home_sectors` tells for the packet
   pub looks : LooksIn before after old event
   pub elapses : Elapses before after

@@ -20,7 +20,6 @@ pub mod DiskValue
 pub mod Reading
 pub mod Disk
 pub mod PacketRuns
-pub mod Faulting
 pub mod Opening
 pub mod Refinement
 pub mod Serving

@@ -12,13 +12,13 @@ use Rattle.spec.specs.declared.way.Way.TheVariants as ways
 use Rattle.scsi.specs.declared.intent.Intent.TheVariants as intent
 use Rattle.medium.specs.Medium.{State}
 use Rattle.scsi_unit.specs.{Calls.{IsBounded, ComesBy}, Serving.{has_refused, IsSparing}}
-use Rattle.scsi_unit.specs.UnitValue.{UnitValue, unit_limit, state_of, FitsUnit, IsOfSize}
+use Rattle.scsi_unit.specs.UnitValue.{UnitValue, unit_limit, state_of, FitsUnit}
 use Rattle.scsi_unit.specs.UnitValue.{intention_of}
 use Rattle.bot_machine.specs.declared.exchange.Exchange.{Exchange}
 use Rattle.bot_machine.specs.declared.bulk_state.Taking.{Taking}
 use Rattle.bot_machine.specs.declared.bulk_state.Phase.TheVariants.{Command, DataOut}
 use Rattle.bot_machine.specs.declared.bulk_state.BulkState.{BulkState}
-use Rattle.bot_machine.specs.{Acts.{CarriesOutNone, PacketCarriesOut}, Promising.SendsBy}
+use Rattle.bot_machine.specs.Acts.{CarriesOutNone, PacketCarriesOut}
 use Rattle.bot_machine.specs.Refinement.{line_of, IsTaking, IsInPhase}
 use Rattle.bot_machine.specs.{Disk.{Proceeds, Elapses, TakesFew, Tells}, Reading.LooksBesides}
 
@@ -61,9 +61,6 @@ pub record ServesPacket {M : Type 0} (before after : State) (old new : UnitValue
       → PacketCarriesOut from.packet_size halted left packet (state_of old book) block taken
       → (answer : Result (List ℕ) Sense) × IsSparing before after block taken old answer new
       × IsBounded before after block taken old × Tells answer to
-  -- it has as few calls made that write as its command promises
-  pub sends : (book : Book) → IsOfSize old book → SendsBy before after old (state_of old book)
-      (PacketCarriesOut from.packet_size halted left packet (state_of old book))
 
 -- A part of an event passes these on: a phase that the unit allows, its limit and the size of a
 -- packet as they were, and the store, which comes after what it was by few calls, and of which no

@@ -1,14 +1,14 @@
 //! A disk: the transport over a logical unit.
 ghost use Rattle.std.specs.Prelude.{⊤, ◌↔◌, ◌≡◌, ◌⊎◌, ◌≤◌, ◌<◌, ◌/◌, false, true, length};
-ghost use Rattle.std.specs.Prelude.{[], IsTrue, None};
+ghost use Rattle.std.specs.Prelude.{[], IsTrue};
 ghost use Rattle.medium.specs.Inlet.{AreHeld};
 ghost use Rattle.std.specs.Borrow.{sem, follows_so};
 ghost use mathlib.Core.Option.{none};
 ghost use Rattle.medium.specs.Moments.{EachCut, IsUnchanged};
 ghost use Rattle.logical_blocks.specs.Book.{Book};
 ghost use Rattle.scsi_unit.specs.Books.{MayFind};
-ghost use Rattle.scsi_unit.specs.Background.{IsSettled, IsWritten, TellsWork, HasLimits, Settle};
-ghost use Rattle.scsi_unit.specs.Background.{is_dead, steps_left};
+ghost use Rattle.scsi_unit.specs.Background.{IsSettled, IsWritten, HasLimits, Settle, is_dead};
+ghost use Rattle.scsi_unit.specs.Background.{steps_left};
 ghost use Rattle.scsi_unit.specs.Calls.{ComesBy};
 ghost use Rattle.scsi_unit.specs.Starting.{HasLimit};
 ghost use Rattle.scsi_unit.specs.UnitValue.{unit_limit, TellsLimit};
@@ -99,16 +99,6 @@ impl<M: Medium> Disk<M> {
         ensures { IsTrue result ↔ (self.now.unit.store.cached.frozen.numbers ≡ []) }
     {
         self.unit.has_free_batch()
-    }
-
-    /// What a step has to work towards so that the next record takes no call for its room, or none
-    /// where that is so already. Where no step is left none is told.
-    pub fn work_for_room(&self) -> Option<Work>
-        ensures is { TellsWork self.now.unit.store.goes_ahead self.now.unit.store.cached.log
-            result }
-        ensures rests { steps_left self.now.unit.store.cached ≡ 0 → result ≡ None }
-    {
-        self.unit.work_for_room()
     }
 
     /// Whether the host is still to take a status wrapper, with or without data before it

@@ -1,9 +1,9 @@
 //! A disk whose device may be behind.
-ghost use Rattle.std.specs.Prelude.{⊤, ◌≡◌, ◌≤◌, ◌/◌, length, None, Some, IfSome, false, true};
+ghost use Rattle.std.specs.Prelude.{⊤, ◌≡◌, ◌≤◌, length, None, Some, IfSome, false, true};
 ghost use Rattle.std.specs.Borrow.{sem, follows_so};
 ghost use mathlib.Core.Option.{none};
-ghost use Rattle.medium.specs.{Inlet.AreHeld, Moments.{EachCut, IsUnchanged}};
-ghost use Rattle.spec.specs.Exchange.{in_answer, after_in};
+ghost use Rattle.medium.specs.Moments.{EachCut};
+ghost use Rattle.spec.specs.Exchange.{in_answer};
 ghost use Rattle.spec.specs.Lagging.{Lagging};
 ghost use Rattle.scsi.specs.Rules.{UnitState};
 ghost use Rattle.scsi_unit.specs.Calls.{ComesBy};
@@ -233,21 +233,12 @@ impl<M: Outlet> LaggingDisk<M> {
 }
 
 impl<M: Inlet> LaggingDisk<M> {
-    /// Shows sectors to the medium as its device holds them: where they are, the disk stands for
-    /// what it stood for, and where they are not, nothing but the medium has changed.
+    /// Shows sectors to the medium as its device holds them. Nothing but the medium changes.
     pub fn show(&mut self, first: u64, bytes: &[u8]) -> bool
         ensures shown { M.shown first bytes.now result self.old.disk.unit.store.medium
             self.new.disk.unit.store.medium }
         ensures others { IsRearmed self.old.disk self.new.disk }
         ensures pending { self.new.pending ≡ self.old.pending }
-        ensures unchanged { AreHeld (M.state self.old.disk.unit.store.medium).content first
-            (length bytes.now / 512) bytes.now
-            → IsUnchanged (M.state self.old.disk.unit.store.medium)
-            (M.state self.new.disk.unit.store.medium) }
-        ensures stands { AreHeld (M.state self.old.disk.unit.store.medium).content first
-            (length bytes.now / 512) bytes.now → (book : Book) (s : Lagging UnitState)
-            → StandsFor (M.state self.old.disk.unit.store.medium) self.old book s
-            → StandsFor (M.state self.new.disk.unit.store.medium) self.new book s }
     {
         self.disk.show(first, bytes)
     }

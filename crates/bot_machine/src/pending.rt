@@ -1,5 +1,5 @@
 //! A command whose bytes are all there, while the device works for it.
-ghost use Rattle.std.specs.Prelude.{◌≡◌, ℕ, List, []};
+ghost use Rattle.std.specs.Prelude.{◌≡◌, []};
 ghost use Rattle.spec.specs.Cases.{IsCase};
 ghost use Rattle.scsi_unit.specs.UnitValue.{unit_limit};
 ghost use Rattle.bot_machine.specs.Serving.{AwaitsWrapper, AwaitsData, AwaitsEnd, CanCarryOut};
