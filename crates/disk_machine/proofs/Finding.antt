@@ -38,19 +38,27 @@ module _ (size : ℕ) (image : Image) where
     found_on : MayFind size old image → Finds size dead new image
     found_on found = elim grows [
       | inl more ↦ inl (found_more old new life fewer more.0 more.1 found)
-      | inr less ↦ inr (less.0, (
-        less.1.0,
-        found_more old (with_write new less.1.0)
-        (record { blocks = life.blocks; opening = life.opening; stamp = life.stamp; ours = life.ours }) fewer []
-        (sym less.1.1 ∙ sym (append-nil old.writes)) found,
-      ))
+      | inr less ↦ inr (
+        less.0,
+        (
+          less.1.0,
+          found_more old (with_write new less.1.0)
+              (record { blocks = life.blocks; opening = life.opening; stamp = life.stamp; ours = life.ours }) fewer []
+              (sym less.1.1 ∙ sym (append-nil old.writes)) found,
+        ),
+      )
     ]
 
     -- a unit that was faulted stays so, and its book too
     pub finds_on : (faulted ≡ true → (dead ≡ true) × (new ≡ old)) → Finds size faulted old image → Finds size dead new image
     finds_on stays (inl found) = found_on found
-    finds_on stays (inr found) = inr ((stays found.0).0, (found.1.0,
-        subst (λ (b : Book). MayFind size (with_write b found.1.0) image) (sym (stays found.0).1) found.1.1))
+    finds_on stays (inr found) = inr (
+      (stays found.0).0,
+      (
+        found.1.0,
+        subst (λ (b : Book). MayFind size (with_write b found.1.0) image) (sym (stays found.0).1) found.1.1,
+      ),
+    )
 
     pub finds_amid : MayFind size old image → Finds size dead new image
     finds_amid found = found_on found

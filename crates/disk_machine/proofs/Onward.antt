@@ -129,9 +129,9 @@ module _ (old new : Machine) (may : MayGoOn old) (plays : PlaysPending old.disk 
         | inl may_do ↦ elim (may.all_done may_do) [
           | inl up ↦ inr (rest (still_caught_up old new plays others (may.told.0 may_do) up) made.later made.next made.stands).keeps
           | inr refused ↦ inl (
-            sym (held_mark made.later (held_write new.disk.pending new.disk.disk.line.left))
-            ∙ ap (λ (b : Book). b.mark) (made.fault (serves.faulted refused))
-            ∙ held_mark book (held_write old.disk.pending old.disk.disk.line.left))
+              sym (held_mark made.later (held_write new.disk.pending new.disk.disk.line.left))
+              ∙ ap (λ (b : Book). b.mark) (made.fault (serves.faulted refused))
+              ∙ held_mark book (held_write old.disk.pending old.disk.disk.line.left))
         ]
       ]
 

@@ -124,18 +124,21 @@ module _ (old : Machine) (disk : Disk) (packet : List ℕ)
   one_taken : length packet ≤ old.disk.disk.line.packet_size → is_pending disk ≡ false → TakesOut old packet after_one 0
   one_taken few none =
       let happens = event.Out (record { items = packet }) in record {
-        one = inr (few, record {
-          out = record {
-            answer = Ack;
-            code_is = refl;
-            mid = after_one;
-            plays = plays;
-            others = refl;
-            goes = record { count = 0; few = omega arith; steps = refl; ends = inr (rests after_one none) };
-          };
-          serves = still_serves_on old after_one happens Ack plays refl;
-          goes_on = still_goes_on old after_one happens Ack plays refl refl;
-        });
+        one = inr (
+          few,
+          record {
+            out = record {
+              answer = Ack;
+              code_is = refl;
+              mid = after_one;
+              plays = plays;
+              others = refl;
+              goes = record { count = 0; few = omega arith; steps = refl; ends = inr (rests after_one none) };
+            };
+            serves = still_serves_on old after_one happens Ack plays refl;
+            goes_on = still_goes_on old after_one happens Ack plays refl refl;
+          },
+        );
       }
 
 module _ (old : Machine) (bytes : List ℕ) (new : Disk) (count : ℕ) (free : is_pending old.disk ≡ false)

@@ -7,8 +7,8 @@
 mod ahead;
 mod codes;
 mod device;
-mod identity;
 mod going;
+mod identity;
 mod idle;
 mod lack;
 mod laws;
