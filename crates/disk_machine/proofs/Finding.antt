@@ -1,6 +1,7 @@
 -- One event of the disk, wherever the device is: what a start finds of a book stays to be found.
 use Rattle.std.proofs.Common.{◌≡◌, ◌⊎◌, ◌≤◌, ◌++◌, ◌∷◌, [], inl, inr, List, ℕ, Bool, true, length, take, sym, ◌∙◌, ap, subst, refl}
-use Rattle.std.proofs.{Common.{arith, append_assoc, length-append, Some, None, Option}, lemmas.{Bool.cases_lt, List.{take-append-le, append-nil}}}
+use Rattle.std.proofs.{Common.{arith, append_assoc, length-append, Some, None, Option}, lemmas.Bool.cases_lt}
+use Rattle.std.proofs.lemmas.List.{take-append-le, append-nil}
 use Rattle.medium.specs.{Medium.{Image, CutLeaves}}
 use Rattle.logical_blocks.specs.{Blocks.Write, Book.{Book, with_write, with_progress}}
 use Rattle.scsi.specs.Rules.{UnitState}
@@ -34,7 +35,8 @@ module _ (size : ℕ) (image : Image) where
         bound = omega (arith, longer, life.stamp);
       }
 
-  module _ (faulted dead : Bool) (old new : Book) (life : IsSameLife old new) (fewer : new.mark ≤ old.mark) (grows : GrowsTo dead old new) where
+  module _ (faulted dead : Bool) (old new : Book) (life : IsSameLife old new) (fewer : new.mark ≤ old.mark)
+      (grows : GrowsTo dead old new) where
     found_on : MayFind size old image → Finds size dead new image
     found_on found = elim grows [
       | inl more ↦ inl (found_more old new life fewer more.0 more.1 found)
@@ -118,7 +120,8 @@ module _ (old new : Machine) (same : new.asked ≡ old.asked) where
   }
 
   module _ {Promises : Type 0} {refused : Bool} (event : Event) (answer : Answer)
-      (step : IsLagStepBy Promises refused (state_of (medium_of old.disk)) (state_of (medium_of new.disk)) old.disk event answer new.disk) where
+      (step : IsLagStepBy Promises refused (state_of (medium_of old.disk)) (state_of (medium_of new.disk)) old.disk event answer
+      new.disk) where
     -- what was kept before it is kept behind it
     serves_by : (book : Book) (c : Lagging UnitState) (serves : Serves old book c)
         → Keeps new (made old.disk new.disk event answer step book c serves.stands).later

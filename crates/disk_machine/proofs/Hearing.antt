@@ -5,7 +5,8 @@ use Rattle.medium.specs.Inlet.{AreHeld}
 use Rattle.window.specs.declared.{call.DeviceCall.DeviceCall, ask.DeviceRead.DeviceRead, asked.Asked.Asked, done_fault.DoneFault.DoneFault}
 use Rattle.window.specs.Window.{Window, state_of, moved, device_so_far}
 use Rattle.store_calls.{specs.Outbox.without, proofs.{Handing.{some_go, taken_by}, Standing.IsSentStill}}
-use Rattle.disk_machine.specs.{Plays.{Disk, Sees, medium_of}, Asking.{counted, read_over, turns_told, IsGivenUp, IsShownTo, IsDone, IsHonest}}
+use Rattle.disk_machine.specs.Plays.{Disk, Sees, medium_of}
+use Rattle.disk_machine.specs.Asking.{counted, read_over, turns_told, IsGivenUp, IsShownTo, IsDone, IsHonest}
 use Rattle.disk_machine.specs.{Machine.{Machine, has_refused, under_way, carried}, Refused.KeepsRest}
 use Rattle.disk_machine.specs.Moves.{KeepsGoing, StaysSafe, ServesTurns, played}
 use Rattle.disk_machine.proofs.{Finding.{found_behind, made}, Onward.served_on}

@@ -6,7 +6,8 @@ use Rattle.scsi.specs.Rules.{UnitState}
 use Rattle.spec.specs.Lagging.{Lagging}
 use Rattle.window.specs.{OutboxMedium.sent, Story.given, declared.{asked.Asked.Asked, call.DeviceCall.DeviceCall}, Window.{mirror_of}}
 use Rattle.scsi_unit.specs.Background.{Work, Settle, Ahead, WriteBack}
-use Rattle.disk_machine.specs.Idling.{AsksAhead, EndsAhead, HasGoneAhead, HasStepped, IsShort, MakesAhead, made_ahead, steps_ahead, steps_idle}
+use Rattle.disk_machine.specs.Idling.{AsksAhead, EndsAhead, HasGoneAhead, HasStepped, IsShort, MakesAhead}
+use Rattle.disk_machine.specs.Idling.{made_ahead, steps_ahead, steps_idle}
 use Rattle.bot_machine.specs.LaggingDisk.{MayPromiseNext, held_write}
 use Rattle.disk_machine.specs.Plays.{Before, Disk, PlaysPending, PlaysTick, PlaysWork, StepsWhile, medium_of}
 use Rattle.disk_machine.specs.Machine.{Machine, Keeps, Serves, IsCaughtUp, has_refused, under_way}
@@ -46,7 +47,8 @@ through {old} {mid} {new} {first} {last} before behind book c serves =
     }
 
 -- nothing is said where whatever life was served is served on
-pub served_on : (old new : Machine) → ((book : Book) (c : Lagging UnitState) → Serves old book c → Serves new book c) → ServesTurns [] old new
+pub served_on : (old new : Machine) → ((book : Book) (c : Lagging UnitState) → Serves old book c → Serves new book c)
+    → ServesTurns [] old new
 served_on old new on book c serves = record {
   later = book;
   next = c;
@@ -75,7 +77,8 @@ pub goes_nowhere : (old new : Machine) → new ≡ old → KeepsGoing old new
 goes_nowhere old new same = rw same (record { room = λ fits. fits; dead = λ dead. (λ image left. left, dead) })
 
 -- a step of the disk, which asks for nothing where the disk is faulted
-module _ {Promises : Type 0} (old new : Machine) (plays : PlaysTick Promises old.disk new.disk) (others : new ≡ record old { disk = new.disk }) where
+module _ {Promises : Type 0} (old new : Machine) (plays : PlaysTick Promises old.disk new.disk)
+    (others : new ≡ record old { disk = new.disk }) where
   asked_stays : new.asked ≡ old.asked
   asked_stays = ap (λ (s : Machine). s.asked) others
 
@@ -147,8 +150,8 @@ work_serves old new plays others =
 
 -- ---- steps in the background, one by one
 
-pub steps_serve : (Holds : Disk → Disk → Type 0) (work : Work) (count : ℕ) (old new : Machine) → StepsWhile Holds work count old.disk new.disk
-    → new ≡ record old { disk = new.disk } → ServesTurns (ticks count) old new × KeepsGoing old new
+pub steps_serve : (Holds : Disk → Disk → Type 0) (work : Work) (count : ℕ) (old new : Machine)
+    → StepsWhile Holds work count old.disk new.disk → new ≡ record old { disk = new.disk } → ServesTurns (ticks count) old new × KeepsGoing old new
 steps_serve Holds work zero old new same others =
     let is : new ≡ old = others ∙ ap (λ (d : Disk). record old { disk = d }) same in (nothing_said old new is, goes_nowhere old new is)
 steps_serve Holds work (suc count) old new (disk, steps, holds, plays) others =
@@ -168,7 +171,8 @@ pending_goes_on (suc count) old new (mid, steps, may, on) =
 
 -- ---- what is done in the background
 
-pub idle_serves : (old new : Machine) (stepped : HasStepped old new) → ServesTurns (ticks (steps_idle old new stepped)) old new × KeepsGoing old new
+pub idle_serves : (old new : Machine) (stepped : HasStepped old new)
+    → ServesTurns (ticks (steps_idle old new stepped)) old new × KeepsGoing old new
 idle_serves old new (inl held) = (nothing_said old new held.1, goes_nowhere old new held.1)
 idle_serves old new (inr made) = steps_serve _ Settle made.1.count old new made.1.steps made.2
 
@@ -190,11 +194,14 @@ all_ahead most old new makes = at makes.ends
     at (inl all) = rw all.1 steps
     at (inr one) = (makes.mid, steps, one.1.0, one.1.1)
 
-pub ahead_serves : (old new : Machine) (gone : HasGoneAhead old new) → ServesTurns (ticks (steps_ahead old new gone)) old new × KeepsGoing old new
+pub ahead_serves : (old new : Machine) (gone : HasGoneAhead old new)
+    → ServesTurns (ticks (steps_ahead old new gone)) old new × KeepsGoing old new
 ahead_serves old new (inl busy) = (nothing_said old new busy.1, goes_nowhere old new busy.1)
-ahead_serves old new (inr (rests, inl (some, inl (left, writes)), others)) = steps_serve _ WriteBack writes.count old new writes.steps others
+ahead_serves old new (inr (rests, inl (some, inl (left, writes)), others)) =
+    steps_serve _ WriteBack writes.count old new writes.steps others
 ahead_serves old new (inr (rests, inl (some, inr stays), others)) =
-    let same : new ≡ old = others ∙ ap (λ (d : Disk). record old { disk = d }) stays.1 in (nothing_said old new same, goes_nowhere old new same)
+    let same : new ≡ old = others ∙ ap (λ (d : Disk). record old { disk = d }) stays.1 in
+    (nothing_said old new same, goes_nowhere old new same)
 ahead_serves old new (inr (rests, inr (none, makes), others)) =
     steps_serve _ Ahead _ old new (all_ahead old.most old.disk new.disk makes) others
 

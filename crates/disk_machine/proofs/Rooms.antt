@@ -59,7 +59,8 @@ module _ {Promises : Type 0} (old new : Disk) (sees : Foresees (medium_of old))
 
 -- nothing is named where the medium stays
 none_named : (P : ℕ → Type 0) (old new : Window) → new ≡ old → LooksOnly P (state_of old) (state_of new)
-none_named P old new same = rw same (record { looks = []; looked = sym (append-nil old.seen.looked); only = λ k d low. absurd (omega (arith, low)) })
+none_named P old new same =
+    rw same (record { looks = []; looked = sym (append-nil old.seen.looked); only = λ k d low. absurd (omega (arith, low)) })
 
 module _ (old new : Disk) (sees : Foresees (medium_of old)) where
   -- a step of the command that is pending, or none

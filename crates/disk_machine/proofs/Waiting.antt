@@ -20,7 +20,8 @@ one_told false left = elim (cases_lt 0 left) [
   | inr none ↦ (true, (λ told. inr (omega (arith, none)), λ one. refl))
 ]
 
-promise_told : (unit : UnitValue Window) (command : Command) (wanted : Want) → (told : Bool) × (IsTrue told ↔ MayPromise unit command wanted)
+promise_told : (unit : UnitValue Window) (command : Command) (wanted : Want)
+    → (told : Bool) × (IsTrue told ↔ MayPromise unit command wanted)
 promise_told unit command want.Room = (false, (λ told. absurd (let e = told in cc), λ none. absurd none))
 promise_told unit command want.Commit = one_told (is_dead unit.store.cached) _
 promise_told unit command want.Read = (forces_reading (transfer_of command), (λ told. told, λ forces. forces))

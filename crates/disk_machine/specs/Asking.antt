@@ -1,14 +1,16 @@
 -- What the device is asked for, and what it tells.
 use Rattle.std.specs.Prelude.{◌≡◌, ◌≢◌, ◌⊎◌, ℕ, ◌*◌, ◌/◌, ◌<◌, Bool, true, false, List, [], ◌∷◌}
-use Rattle.std.specs.Prelude.{length, Option, Some, None, Result, Ok, Err, if◌then◌else◌, ◌||◌, ◌++◌}
+use Rattle.std.specs.Prelude.{length, Option, Some, None, Result, Ok, Err, if◌then◌else◌}
+use Rattle.std.specs.Prelude.{◌++◌}
 use Rattle.medium.specs.Inlet.{AreHeld}
 use Rattle.window.specs.{OutboxMedium.first_of}
 use Rattle.window.specs.declared.ask.{DeviceRead.DeviceRead, DeviceAsk.DeviceAsk}
 use Rattle.window.specs.declared.{asked.Asked.Asked, done_fault.DoneFault.DoneFault}
 use Rattle.window.specs.Window.{device_so_far}
 use Rattle.store_calls.specs.Outbox.{without, IsLongestRun}
-use Rattle.disk_machine.specs.{Going.GoesOn, Plays.{medium_of, Sees}, Refused.{IsRefused, KeepsRest}}
-use Rattle.disk_machine.specs.{Machine.Machine, Moves.{Turn, played, ticks, KeepsGoing, ServesTurns}}
+use Rattle.disk_machine.specs.{Going.GoesOn, Machine.Machine, Plays.{medium_of, Sees}}
+use Rattle.disk_machine.specs.Moves.{Turn, played, ticks, KeepsGoing, ServesTurns}
+use Rattle.disk_machine.specs.Refused.{IsRefused, KeepsRest}
 use Rattle.disk_machine.specs.{Wanted.{Lacks, LacksNone}, declared.lack.Lack.Lack}
 use Rattle.window.specs.declared.call.DeviceCall.TheVariants as call
 use Rattle.window.specs.declared.ask.DeviceAsk.TheVariants as ask
@@ -85,7 +87,8 @@ is_ahead _ = false
 -- Sectors that a READ lacks, and that the disk did not take, count as unread: the READ goes on
 -- without them. Those that were read ahead do not: a READ that lacks them has them read.
 abbrev pub lack_behind : Lack → DeviceRead → Bool → Lack
-lack_behind was home taken = if taken || is_ahead was then lack.Ended else lack.Unread home
+lack_behind was home taken =
+    if is_ahead was then lack.Ended else if taken then lack.Nothing else lack.Unread home
 
 -- a read of these sectors is over, and the disk took them or not
 abbrev pub read_over : Machine → DeviceRead → Bool → Machine

@@ -5,7 +5,8 @@ use Rattle.scsi.specs.Rules.{UnitState}
 use Rattle.spec.specs.Lagging.{Lagging}
 use Rattle.window.specs.declared.{ask.DeviceAsk.DeviceAsk, done_fault.DoneFault.DoneFault}
 use Rattle.window.specs.{Device.{durable, after}, declared.call.DeviceCall.DeviceCall}
-use Rattle.disk_machine.specs.{Ahead.LooksAhead, Asking.{AsksFor, HearsSafely, IsHonest, turns_told}}
+use Rattle.disk_machine.specs.Ahead.{LooksAhead}
+use Rattle.disk_machine.specs.Asking.{AsksFor, HearsSafely, IsHonest, turns_told}
 use Rattle.disk_machine.specs.{Idling.{Idles, WorksAhead, steps_ahead, steps_idle}}
 use Rattle.disk_machine.specs.Machine.{Machine, Serves, LeavesOf, IsCaughtUp}
 use Rattle.disk_machine.specs.Moves.{ServesLater, StaysSafe, Turn, begun, played, ticks}

@@ -10,7 +10,8 @@ use Rattle.window.specs.{declared.{call.DeviceCall.DeviceCall, asked.Asked.Asked
 use Rattle.window.specs.Window.{mirror_of}
 use Rattle.scsi_unit.specs.Books.{MayFind}
 use Rattle.bot_machine.specs.LaggingDisk.{StandsFor, held_book}
-use Rattle.disk_machine.specs.{Seen.{is_faulted, medium_of}, declared.machine.DiskMachine.DiskMachine}
+use Rattle.disk_machine.specs.Seen.{is_faulted, medium_of}
+use Rattle.disk_machine.specs.declared.machine.DiskMachine.{DiskMachine}
 use Rattle.window.specs.declared.asked.Asked.TheVariants as asked
 
 -- a disk, how many calls may wait in its outbox when a step is made, what the device was asked for

@@ -93,7 +93,8 @@ abbrev pub SendsInto : Machine → List ℕ → ℕ → Machine → List ℕ →
 SendsInto old room was new filled given code =
     ((length room < old.disk.disk.line.packet_size) × (code ≡ BAD_LENGTH) × (new ≡ old)
     × (filled ≡ room) × (given ≡ was))
-    ⊎ ((old.disk.disk.line.packet_size ≤ length room) × SendsTransfer old room new filled given code)
+    ⊎ ((old.disk.disk.line.packet_size ≤ length room)
+    × SendsTransfer old room new filled given code)
 
 -- ---- what is said in a transfer
 

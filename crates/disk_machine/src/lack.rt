@@ -7,7 +7,7 @@ pub enum Lack {
     Nothing,
     /// No READ lacks these sectors yet: they are to be read ahead, or the device reads them.
     Ahead(DeviceRead),
-    /// The read has ended, of a READ good: nothing is read ahead before the next packet.
+    /// A read ahead has ended: nothing is read ahead before the next packet.
     Ended,
     /// The device could not read these home sectors, which a READ lacks.
     Unread(DeviceRead),

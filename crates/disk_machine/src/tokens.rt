@@ -43,7 +43,8 @@ pub(crate) fn give_packet(
 ) -> u32
     requires { disk.old.disk.line.packet_size ≤ length to.old }
     ensures { (answer : Answer) × PlaysStill disk.old event.In answer disk.new
-        × TellsAnswer answer to.old to.new size.new result × (size.new ≤ disk.old.disk.line.packet_size) }
+        × TellsAnswer answer to.old to.new size.new result
+        × (size.new ≤ disk.old.disk.line.packet_size) }
 {
     *size = 0;
     match disk.bulk_in() {

@@ -85,8 +85,10 @@ impl DiskMachine {
         ensures { self.new ≡ read_over self.old home taken }
     {
         self.asked = Asked::Nothing;
-        self.lack = if taken || is_ahead(self.lack) {
+        self.lack = if is_ahead(self.lack) {
             Lack::Ended
+        } else if taken {
+            Lack::Nothing
         } else {
             Lack::Unread(home)
         };

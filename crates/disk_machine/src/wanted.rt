@@ -15,8 +15,8 @@ impl DiskMachine {
     // The home sectors that the next step of the command that is pending reads.
     fn needed_home(&self) -> Option<HomeSectors>
         ensures is { result ≡ needed_home self.now.disk }
-        ensures bounds { IfSome result (λ home. AreHome 240 (state_of (medium_of self.now.disk)).size
-            home.first home.count) }
+        ensures bounds { IfSome result (λ home. AreHome 240
+            (state_of (medium_of self.now.disk)).size home.first home.count) }
     {
         match self.disk.needs() {
             Some(need) => need.home,
