@@ -213,6 +213,28 @@ static bool play_own(unsigned number)
     return is_refused;
 }
 
+/* A SYNCHRONIZE CACHE comes while the device is at the call of this number of the background: it
+ * promises nothing before that has ended. False: there is no such call. */
+static bool play_under_way(unsigned number)
+{
+    bool is_there;
+    begin();
+    for (;;) {
+        usbdisk_idle(&disk);
+        is_there = begins();
+        if (!is_there || !--number)
+            break;
+        ends(true);
+    }
+    must(!is_there || (!ask(sync, 0, 0) && is_now(USBDISK_NAK)), "a promise is told too early");
+    if (is_there)
+        ends(true);
+    carry_all(&disk, medium);
+    must(!is_there || status() == GOOD, "the status of a SYNCHRONIZE CACHE");
+    end();
+    return is_there;
+}
+
 /* Bulk-In is halted behind short data, and the reset that drops the status leaves that. */
 static void play_halt(void)
 {
@@ -318,6 +340,8 @@ int main(void)
         play_background(inquiry, 36);
         play_background(read_one, 512);
         for (unsigned number = 1; play_own(number); number++)
+            calls++;
+        for (unsigned number = 1; play_under_way(number); number++)
             calls++;
         play_halt();
         play_late_halt();
