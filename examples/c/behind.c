@@ -71,17 +71,17 @@ static bool cut_here(void)
 
 /* ---- what the host does */
 
-/* A promise is asked for while the device is at the last call that it needs. */
-static bool is_last_call(void)
+/* Often a promise is asked for while the flush is under way that it may need. */
+static bool is_flushing(void)
 {
-    return book.is_settled && bench.device.call.kind != USBDISK_NOTHING && random_below(2);
+    return bench.device.call.kind == USBDISK_FLUSH && !bench.host.is_opening && random_below(2);
 }
 
 static void begin(void)
 {
     struct command command;
     if (!is_asked(book.senses, &command))
-        command = is_last_call() ? (struct command){ .code = 0x35 } : some_command(book.is_plain);
+        command = is_flushing() ? (struct command){ .code = 0x35 } : some_command(book.is_plain);
     host_begin(&bench.host, &command, promises(&command, book.is_cached));
 }
 

@@ -319,6 +319,21 @@ static void play_read(void)
     end();
 }
 
+/* A READ is pending when a write of the background is refused: it fails as one behind that. */
+static void play_read_behind(void)
+{
+    uint8_t bytes[2];
+    begin();
+    usbdisk_idle(&disk);
+    must(begins() && call.kind == USBDISK_WRITE, "a write of the background");
+    must(!ask(read_other, TO_HOST, 512) && is_now(USBDISK_NAK), "a READ behind it");
+    ends(false);
+    must(is_now(USBDISK_STALL) && !request(clear_in, bytes) && status() == FAILED &&
+             sense_now() == LATER,
+         "a READ fails by a write that is none of its own");
+    end();
+}
+
 /* A forced WRITE that a reset drops is taken anew, and is there when its status is. */
 static void play_forced(void)
 {
@@ -348,6 +363,7 @@ int main(void)
         play_reset();
         play_others();
         play_read();
+        play_read_behind();
         play_forced();
     }
     printf("a pending command fails by its own calls alone, in %u places, and nothing waits for "
