@@ -246,7 +246,7 @@ uint32_t disk_in(struct disk *disk, uint8_t *bytes, size_t size, size_t *got)
     if (*got % disk->packet == STATUS)
         disk->counters.commands += !memcmp(bytes + *got - STATUS, "USBS", 4);
     if (code == USBDISK_NAK)
-        device_thread_await(&disk->thread, ALL_CALLS);
+        device_thread_await(&disk->thread, A_CALL);
     unlock(disk);
     return code;
 }

@@ -168,8 +168,8 @@ uint32_t usbdisk_log_of(uint32_t format, uint64_t slots, uint64_t page, struct u
 #define USBDISK_LOG_END(format, slots) (2 + ((format) == 1 ? 50 : 249) * (slots))
 
 /* How many bytes of memory a disk takes, on an image of this format (1 or 2) with `slots` log
- * slots, of every size of the device, where `kept` of its options is 0. A store takes 18,768 bytes
- * less in format 1 and 221,616 less in format 2. Neither takes more while it starts. 0 where there
+ * slots, of every size of the device, where `kept` of its options is 0. A store takes 24,576 bytes
+ * less in format 1 and 122,880 less in format 2. Neither takes more while it starts. 0 where there
  * is no such format or number of slots. */
 uint64_t usbdisk_memory(uint32_t format, uint64_t slots);
 
@@ -275,14 +275,15 @@ uint32_t usbdisk_next(struct usbdisk *disk, struct usbdisk_call *call, uint8_t *
  * it gave, 512 for each sector; of the others they are not looked at: pass any address, and 0.
  *
  * Not ok, a call of the recovery, or any call of the work on an image: it is FAILED. Not ok, a READ
- * behind the start: the READ of the host that lacks these
- * sectors ends with CHECK CONDITION and 3/11/00, when its packet is handed in again, and the disk
- * goes on. Not ok, a WRITE or FLUSH of a disk or a store: it is FAULTED. No promise is told that
- * was not told before, and the device is asked for nothing more. A good status that was not handed
- * out turns from 00h into 01h, and REQUEST SENSE tells 3/0C/00, a write error. Each later command
- * that needs the medium ends with CHECK CONDITION and 4/44/00, until the next start. What was
- * promised before is on the device. Writes that were not promised may be lost, as by a cut; any
- * part of the WRITE may be on the device.
+ * behind the start: the READ of the host that lacks these sectors ends with CHECK CONDITION and
+ * 3/11/00, and the disk goes on. Not ok, a WRITE or FLUSH of a disk or a store: it is FAULTED. No
+ * promise is told that was not told before, and the device is asked for nothing more. A pending
+ * command that writes or promises ends with 01h, and REQUEST SENSE tells 3/0C/00, a write error; a
+ * status that waits stays. Each later command that needs the medium ends with CHECK CONDITION and
+ * 4/44/00, until the next start. What was promised before is on the device. Writes that were not
+ * promised may be lost, as by a cut; any part of the WRITE may be on the device.
+ *
+ * A pending command goes on: behind it Bulk-Out may take a packet, and Bulk-In have one.
  *
  * Answers 0. Errors, in this order: EMPTY; NOT_ASKED where no call is under way; BAD_LENGTH where
  * the bytes of a good READ are not as many as were asked for: the call is still under way. */
@@ -296,16 +297,13 @@ uint32_t usbdisk_state(struct usbdisk *disk, uint32_t *fault);
  * packet does. They are taken packet by packet, each as many bytes as a packet has, the last maybe
  * fewer; no bytes are one empty packet. `*taken` counts how many were taken, at NAK and STALL too.
  *
- * Answers ACK: all of them. NAK: the disk waits for its device (it starts, it reads, the packet is
- * a READ that lacks sectors, or it asks for writes: see below), or the host has not taken the
- * status of the command before. Nothing happened to the packet behind those that were taken: hand
- * it in again, behind the next done, idle or status; where a bus reset comes first, let go of it.
- * STALL: the endpoint is halted. Errors: EMPTY, OTHER_KIND.
+ * Answers ACK: all of them. NAK: the disk starts, a command is pending, or the host has not taken
+ * the status of the command before. Nothing happened to the packet behind those that were taken:
+ * hand it in again, behind the next done, idle or status; where a bus reset comes first, let go of
+ * it. STALL: the endpoint is halted. Errors: EMPTY, OTHER_KIND.
  *
- * A packet asks for writes that ends a WRITE for which memory has no room, or a command that
- * promises while writes before it are not yet in the log. usbdisk_next tells the WRITEs and FLUSHes
- * before it from now on. A WRITE with FUA, or without the write cache, is taken when usbdisk_next
- * has told all that waits. */
+ * A command is pending that lacks sectors, or asks for writes: a WRITE for which memory has no
+ * room, or one that promises. usbdisk_next tells its calls from now on. */
 uint32_t usbdisk_out(struct usbdisk *disk, const uint8_t *bytes, size_t size, size_t *taken);
 
 /* The host asks the Bulk-In endpoint for packets. They lie one behind the other in the room, and
@@ -318,8 +316,8 @@ uint32_t usbdisk_out(struct usbdisk *disk, const uint8_t *bytes, size_t size, si
  * whole one may be followed by the status, 13 bytes, in the same call; the host takes both as they
  * come, packet by packet. At NAK and at STALL `*given` is 0.
  *
- * Answers ACK: here they are. NAK: there is none now; so also while a status that promises waits
- * for the device. STALL: the endpoint is halted. Where packets came before a NAK or a STALL, the
+ * Answers ACK: here they are. NAK: there is none now, or a command is pending: ask again behind the
+ * next done. STALL: the endpoint is halted. Where packets came before a NAK or a STALL, the
  * answer is ACK; ask again. Errors: EMPTY, OTHER_KIND; BAD_LENGTH where there is no room for a
  * packet. */
 uint32_t usbdisk_in(struct usbdisk *disk, uint8_t *room, size_t size, size_t *given);
@@ -328,16 +326,15 @@ uint32_t usbdisk_in(struct usbdisk *disk, uint8_t *room, size_t size, size_t *gi
  * the class reset, GET MAX LUN, CLEAR_FEATURE(ENDPOINT_HALT) and GET_STATUS of an endpoint. `setup`
  * is the setup packet, for interface 0 and the endpoints 81h and 02h: with other numbers rewrite
  * its byte 4, which in the first two is the interface. At ACK `*size` bytes, 0 to 2, go to the
- * host. A class reset drops an answer that waits, and takes no accepted write back. Calls of the
- * device that wait or are under way go on behind it, so Bulk-In answers NAK while a status that
- * promises would have waited for them. It is answered
- * whatever the device is at, but by STALL until it is recovered: connect to the bus when the state
- * is SERVING. Answers ACK, STALL, EMPTY or OTHER_KIND. */
+ * host. A class reset drops an answer that waits, and a pending command, whose WRITE is accepted
+ * whole or not at all; it takes no accepted write back. Calls of the device that wait or are under
+ * way go on behind it. It is answered whatever the device is at, but by STALL until it is recovered:
+ * connect to the bus when the state is SERVING. Answers ACK, STALL, EMPTY or OTHER_KIND. */
 uint32_t usbdisk_setup(struct usbdisk *disk, const uint8_t setup[8], uint8_t data[2],
                        uint32_t *size);
 
-/* Background work, up to 32 steps, while few calls wait for the device and no promise does; of a
- * store where no call waits. Call it while the bus is idle; it may be called at any time. Answers
+/* Background work, up to 32 steps, while few calls wait for the device and no command is pending;
+ * of a store where no call waits. Call it while the bus is idle; it may be called at any time. Answers
  * 1 while steps are left, or EMPTY or OTHER_KIND; 0 where every accepted write is durable and at
  * its home place once the device has carried out what waits. While it is recovered, and of what
  * failed or faulted, it answers 1. */
@@ -351,12 +348,12 @@ uint32_t usbdisk_idle(struct usbdisk *disk);
  *
  * Answers 1 where they will be read, or EMPTY or OTHER_KIND. Else 0, and nothing changes: where the
  * disk does not serve; count is 0, or more than the limit of a READ of the host (48 in format 1,
- * 240 in format 2), or the device has not as many; or the device is at a call, or calls wait for
- * it; or since the last packet that was taken sectors were read, or are to be.
+ * 240 in format 2), or the device has not as many; or the device is at a call, calls wait for it, or
+ * a command is pending; or since the last packet sectors were read ahead, or are to be.
  *
- * A packet that comes before the device has begun with them takes the wish away; one that comes
- * while it reads gets NAK. Where it cannot read them (usbdisk_done with ok false) no READ of the
- * host ends for that: one that lacks them has them read anew. */
+ * A packet leaves the wish; a READ that lacks sectors takes it away. Where the device cannot read
+ * them (usbdisk_done with ok false) no READ of the host ends for that: one that lacks them has them
+ * read anew. */
 uint32_t usbdisk_ahead(struct usbdisk *disk, uint64_t first, uint32_t count);
 
 /* What image is made. It takes `home + blocks` sectors; what lies behind them is spared.

@@ -83,8 +83,9 @@ uint32_t usbdisk_io_start(struct usbdisk_io **io, const struct usbdisk_io_device
  * tells how many were taken. 0 bytes are one empty packet. In front of the last byte of a transfer
  * let a part end where a packet does.
  *
- * Answers ACK: all. NAK: the host has to wait; call again with the rest, once usbdisk_io_in has
- * handed out bytes or a request has come. STALL: the endpoint is halted. */
+ * Answers ACK: all. NAK: a start is under way, or the host has not taken the status before; call
+ * again with the rest, once usbdisk_io_in has handed out bytes or a request has come. STALL: the
+ * endpoint is halted. */
 uint32_t usbdisk_io_out(struct usbdisk_io *io, const uint8_t *bytes, size_t size, size_t *taken);
 
 /* The host waits at Bulk-In for `size` bytes: collects packets, and tells how many bytes there are.

@@ -73,7 +73,8 @@ impl Disk {
     /// Bytes came to Bulk-Out: a transfer of the host, or a part of one that ends where a packet does;
     /// no bytes are one empty packet. The answer, and how many of them were taken.
     ///
-    /// [`Answer::Nak`]: nothing happened to the packet behind those. Hand it in again behind the next
+    /// [`Answer::Nak`]: a command is pending, or the status before was not taken. Nothing happened to the
+    /// packet behind those. Hand it in again behind the next
     /// [`Calls::done`], [`Disk::idle`] or status; where a bus reset comes first, let go of it.
     pub fn out(&mut self, bytes: &[u8]) -> (Answer, usize) {
         let (mut taken, from, size) = (0, bytes.as_ptr(), bytes.len());
@@ -86,7 +87,7 @@ impl Disk {
     /// than a packet may be, or a further one has no room, or there is none now. The answer, and how many
     /// bytes they have.
     ///
-    /// [`Answer::Nak`]: there is none now; so also while a status that promises waits for the device.
+    /// [`Answer::Nak`]: there is none now, or a command is pending.
     /// [`Misuse::BadLength`]: there is no room for a packet.
     pub fn in_(&mut self, room: &mut [u8]) -> Result<(Answer, usize), Misuse> {
         let (mut given, to, size) = (0, room.as_mut_ptr(), room.len());

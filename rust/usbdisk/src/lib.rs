@@ -202,7 +202,7 @@ pub fn version() -> u32 {
 }
 
 /// How many bytes of memory a disk takes, on an image of this format with so many slots. A store takes
-/// 18,768 bytes less in format 1 and 221,616 less in format 2. Neither takes more while it starts. 0
+/// 24,576 bytes less in format 1 and 122,880 less in format 2. Neither takes more while it starts. 0
 /// where there is no such image.
 pub fn memory(format: u32, slots: u64) -> u64 {
     // SAFETY: the call takes numbers alone.
