@@ -30,6 +30,12 @@
 #define USBDISK_TRAP for (;;)
 #endif
 #endif
+/* Without these words GCC warns of a place that no life can come to, and of bytes that it takes for
+ * words. */
+#if defined USBDISK_PLAIN && defined __GNUC__ && !defined __clang__ && __GNUC__ >= 7
+#pragma GCC diagnostic ignored "-Warray-bounds"
+#pragma GCC diagnostic ignored "-Wmemset-elt-size"
+#endif
 #if defined __BYTE_ORDER__ && __BYTE_ORDER__ != 1234
 #error "the bytes of this processor are not little endian"
 #endif
